@@ -1,0 +1,65 @@
+-- Tests: going by the two cases of one, and how tests combine.
+use mathlib.Core.Path.{_≡_, refl, sym, ap, _∙_}
+use mathlib.Core.Bool.{Bool, true, false, _&&_, _||_, cond, true≢false}
+use mathlib.Core.Logic.{_⊎_, inl, inr}
+
+pub clash : {b : Bool} → b ≡ true → b ≡ false → ⊥
+clash p q = true≢false (sym p ∙ q)
+
+pub by-test {ℓ} : {C : Type ℓ} (b : Bool) → (b ≡ true → C) → (b ≡ false → C) → C
+by-test true f g = f refl
+by-test false f g = g refl
+
+-- a test is false if it cannot be true, and true if it cannot be false
+pub false-of : (b : Bool) → (b ≡ true → ⊥) → b ≡ false
+false-of true f = absurd (f refl)
+false-of false f = refl
+
+pub true-of : (b : Bool) → (b ≡ false → ⊥) → b ≡ true
+true-of true f = refl
+true-of false f = absurd (f refl)
+
+pub same-test : (a b : Bool) → (a ≡ true → b ≡ true) → (b ≡ true → a ≡ true) → a ≡ b
+same-test true b f g = sym (f refl)
+same-test false b f g = sym (false-of b (λ h. true≢false (sym (g h))))
+
+pub and-intro : {a b : Bool} → a ≡ true → b ≡ true → (a && b) ≡ true
+and-intro {a} {b} p q = ap (λ (x : Bool). x && b) p ∙ q
+
+pub and-left : (a b : Bool) → (a && b) ≡ true → a ≡ true
+and-left true b h = refl
+and-left false b h = h
+
+pub and-right : (a b : Bool) → (a && b) ≡ true → b ≡ true
+and-right true b h = h
+and-right false b h = absurd (true≢false (sym h))
+
+pub and-not : (a b : Bool) → a ≡ true → (a && b) ≡ false → b ≡ false
+and-not true b h e = e
+and-not false b h e = absurd (true≢false (sym h))
+
+pub or-left : {a : Bool} (b : Bool) → a ≡ true → (a || b) ≡ true
+or-left b p = ap (λ (x : Bool). x || b) p
+
+pub or-right : (a : Bool) {b : Bool} → b ≡ true → (a || b) ≡ true
+or-right true p = refl
+or-right false p = p
+
+pub or-cases : (a b : Bool) → (a || b) ≡ true → (a ≡ true) ⊎ (b ≡ true)
+or-cases true b h = inl refl
+or-cases false b h = inr h
+
+pub or-false-left : (a b : Bool) → (a || b) ≡ false → a ≡ false
+or-false-left true b h = absurd (true≢false h)
+or-false-left false b h = refl
+
+pub or-false-right : (a b : Bool) → (a || b) ≡ false → b ≡ false
+or-false-right true b h = absurd (true≢false h)
+or-false-right false b h = h
+
+module _ {ℓ} {A : Type ℓ} (x y : A) where
+  pub cond-true : {b : Bool} → b ≡ true → cond b x y ≡ x
+  cond-true p = ap (λ (t : Bool). cond t x y) p
+
+  pub cond-false : {b : Bool} → b ≡ false → cond b x y ≡ y
+  cond-false p = ap (λ (t : Bool). cond t x y) p

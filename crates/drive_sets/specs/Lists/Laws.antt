@@ -1,0 +1,175 @@
+-- Laws of ranges, of kept elements, of tests over a list, and of ordered lists.
+use mathlib.Core.Path.{_≡_, refl, sym, ap, ap₂, _∙_, subst}
+use mathlib.Core.Bool.{Bool, true, false, _&&_, _||_, cond}
+use mathlib.Core.Logic.{_⊎_, inl, inr, ⊎-elim}
+use mathlib.Core.List.{List, [], _∷_, _++_}
+use Prim.Native.Nat.{ℕ, zero, suc, _+_, _≤_, _<_}
+use native.Mathlib.Omega.{arith}
+use lib.Dec.{eqb, ltb}
+use borrow.Author.Tests.{eqb-true, eqb-false, eq-eqb, lt-ltb}
+use Rattle.drive_sets.specs.Bools.{clash, by-test, same-test, and-intro, and-left, and-right, or-left, or-right, or-cases, cond-true, cond-false}
+use Rattle.drive_sets.specs.Lists.{range, keep, all, any, elem, ordered}
+
+-- ---- membership
+
+pub elem-head : (x : ℕ) (l : List ℕ) → elem x (x ∷ l) ≡ true
+unfolding elem any
+elem-head x l = or-left (any (eqb x) l) (eq-eqb x x refl)
+
+pub elem-tail : (x y : ℕ) (l : List ℕ) → elem x l ≡ true → elem x (y ∷ l) ≡ true
+unfolding elem any
+elem-tail x y l h = or-right (eqb x y) h
+
+pub elem-cases : (x y : ℕ) (l : List ℕ) → elem x (y ∷ l) ≡ true → (x ≡ y) ⊎ (elem x l ≡ true)
+unfolding elem any
+elem-cases x y l h = ⊎-elim (λ e. inl (eqb-true x y e)) (λ e. inr e) (or-cases (eqb x y) (any (eqb x) l) h)
+
+pub elem-none : (x : ℕ) → elem x [] ≡ false
+unfolding elem any
+elem-none x = refl
+
+pub elem-append : (x : ℕ) (l m : List ℕ) → elem x (l ++ m) ≡ (elem x l || elem x m)
+unfolding elem any
+elem-append x [] m = refl
+elem-append x (y ∷ l) m = by-test (eqb x y) (λ e. rw e) (λ e. rw e (elem-append x l m))
+
+-- ---- tests of all and of some
+
+pub all-elem : (p : ℕ → Bool) (l : List ℕ) (x : ℕ) → all p l ≡ true → elem x l ≡ true → p x ≡ true
+unfolding all
+all-elem p [] x h e = absurd (clash e (elem-none x))
+all-elem p (y ∷ l) x h e =
+    ⊎-elim
+    (λ q. ap p q ∙ and-left (p y) (all p l) h)
+    (λ q. all-elem p l x (and-right (p y) (all p l) h) q)
+    (elem-cases x y l e)
+
+pub all-intro : (p : ℕ → Bool) (l : List ℕ) → ((x : ℕ) → elem x l ≡ true → p x ≡ true) → all p l ≡ true
+unfolding all
+all-intro p [] f = refl
+all-intro p (y ∷ l) f = and-intro (f y (elem-head y l)) (all-intro p l (λ x h. f x (elem-tail x y l h)))
+
+pub any-elem : (p : ℕ → Bool) (l : List ℕ) → any p l ≡ true → (x : ℕ) × (elem x l ≡ true) × (p x ≡ true)
+unfolding any
+any-elem p [] h = absurd (clash h refl)
+any-elem p (y ∷ l) h =
+    ⊎-elim
+    (λ e. (y, elem-head y l, e))
+    (λ e. let w = any-elem p l e in (w .0, elem-tail (w .0) y l (w .1), w .2))
+    (or-cases (p y) (any p l) h)
+
+pub any-intro : (p : ℕ → Bool) (l : List ℕ) (x : ℕ) → elem x l ≡ true → p x ≡ true → any p l ≡ true
+unfolding any
+any-intro p [] x e h = absurd (clash e (elem-none x))
+any-intro p (y ∷ l) x e h =
+    ⊎-elim
+    (λ q. or-left (any p l) (ap p (sym q) ∙ h))
+    (λ q. or-right (p y) (any-intro p l x q h))
+    (elem-cases x y l e)
+
+-- ---- kept elements
+
+pub keep-true : (p : ℕ → Bool) (x : ℕ) (l : List ℕ) → p x ≡ true → keep p (x ∷ l) ≡ x ∷ keep p l
+unfolding keep
+keep-true p x l h = cond-true _ _ h
+
+pub keep-false : (p : ℕ → Bool) (x : ℕ) (l : List ℕ) → p x ≡ false → keep p (x ∷ l) ≡ keep p l
+unfolding keep
+keep-false p x l h = cond-false _ _ h
+
+kept-first : (a e c : Bool) → (a ≡ true → c ≡ true) → (a || (e && c)) ≡ ((a || e) && c)
+kept-first true e c f = sym (f refl)
+kept-first false e c f = refl
+
+dropped-first : (a e c : Bool) → (a ≡ true → c ≡ false) → (e && c) ≡ ((a || e) && c)
+dropped-first true true c f = refl
+dropped-first true false c f = sym (f refl)
+dropped-first false e c f = refl
+
+pub elem-keep : (p : ℕ → Bool) (x : ℕ) (l : List ℕ) → elem x (keep p l) ≡ (elem x l && p x)
+unfolding elem any keep
+elem-keep p x [] = refl
+elem-keep p x (y ∷ l) =
+    by-test (p y)
+    (λ e. ap (elem x) (keep-true p y l e)
+    ∙ (ap (λ (b : Bool). eqb x y || b) (elem-keep p x l)
+    ∙ kept-first (eqb x y) (elem x l) (p x) (λ q. ap p (eqb-true x y q) ∙ e)))
+    (λ e. ap (elem x) (keep-false p y l e)
+    ∙ (elem-keep p x l ∙ dropped-first (eqb x y) (elem x l) (p x) (λ q. ap p (eqb-true x y q) ∙ e)))
+
+-- a test that agrees on the list keeps the same
+pub keep-same : (p q : ℕ → Bool) (l : List ℕ) → ((x : ℕ) → elem x l ≡ true → p x ≡ q x) → keep p l ≡ keep q l
+unfolding keep
+keep-same p q [] f = refl
+keep-same p q (x ∷ l) f =
+    ap₂ (λ (b : Bool) (r : List ℕ). cond b (x ∷ r) r) (f x (elem-head x l)) (keep-same p q l (λ y h. f y (elem-tail y x l h)))
+
+-- ---- ranges
+
+pub elem-range : (x a k : ℕ) → elem x (range a k) ≡ true → (a ≤ x) × (x < a + k)
+unfolding range
+elem-range x a zero h = absurd (clash h (elem-none x))
+elem-range x a (suc k) h =
+    ⊎-elim (λ e. (omega arith, omega arith)) (λ e. let w = elem-range x (suc a) k e in (omega arith, omega arith)) (elem-cases x a (range (suc a) k) h)
+
+pub range-elem : (x a k : ℕ) → a ≤ x → x < a + k → elem x (range a k) ≡ true
+unfolding range
+range-elem x a zero p q = absurd (omega arith)
+range-elem x a (suc k) p q =
+    by-test (eqb x a)
+    (λ e. rw (eqb-true x a e) (elem-head a (range (suc a) k)))
+    (λ e. elem-tail x a (range (suc a) k) (range-elem x (suc a) k (let n = eqb-false x a e in omega arith) (omega arith)))
+
+-- ---- ordered lists
+
+pub ordered-keep : (before : ℕ → ℕ → Bool) (p : ℕ → Bool) (l : List ℕ) → ordered before l ≡ true → ordered before (keep p l) ≡ true
+unfolding ordered keep
+ordered-keep before p [] h = refl
+ordered-keep before p (x ∷ l) h =
+    let first = and-left (all (before x) l) (ordered before l) h in
+    let rest = ordered-keep before p l (and-right (all (before x) l) (ordered before l) h) in
+    by-test (p x)
+    (λ e. ap (ordered before) (keep-true p x l e)
+    ∙ and-intro
+    (all-intro (before x) (keep p l) (λ y q. all-elem (before x) l y first (and-left (elem y l) (p y) (sym (elem-keep p y l) ∙ q))))
+    rest)
+    (λ e. ap (ordered before) (keep-false p x l e) ∙ rest)
+
+pub ordered-range : (a k : ℕ) → ordered ltb (range a k) ≡ true
+unfolding ordered range
+ordered-range a zero = refl
+ordered-range a (suc k) =
+    and-intro (all-intro (ltb a) (range (suc a) k) (λ x h. let w = elem-range x (suc a) k h in lt-ltb a x (w .0))) (ordered-range (suc a) k)
+
+-- two ordered lists with the same elements are equal
+module _ (before : ℕ → ℕ → Bool) (asym : (x y : ℕ) → before x y ≡ true → before y x ≡ true → ⊥) where
+  pub ordered-unique : (l m : List ℕ) → ordered before l ≡ true → ordered before m ≡ true → ((x : ℕ) → elem x l ≡ elem x m) → l ≡ m
+  unfolding ordered
+  ordered-unique [] [] p q f = refl
+  ordered-unique [] (y ∷ m) p q f = absurd (clash (f y ∙ elem-head y m) (elem-none y))
+  ordered-unique (x ∷ l) [] p q f = absurd (clash (sym (f x) ∙ elem-head x l) (elem-none x))
+  ordered-unique (x ∷ l) (y ∷ m) p q f =
+      let head : x ≡ y = same-first in
+      ap₂ (λ (z : ℕ) (t : List ℕ). z ∷ t) head (ordered-unique l m (and-right (all (before x) l) (ordered before l) p) (and-right (all (before y) m) (ordered before m) q) (same-rest head))
+    where
+      after-x : (z : ℕ) → elem z l ≡ true → before x z ≡ true
+      after-x z h = all-elem (before x) l z (and-left (all (before x) l) (ordered before l) p) h
+
+      after-y : (z : ℕ) → elem z m ≡ true → before y z ≡ true
+      after-y z h = all-elem (before y) m z (and-left (all (before y) m) (ordered before m) q) h
+
+      same-first : x ≡ y
+      same-first =
+          ⊎-elim (λ e. e)
+          (λ e. ⊎-elim (λ d. sym d) (λ d. absurd (asym x y (after-x y d) (after-y x e))) (elem-cases y x l (f y ∙ elem-head y m)))
+          (elem-cases x y m (sym (f x) ∙ elem-head x l))
+
+      -- nothing stands before itself
+      not-first : (a z : ℕ) → before a z ≡ true → z ≡ a → ⊥
+      not-first a z h e = let r = subst (λ (w : ℕ). before a w ≡ true) e h in asym a a r r
+
+      same-rest : x ≡ y → (z : ℕ) → elem z l ≡ elem z m
+      same-rest e z =
+          same-test (elem z l) (elem z m)
+          (λ h. ⊎-elim (λ d. absurd (not-first x z (after-x z h) (d ∙ sym e))) (λ d. d) (elem-cases z y m (sym (f z) ∙ elem-tail z x l h)))
+          (λ h. ⊎-elim (λ d. absurd (not-first y z (after-y z h) (d ∙ e))) (λ d. d) (elem-cases z x l (f z ∙ elem-tail z y m h)))

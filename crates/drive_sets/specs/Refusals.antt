@@ -1,0 +1,47 @@
+-- The refusals of document 01 by number, and what a call gives: a result or a refusal.
+use mathlib.Core.Bool.{Bool, cond}
+use Prim.Native.Nat.{ℕ}
+use Rattle.drive_sets.specs.declared.Refusal.{Refusal}
+use Rattle.drive_sets.specs.declared.Refusal.the-variants.{EndsTooSoon, WrongMark, FrameSize, BadSet, TooManySets, CountDiffers, TrailingBytes, DriveNumber, CrashRound, CrashSends, NoneUntouched, BlockCount, TooManyCores, NoRoom, KnownMask, AlreadyAccepted, OutsideCore, Halted, SenderMissing, PatternDiffers, OtherRound, ListenerSends, BrokenState}
+
+-- the number of a refusal
+abbrev pub number : Refusal → ℕ
+number EndsTooSoon = 1
+number WrongMark = 2
+number FrameSize = 3
+number BadSet = 4
+number TooManySets = 5
+number CountDiffers = 6
+number TrailingBytes = 7
+number DriveNumber = 8
+number CrashRound = 9
+number CrashSends = 10
+number NoneUntouched = 11
+number BlockCount = 12
+number TooManyCores = 13
+number NoRoom = 14
+number KnownMask = 15
+number AlreadyAccepted = 21
+number OutsideCore = 22
+number Halted = 23
+number SenderMissing = 24
+number PatternDiffers = 25
+number OtherRound = 26
+number ListenerSends = 27
+number BrokenState = 28
+
+-- what a call gives
+pub data Outcome (A : Type 0) : Type 0 where
+  refused : Refusal → Outcome A
+  result : A → Outcome A
+
+-- the refusal where the condition holds, and else what comes next: so the first refusal is given
+module _ {A : Type 0} where
+  abbrev pub refuseIf : Bool → Refusal → Outcome A → Outcome A
+  refuseIf b r next = cond b (refused r) next
+
+-- what the function makes of a result; a refusal stays
+module _ {A B : Type 0} where
+  abbrev pub andThen : Outcome A → (A → Outcome B) → Outcome B
+  andThen (refused r) f = refused r
+  andThen (result a) f = f a
