@@ -1,0 +1,45 @@
+-- The returns of the reader of a record's head: the mark is cut, is not due, its body is cut, or the record is there.
+use mathlib.Core.Path.{_≡_, sym, ap, _∙_}
+use mathlib.Core.Bool.{Bool, true, false, not}
+use mathlib.Core.List.{List}
+use Prim.Native.Nat.{ℕ, _+_, _-_, _≤_, _<_}
+use native.Mathlib.Omega.{arith}
+use lib.ListN.{length, take, length-take}
+use lib.Seq.{take-all}
+use borrow.Author.Tests.{lt-ltb, le-ltb}
+use Rattle.drive_sets.specs.Bools.{cond-true, cond-false}
+use Rattle.drive_sets.specs.declared.Refusal.the-variants.{EndsTooSoon, WrongMark}
+use Rattle.records.specs.declared.Due.{Due}
+use Rattle.records.specs.declared.Kind.{Kind}
+use Rattle.records.specs.declared.Head.the-variants.{Record, Refused}
+use Rattle.records.specs.Fields.{fromBytes}
+use Rattle.records.specs.Marks.{kindOf, bodyWidth, isDue, headOf}
+
+pub head-cut : (due : Due) (s : List ℕ) → length s < 2 → Refused EndsTooSoon ≡ headOf due s
+unfolding headOf
+head-cut due s h = sym (cond-true _ _ (lt-ltb (length s) 2 h))
+
+-- from here on m is the mark that was read, and t whether it is due
+module _ (due : Due) (s : List ℕ) (m : ℕ) (t : Bool) (h : 2 ≤ length s) (e : m ≡ fromBytes (take 8 (take 2 s))) (f : t ≡ isDue due m) where
+  mark-is : m ≡ fromBytes (take 2 s)
+  mark-is = e ∙ ap fromBytes (take-all 8 (take 2 s) (omega (arith, length-take 2 s)))
+
+  due-is : t ≡ isDue due (fromBytes (take 2 s))
+  due-is = f ∙ ap (isDue due) mark-is
+
+  pub head-not-due : not t ≡ true → Refused WrongMark ≡ headOf due s
+  unfolding headOf
+  head-not-due n = sym (cond-false _ _ (le-ltb (length s) 2 h) ∙ cond-true _ _ (ap not (sym due-is) ∙ n))
+
+  pub head-body-cut : not t ≡ false → (k : Kind) (w : ℕ) → k ≡ kindOf m → w ≡ bodyWidth k → length s - 2 < w → Refused EndsTooSoon ≡ headOf due s
+  unfolding headOf
+  head-body-cut n k w p q lt =
+      let whole = q ∙ ap bodyWidth (p ∙ ap kindOf mark-is) in
+      sym (cond-false _ _ (le-ltb (length s) 2 h) ∙ (cond-false _ _ (ap not (sym due-is) ∙ n) ∙ cond-true _ _ (lt-ltb (length s) (2 + bodyWidth (kindOf (fromBytes (take 2 s)))) (omega arith))))
+
+  pub head-found : not t ≡ false → (k : Kind) (w : ℕ) → k ≡ kindOf m → w ≡ bodyWidth k → w ≤ length s - 2 → Record k ≡ headOf due s
+  unfolding headOf
+  head-found n k w p q le =
+      let whole = q ∙ ap bodyWidth (p ∙ ap kindOf mark-is) in
+      ap Record (p ∙ ap kindOf mark-is)
+      ∙ sym (cond-false _ _ (le-ltb (length s) 2 h) ∙ (cond-false _ _ (ap not (sym due-is) ∙ n) ∙ cond-false _ _ (le-ltb (length s) (2 + bodyWidth (kindOf (fromBytes (take 2 s)))) (omega arith))))

@@ -1,0 +1,83 @@
+-- Which marks are due where: every arm is told the place, and a place for two kinds makes two tests.
+use mathlib.Core.Path.{sym, ap, _∙_}
+use Rattle.records.specs.declared.Due.{Due}
+use Rattle.records.specs.Fields.{fromBytes}
+use Rattle.records.specs.Marks.{ascii, markText, mark, isDue}
+use Rattle.records.proofs.Matches.{first-due, second-due}
+use borrow.Author.Needs.{needs}
+use Rattle.records.proofs.is_due.Statement.{statement}
+use Rattle.records.proofs.is_due.Tie as tie
+
+enum-told : tie.Need-enum-told
+enum-told c = search needs
+
+enum-told-2 : tie.Need-enum-told-2
+enum-told-2 c = search needs
+
+enum-told-3 : tie.Need-enum-told-3
+enum-told-3 c = search needs
+
+enum-told-4 : tie.Need-enum-told-4
+enum-told-4 c = search needs
+
+enum-told-5 : tie.Need-enum-told-5
+enum-told-5 c = search needs
+
+enum-told-6 : tie.Need-enum-told-6
+enum-told-6 c = search needs
+
+returns : tie.Need-returns
+unfolding isDue mark markText ascii fromBytes
+returns c = sym (ap (λ (d : Due). isDue d (c .before .before .args .m)) (c .enum-told .given .1))
+
+returns-2 : tie.Need-returns-2
+unfolding isDue mark markText ascii fromBytes
+returns-2 c = sym (ap (λ (d : Due). isDue d (c .before .before .args .m)) (c .enum-told2 .given .1))
+
+returns-3 : tie.Need-returns-3
+unfolding isDue mark markText ascii fromBytes
+returns-3 c = first-due (c .before .before .before .args .m) 22099 20037 (c .if1 .taken) ∙ sym (ap (λ (d : Due). isDue d (c .before .before .before .args .m)) (c .before .enum-told3 .given .1))
+
+returns-4 : tie.Need-returns-4
+unfolding isDue mark markText ascii fromBytes
+returns-4 c = second-due (c .before .before .before .args .m) 22099 20037 (c .if1 .left) ∙ sym (ap (λ (d : Due). isDue d (c .before .before .before .args .m)) (c .before .enum-told3 .given .1))
+
+returns-5 : tie.Need-returns-5
+unfolding isDue mark markText ascii fromBytes
+returns-5 c = sym (ap (λ (d : Due). isDue d (c .before .before .args .m)) (c .enum-told4 .given .1))
+
+returns-6 : tie.Need-returns-6
+unfolding isDue mark markText ascii fromBytes
+returns-6 c = first-due (c .before .before .before .args .m) 21059 20037 (c .if2 .taken) ∙ sym (ap (λ (d : Due). isDue d (c .before .before .before .args .m)) (c .before .enum-told5 .given .1))
+
+returns-7 : tie.Need-returns-7
+unfolding isDue mark markText ascii fromBytes
+returns-7 c = second-due (c .before .before .before .args .m) 21059 20037 (c .if2 .left) ∙ sym (ap (λ (d : Due). isDue d (c .before .before .before .args .m)) (c .before .enum-told5 .given .1))
+
+returns-8 : tie.Need-returns-8
+unfolding isDue mark markText ascii fromBytes
+returns-8 c = first-due (c .before .before .before .args .m) 20043 17220 (c .if3 .taken) ∙ sym (ap (λ (d : Due). isDue d (c .before .before .before .args .m)) (c .before .enum-told6 .given .1))
+
+returns-9 : tie.Need-returns-9
+unfolding isDue mark markText ascii fromBytes
+returns-9 c = second-due (c .before .before .before .args .m) 20043 17220 (c .if3 .left) ∙ sym (ap (λ (d : Due). isDue d (c .before .before .before .args .m)) (c .before .enum-told6 .given .1))
+
+pub is-due-spec : {M : Type 1} → statement M
+is-due-spec =
+    tie.close
+    (tie.spec
+    enum-told
+    enum-told-2
+    enum-told-3
+    enum-told-4
+    enum-told-5
+    enum-told-6
+    returns
+    returns-2
+    returns-3
+    returns-4
+    returns-5
+    returns-6
+    returns-7
+    returns-8
+    returns-9)

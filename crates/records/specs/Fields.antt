@@ -1,0 +1,25 @@
+-- Byte fields: numbers of any width, lowest byte first, and bytes written into a lent buffer.
+use mathlib.Core.Bool.{cond}
+use mathlib.Core.List.{List, [], _∷_, _++_}
+use Prim.Native.Nat.{ℕ, zero, suc, _+_, _*_, _/_, _%_}
+use lib.Dec.{leb}
+use lib.ListN.{length, take, drop}
+pub mod Laws
+
+-- the number of some bytes
+unfoldable pub fromBytes : List ℕ → ℕ
+fromBytes [] = 0
+fromBytes (b ∷ bs) = b + 256 * fromBytes bs
+
+-- the lowest bytes of a number, as many as the field is wide
+unfoldable pub toBytes : ℕ → ℕ → List ℕ
+toBytes zero x = []
+toBytes (suc width) x = x % 256 ∷ toBytes width (x / 256)
+
+-- a buffer with new bytes over its first ones; as it was where they do not fit
+unfoldable pub written : List ℕ → List ℕ → List ℕ
+written new old = cond (leb (length new) (length old)) (new ++ drop (length new) old) old
+
+-- a buffer with new bytes from a starting place on
+unfoldable pub writtenAt : ℕ → List ℕ → List ℕ → List ℕ
+writtenAt start new old = take start old ++ written new (drop start old)

@@ -1,0 +1,3 @@
+-- Byte fields, marks and records.
+pub mod Fields
+pub mod Marks

@@ -1,0 +1,82 @@
+-- Laws of marks and records: a mark is read back as its kind, and a record that was written is found where it is due, with its field
+-- and what stands behind it.
+use mathlib.Core.Path.{_≡_, refl, ap, _∙_}
+use mathlib.Core.Bool.{true, not}
+use mathlib.Core.List.{List, _++_, append-assoc}
+use Prim.Native.Nat.{ℕ, _+_, _^_, _<_}
+use native.Mathlib.Omega.{arith}
+use lib.ListN.{length, take, drop, length-append}
+use lib.Seq.{take-at, drop-at}
+use borrow.Author.Tests.{le-ltb}
+use Rattle.drive_sets.specs.Bools.{cond-false}
+use Rattle.records.specs.declared.Due.{Due}
+use Rattle.records.specs.declared.Kind.{Kind}
+use Rattle.records.specs.declared.Kind.the-variants.{Frame, Survivor, Proposal, Crash, End, Known, Decide, Unknown}
+use Rattle.records.specs.declared.Head.the-variants.{Record}
+use Rattle.records.specs.Fields.{fromBytes, toBytes}
+use Rattle.records.specs.Fields.Laws.{length-toBytes, field-back}
+use Rattle.records.specs.Marks.{ascii, markText, mark, bodyWidth, kindOf, isDue, headOf, recordBytes}
+
+pub kind-mark : (k : Kind) → kindOf (mark k) ≡ k
+unfolding kindOf mark markText ascii fromBytes
+kind-mark Frame = refl
+kind-mark Survivor = refl
+kind-mark Proposal = refl
+kind-mark Crash = refl
+kind-mark End = refl
+kind-mark Known = refl
+kind-mark Decide = refl
+kind-mark Unknown = refl
+
+pub mark-lt : (k : Kind) → mark k < 256 ^ 2
+unfolding mark markText ascii fromBytes
+mark-lt Frame = omega arith
+mark-lt Survivor = omega arith
+mark-lt Proposal = omega arith
+mark-lt Crash = omega arith
+mark-lt End = omega arith
+mark-lt Known = omega arith
+mark-lt Decide = omega arith
+mark-lt Unknown = omega arith
+
+pub length-record : (m width x : ℕ) → length (recordBytes m width x) ≡ 2 + width
+unfolding recordBytes
+length-record m width x = length-append (toBytes 2 m) (toBytes width x) ∙ omega (arith, length-toBytes 2 m, length-toBytes width x)
+
+-- what was written, with anything behind it
+module _ (m width x : ℕ) (rest : List ℕ) where
+  pub record-mark : m < 256 ^ 2 → fromBytes (take 2 (recordBytes m width x ++ rest)) ≡ m
+  unfolding recordBytes
+  record-mark h =
+      ap (λ (l : List ℕ). fromBytes (take 2 l)) (append-assoc (toBytes 2 m) (toBytes width x) rest)
+      ∙ (ap fromBytes (take-at (toBytes 2 m) (toBytes width x ++ rest) 2 (length-toBytes 2 m)) ∙ field-back 2 m h)
+
+  pub record-field : x < 256 ^ width → fromBytes (take width (drop 2 (recordBytes m width x ++ rest))) ≡ x
+  unfolding recordBytes
+  record-field h =
+      ap (λ (l : List ℕ). fromBytes (take width (drop 2 l))) (append-assoc (toBytes 2 m) (toBytes width x) rest)
+      ∙ (ap (λ (l : List ℕ). fromBytes (take width l)) (drop-at (toBytes 2 m) (toBytes width x ++ rest) 2 (length-toBytes 2 m))
+      ∙ (ap fromBytes (take-at (toBytes width x) rest width (length-toBytes width x)) ∙ field-back width x h))
+
+  pub record-rest : drop (2 + width) (recordBytes m width x ++ rest) ≡ rest
+  record-rest = drop-at (recordBytes m width x) rest (2 + width) (length-record m width x)
+
+pub head-record : (due : Due) (k : Kind) (x : ℕ) (rest : List ℕ) → isDue due (mark k) ≡ true
+    → headOf due (recordBytes (mark k) (bodyWidth k) x ++ rest) ≡ Record k
+unfolding headOf
+head-record due k x rest d =
+    cond-false _ _ (le-ltb (length s) 2 (omega (arith, long)))
+    ∙ (cond-false _ _ (ap not (ap (isDue due) is-mark ∙ d))
+    ∙ (cond-false _ _ (le-ltb (length s) (2 + bodyWidth (kindOf (fromBytes (take 2 s)))) (omega (arith, long, ap bodyWidth is-kind))) ∙ ap Record is-kind))
+  where
+    s : List ℕ
+    s = recordBytes (mark k) (bodyWidth k) x ++ rest
+
+    long : length s ≡ 2 + bodyWidth k + length rest
+    long = length-append (recordBytes (mark k) (bodyWidth k) x) rest ∙ omega (arith, length-record (mark k) (bodyWidth k) x)
+
+    is-mark : fromBytes (take 2 s) ≡ mark k
+    is-mark = record-mark (mark k) (bodyWidth k) x rest (mark-lt k)
+
+    is-kind : kindOf (fromBytes (take 2 s)) ≡ k
+    is-kind = ap kindOf is-mark ∙ kind-mark k

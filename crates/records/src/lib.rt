@@ -1,0 +1,170 @@
+// Records: a two-letter mark and byte fields, lowest byte first, read from a slice and written into the part of a lent buffer that
+// starts at the cursor. A mark is a number, matched to a record kind and tested against what is due.
+ghost use mathlib.Core.Path.{_≡_};
+ghost use Prim.Native.Nat.{min};
+ghost use lib.ListN.{take};
+ghost use Rattle.records.specs.Fields.{fromBytes, toBytes, written};
+ghost use Rattle.records.specs.Marks.{mark, kindOf, bodyWidth, isDue, headOf, recordBytes};
+use drive_sets::Refusal;
+
+// The kind of a record.
+pub enum Kind {
+    Frame,
+    Survivor,
+    Proposal,
+    Crash,
+    End,
+    Known,
+    Decide,
+    Unknown,
+}
+
+// The place of a record: which kinds are due there.
+pub enum Due {
+    AtFrame,
+    AtFirstSet,
+    AtSetOrEnd,
+    AtProposal,
+    AtCrashOrEnd,
+    AtMessage,
+}
+
+// What stands at the start of some bytes.
+pub enum Head {
+    Record(Kind),
+    Refused(Refusal),
+}
+
+// The marks, as two-byte fields: the first letter is the low byte.
+pub const FRAME: u64 = 0x5246;
+
+pub const SURVIVOR: u64 = 0x5653;
+
+pub const PROPOSAL: u64 = 0x5250;
+
+pub const CRASH: u64 = 0x5243;
+
+pub const END: u64 = 0x4e45;
+
+pub const KNOWN: u64 = 0x4e4b;
+
+pub const DECIDE: u64 = 0x4344;
+
+fn wide(x: u8) -> u64
+    ensures { λ r. ⌜ r ≡ x ⌝ }
+{
+    x as u64
+}
+
+fn at_most_8(n: usize) -> usize
+    ensures { λ r. ⌜ r ≡ min 8 n ⌝ }
+{
+    if 8 < n { 8 } else { n }
+}
+
+// The number of the bytes, of the first 8 where there are more.
+pub fn from_bytes(s: &[u8]) -> u64
+    ensures { λ r. ⌜ r ≡ fromBytes (take 8 (now (s .entry))) ⌝ }
+{
+    let mut i = at_most_8(s.len());
+    let mut x = 0;
+    while 0 < i {
+        i -= 1;
+        x = x * 256 + wide(s[i]);
+    }
+    x
+}
+
+// The field of x over the first bytes of the part; every other byte stays.
+pub fn put_field(part: &mut [u8], width: usize, x: u64)
+    ensures { λ _. ⌜ now (part .exit) ≡ written (toBytes width x) (now (part .entry)) ⌝ }
+{
+    if part.len() < width {
+        return;
+    }
+    let mut rest = x;
+    let mut i = 0;
+    while i < width {
+        part[i] = (rest % 256) as u8;
+        rest = rest / 256;
+        i += 1;
+    }
+}
+
+// A record of a mark and one field over the first bytes of the part; every other byte stays.
+pub fn put_record(part: &mut [u8], m: u64, width: usize, x: u64)
+    ensures { λ _. ⌜ now (part .exit) ≡ written (recordBytes m width x) (now (part .entry)) ⌝ }
+{
+    if part.len() < 2 {
+        return;
+    }
+    if part.len() - 2 < width {
+        return;
+    }
+    put_field(part, 2, m);
+    put_field(&mut part[2..], width, x);
+}
+
+// The kind of record that a mark starts.
+pub fn kind_of(m: u64) -> Kind
+    ensures { λ r. ⌜ r ≡ kindOf m ⌝ }
+{
+    match m {
+        FRAME => Kind::Frame,
+        SURVIVOR => Kind::Survivor,
+        PROPOSAL => Kind::Proposal,
+        CRASH => Kind::Crash,
+        END => Kind::End,
+        KNOWN => Kind::Known,
+        DECIDE => Kind::Decide,
+        _ => Kind::Unknown,
+    }
+}
+
+// How many bytes follow the mark; of a Known record up to its mask.
+pub fn body_width(k: Kind) -> usize
+    ensures { λ r. ⌜ r ≡ bodyWidth k ⌝ }
+{
+    match k {
+        Kind::Frame => 1,
+        Kind::Survivor => 8,
+        Kind::Proposal => 3,
+        Kind::Crash => 3,
+        Kind::End => 1,
+        Kind::Known => 10,
+        Kind::Decide => 4,
+        Kind::Unknown => 0,
+    }
+}
+
+// A record with this mark may stand here.
+pub fn is_due(due: Due, m: u64) -> bool
+    ensures { λ r. ⌜ r ≡ isDue due m ⌝ }
+{
+    match due {
+        Due::AtFrame => m == FRAME,
+        Due::AtFirstSet => m == SURVIVOR,
+        Due::AtSetOrEnd => m == SURVIVOR || m == END,
+        Due::AtProposal => m == PROPOSAL,
+        Due::AtCrashOrEnd => m == CRASH || m == END,
+        Due::AtMessage => m == KNOWN || m == DECIDE,
+    }
+}
+
+// The record at the start of the bytes: refused where its mark is cut, is not due, or the rest is cut.
+pub fn read_head(s: &[u8], due: Due) -> Head
+    ensures { λ r. ⌜ r ≡ headOf due (now (s .entry)) ⌝ }
+{
+    if s.len() < 2 {
+        return Head::Refused(Refusal::EndsTooSoon);
+    }
+    let m = from_bytes(&s[0..2]);
+    if !is_due(due, m) {
+        return Head::Refused(Refusal::WrongMark);
+    }
+    let k = kind_of(m);
+    if s.len() - 2 < body_width(k) {
+        return Head::Refused(Refusal::EndsTooSoon);
+    }
+    Head::Record(k)
+}
