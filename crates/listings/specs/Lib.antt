@@ -1,0 +1,4 @@
+-- Text, the listing of the table program, and the marked cases.
+pub mod Text
+pub mod TableListing
+pub mod MarkedCases

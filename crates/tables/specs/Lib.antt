@@ -1,0 +1,3 @@
+-- Tables given as n and sets, and tables as bytes.
+pub mod Tables
+pub mod Files

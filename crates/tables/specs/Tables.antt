@@ -1,0 +1,72 @@
+-- Survivor tables, their cores and the way back, and the calls that are given n and sets.
+-- A frame is a system of n drives; a survivor set is a set of drives that may be the ones that stay up; a core is a minimal hitting set of
+-- the survivor sets (Junqueira and Marzullo).
+use mathlib.Core.Bool.{Bool, true, false, not, _&&_}
+use mathlib.Core.List.{List, [], _∷_}
+use Prim.Native.Nat.{ℕ}
+use lib.Dec.{eqb, leb, ltb}
+use lib.ListN.{length, getD}
+use Rattle.drive_sets.specs.declared.Refusal.the-variants.{WrongMark, FrameSize, BadSet, TooManySets, TooManyCores}
+use Rattle.drive_sets.specs.Lists.{all}
+use Rattle.drive_sets.specs.Masks.{full, subset}
+use Rattle.drive_sets.specs.Refusals.{Outcome, result, refuseIf, andThen}
+use Rattle.hitting_sets.specs.Hitting.{hits, minimals}
+use Rattle.hitting_sets.specs.Order.{byMask, bySize, sort, normal}
+
+-- a frame has 1 to 64 drives
+unfoldable pub isFrame : ℕ → Bool
+isFrame n = leb 1 n && leb n 64
+
+-- a set of the frame's drives, not empty
+unfoldable pub isSet : ℕ → ℕ → Bool
+isSet n s = not (eqb s 0) && subset s (full n)
+
+unfoldable pub isEmpty : List ℕ → Bool
+isEmpty [] = true
+isEmpty (x ∷ l) = false
+
+-- the cores, by size, then by mask; the first is the chosen one
+unfoldable pub cores : List ℕ → List ℕ
+cores sets = sort bySize (minimals sets)
+
+unfoldable pub chosen : List ℕ → ℕ
+chosen sets = getD (cores sets) 0 0
+
+-- Back, the dual hypergraph: the smallest groups that meet each of the groups, in the normal table's order
+unfoldable pub dual : List ℕ → List ℕ
+dual groups = sort byMask (minimals groups)
+
+-- the normal table, where it has at most 1024 cores
+unfoldable pub uncrowded : List ℕ → Outcome (List ℕ)
+uncrowded sets = refuseIf (ltb 1024 (length (cores (normal sets)))) TooManyCores (result (normal sets))
+
+-- ---- the calls given n and sets: 3, 2, 5, then 4 set by set, then 13
+
+unfoldable pub normalTable : ℕ → List ℕ → Outcome (List ℕ)
+normalTable n sets =
+    refuseIf (not (isFrame n)) FrameSize
+    (refuseIf (isEmpty sets) WrongMark
+    (refuseIf (ltb 128 (length sets)) TooManySets
+    (refuseIf (not (all (isSet n) sets)) BadSet
+    (uncrowded sets))))
+
+unfoldable pub coreList : ℕ → List ℕ → Outcome (List ℕ)
+coreList n sets = andThen (normalTable n sets) (λ table. result (cores table))
+
+unfoldable pub chosenCore : ℕ → List ℕ → Outcome ℕ
+chosenCore n sets = andThen (normalTable n sets) (λ table. result (chosen table))
+
+-- do these drives meet every set? A group that is no set of the frame meets 4, after the table's own refusals
+unfoldable pub meetsEvery : ℕ → List ℕ → ℕ → Outcome Bool
+meetsEvery n sets group =
+    andThen (normalTable n sets) (λ table. refuseIf (not (isSet n group)) BadSet (result (hits table group)))
+
+-- Back: 3, 13 for no groups or more than 1024, 4, then 5 for more than 128 found
+unfoldable pub survivorSets : ℕ → List ℕ → Outcome (List ℕ)
+survivorSets n groups =
+    refuseIf (not (isFrame n)) FrameSize
+    (refuseIf (isEmpty groups) TooManyCores
+    (refuseIf (ltb 1024 (length groups)) TooManyCores
+    (refuseIf (not (all (isSet n) groups)) BadSet
+    (refuseIf (ltb 128 (length (dual groups))) TooManySets
+    (result (dual groups))))))

@@ -1,0 +1,1 @@
+// Survivor tables: reading, writing, cores and the way back. So far their definitions, in specs/.

@@ -1,0 +1,2 @@
+-- The verdict on k.
+pub mod Verdicts

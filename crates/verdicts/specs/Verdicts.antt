@@ -1,0 +1,52 @@
+-- The verdict on k (k-Intersection; k-Partition is its other side): yes if any k sets of the normal table, repeats allowed, share a drive.
+-- Otherwise no, with the first k positions whose sets share none, and the blocks of a split into k of which none holds a core.
+use mathlib.Core.Bool.{not, _&&_, cond}
+use mathlib.Core.List.{List, [], _∷_, map}
+use mathlib.Core.Option.{Option, some, none}
+use Prim.Native.Nat.{ℕ, zero, suc, _-_}
+use lib.Dec.{eqb, leb}
+use lib.ListN.{getD}
+use Rattle.drive_sets.specs.declared.Refusal.the-variants.{BlockCount}
+use Rattle.drive_sets.specs.Masks.{full, union, common, outside}
+use Rattle.drive_sets.specs.Refusals.{Outcome, result, refuseIf, andThen}
+use Rattle.tables.specs.Tables.{normalTable}
+
+pub data Verdict : Type 0 where
+  yes : Verdict
+  no : List ℕ → List ℕ → Verdict
+
+-- the position in front of those found; else the other way
+abbrev pub orElse : ℕ → Option (List ℕ) → Option (List ℕ) → Option (List ℕ)
+orElse p (some ps) other = some (p ∷ ps)
+orElse p none other = other
+
+-- the first of the sets, at position p and on, with which f finds the rest
+unfoldable pub firstWith : (ℕ → List ℕ → ℕ → Option (List ℕ)) → ℕ → List ℕ → ℕ → Option (List ℕ)
+firstWith f p [] shared = none
+firstWith f p (s ∷ sets) shared =
+    let later = firstWith f (suc p) sets shared in
+    orElse p (f p (s ∷ sets) (common shared s)) later
+
+-- the first k positions, not falling, compared left to right, whose sets have no drive of `shared` in common
+unfoldable pub disjoint : ℕ → ℕ → List ℕ → ℕ → Option (List ℕ)
+disjoint zero p sets shared = cond (eqb shared 0) (some []) none
+disjoint (suc k) p sets shared = firstWith (λ q rest common. disjoint k q rest common) p sets shared
+
+-- block i: the drives outside the i-th named set and in no earlier block
+unfoldable pub blocksOf : ℕ → ℕ → List ℕ → List ℕ
+blocksOf n taken [] = []
+blocksOf n taken (s ∷ named) = outside n (union s taken) ∷ blocksOf n (union taken (outside n (union s taken))) named
+
+abbrev pub verdictWith : ℕ → List ℕ → Option (List ℕ) → Verdict
+verdictWith n table none = yes
+verdictWith n table (some ps) = no ps (blocksOf n 0 (map (λ p. getD table (p - 1) 0) ps))
+
+-- the verdict on a normal table
+unfoldable pub verdictOn : ℕ → ℕ → List ℕ → Verdict
+verdictOn k n table = verdictWith n table (disjoint k 1 table (full n))
+
+-- the call: 12, then the table's refusals
+unfoldable pub verdict : ℕ → ℕ → List ℕ → Outcome Verdict
+verdict k n sets =
+    refuseIf (not (leb 2 k && leb k 4)) BlockCount
+    (andThen (normalTable n sets) (λ table. result (verdictOn k n table)))
