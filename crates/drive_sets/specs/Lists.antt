@@ -1,5 +1,5 @@
 -- Lists of numbers: a range, those that pass a test, tests of all and of some. All of it computes on numerals.
-use mathlib.Core.Bool.{Bool, true, false, _&&_, _||_, cond}
+use mathlib.Core.Bool.{Bool, true, false, not, _&&_, _||_, cond}
 use mathlib.Core.List.{List, [], _∷_}
 use Prim.Native.Nat.{ℕ, zero, suc}
 use lib.Dec.{eqb}
@@ -36,3 +36,8 @@ elem x l = any (eqb x) l
 unfoldable pub ordered : (ℕ → ℕ → Bool) → List ℕ → Bool
 ordered before [] = true
 ordered before (x ∷ l) = all (before x) l && ordered before l
+
+-- no element occurs twice
+unfoldable pub distinct : List ℕ → Bool
+distinct [] = true
+distinct (x ∷ l) = not (elem x l) && distinct l

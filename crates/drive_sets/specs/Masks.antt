@@ -10,6 +10,7 @@ use Rattle.drive_sets.specs.Lists.{range, keep}
 pub mod Bits
 pub mod Laws
 pub mod Sizes
+pub mod OneDrive
 
 -- drive d is in m
 unfoldable pub has : ℕ → ℕ → Bool

@@ -7,6 +7,13 @@ use Prim.Native.Nat.{ℕ}
 use lib.Dec.{eqb}
 use Rattle.drive_sets.specs.Lists.{all}
 use Rattle.drive_sets.specs.Masks.{single, union, common, meets, subset, size, drives}
+pub mod Laws
+pub mod Alone
+pub mod Minimality
+pub mod Growth
+pub mod Found
+pub mod Distinct
+pub mod Doomed
 
 -- m meets every one of the sets
 unfoldable pub hits : List ℕ → ℕ → Bool

@@ -1,14 +1,14 @@
 -- Laws of ranges, of kept elements, of tests over a list, and of ordered lists.
 use mathlib.Core.Path.{_≡_, refl, sym, ap, ap₂, _∙_, subst}
-use mathlib.Core.Bool.{Bool, true, false, _&&_, _||_, cond}
+use mathlib.Core.Bool.{Bool, true, false, not, _&&_, _||_, cond}
 use mathlib.Core.Logic.{_⊎_, inl, inr, ⊎-elim}
 use mathlib.Core.List.{List, [], _∷_, _++_}
 use Prim.Native.Nat.{ℕ, zero, suc, _+_, _≤_, _<_}
 use native.Mathlib.Omega.{arith}
 use lib.Dec.{eqb, ltb}
-use borrow.Author.Tests.{eqb-true, eqb-false, eq-eqb, lt-ltb}
-use Rattle.drive_sets.specs.Bools.{clash, by-test, same-test, and-intro, and-left, and-right, or-left, or-right, or-cases, cond-true, cond-false}
-use Rattle.drive_sets.specs.Lists.{range, keep, all, any, elem, ordered}
+use borrow.Author.Tests.{eqb-true, eqb-false, eq-eqb, lt-ltb, not-true}
+use Rattle.drive_sets.specs.Bools.{clash, by-test, false-of, same-test, and-intro, and-left, and-right, or-left, or-right, or-cases, cond-true, cond-false}
+use Rattle.drive_sets.specs.Lists.{range, keep, all, any, elem, ordered, distinct}
 
 -- ---- membership
 
@@ -28,10 +28,31 @@ pub elem-none : (x : ℕ) → elem x [] ≡ false
 unfolding elem any
 elem-none x = refl
 
+pub any-append : (p : ℕ → Bool) (l m : List ℕ) → any p (l ++ m) ≡ (any p l || any p m)
+unfolding any
+any-append p [] m = refl
+any-append p (y ∷ l) m = by-test (p y) (λ e. rw e) (λ e. rw e (any-append p l m))
+
 pub elem-append : (x : ℕ) (l m : List ℕ) → elem x (l ++ m) ≡ (elem x l || elem x m)
-unfolding elem any
-elem-append x [] m = refl
-elem-append x (y ∷ l) m = by-test (eqb x y) (λ e. rw e) (λ e. rw e (elem-append x l m))
+unfolding elem
+elem-append x l m = any-append (eqb x) l m
+
+pub elem-append-left : (x : ℕ) (l m : List ℕ) → elem x l ≡ true → elem x (l ++ m) ≡ true
+elem-append-left x l m h = elem-append x l m ∙ or-left (elem x m) h
+
+pub elem-append-right : (x : ℕ) (l m : List ℕ) → elem x m ≡ true → elem x (l ++ m) ≡ true
+elem-append-right x l m h = elem-append x l m ∙ or-right (elem x l) h
+
+pub elem-append-cases : (x : ℕ) (l m : List ℕ) → elem x (l ++ m) ≡ true → (elem x l ≡ true) ⊎ (elem x m ≡ true)
+elem-append-cases x l m h = or-cases (elem x l) (elem x m) (sym (elem-append x l m) ∙ h)
+
+pub elem-one : (x y : ℕ) → elem x (y ∷ []) ≡ true → x ≡ y
+elem-one x y h = ⊎-elim (λ e. e) (λ e. absurd (clash e (elem-none x))) (elem-cases x y [] h)
+
+-- a list with no element is empty
+pub no-elem : (l : List ℕ) → ((x : ℕ) → elem x l ≡ true → ⊥) → l ≡ []
+no-elem [] f = refl
+no-elem (x ∷ l) f = absurd (f x (elem-head x l))
 
 -- ---- tests of all and of some
 
@@ -48,6 +69,18 @@ pub all-intro : (p : ℕ → Bool) (l : List ℕ) → ((x : ℕ) → elem x l �
 unfolding all
 all-intro p [] f = refl
 all-intro p (y ∷ l) f = and-intro (f y (elem-head y l)) (all-intro p l (λ x h. f x (elem-tail x y l h)))
+
+pub all-append : (p : ℕ → Bool) (l m : List ℕ) → all p (l ++ m) ≡ (all p l && all p m)
+unfolding all
+all-append p [] m = refl
+all-append p (y ∷ l) m = by-test (p y) (λ e. rw e (all-append p l m)) (λ e. rw e)
+
+-- lists with the same elements pass the same test of all
+pub all-same-elements : (p : ℕ → Bool) (l m : List ℕ) → ((x : ℕ) → elem x l ≡ elem x m) → all p l ≡ all p m
+all-same-elements p l m f =
+    same-test (all p l) (all p m)
+    (λ h. all-intro p m (λ x e. all-elem p l x h (f x ∙ e)))
+    (λ h. all-intro p l (λ x e. all-elem p m x h (sym (f x) ∙ e)))
 
 pub any-elem : (p : ℕ → Bool) (l : List ℕ) → any p l ≡ true → (x : ℕ) × (elem x l ≡ true) × (p x ≡ true)
 unfolding any
@@ -173,3 +206,25 @@ module _ (before : ℕ → ℕ → Bool) (asym : (x y : ℕ) → before x y ≡ 
           same-test (elem z l) (elem z m)
           (λ h. ⊎-elim (λ d. absurd (not-first x z (after-x z h) (d ∙ sym e))) (λ d. d) (elem-cases z y m (sym (f z) ∙ elem-tail z x l h)))
           (λ h. ⊎-elim (λ d. absurd (not-first y z (after-y z h) (d ∙ e))) (λ d. d) (elem-cases z x l (f z ∙ elem-tail z y m h)))
+
+-- ---- lists in which no element occurs twice
+
+pub distinct-append : (l m : List ℕ) → distinct l ≡ true → distinct m ≡ true → ((x : ℕ) → elem x l ≡ true → elem x m ≡ true → ⊥) → distinct (l ++ m) ≡ true
+unfolding distinct
+distinct-append [] m p q f = q
+distinct-append (x ∷ l) m p q f =
+    and-intro
+    (ap not (false-of (elem x (l ++ m)) (λ h.
+    ⊎-elim
+    (λ e. clash e (not-true (elem x l) (and-left (not (elem x l)) (distinct l) p)))
+    (λ e. f x (elem-head x l) e)
+    (elem-append-cases x l m h))))
+    (distinct-append l m (and-right (not (elem x l)) (distinct l) p) q (λ y h. f y (elem-tail y x l h)))
+
+pub ordered-distinct : (before : ℕ → ℕ → Bool) → ((x : ℕ) → before x x ≡ true → ⊥) → (l : List ℕ) → ordered before l ≡ true → distinct l ≡ true
+unfolding ordered distinct
+ordered-distinct before irr [] h = refl
+ordered-distinct before irr (x ∷ l) h =
+    and-intro
+    (ap not (false-of (elem x l) (λ e. irr x (all-elem (before x) l x (and-left (all (before x) l) (ordered before l) h) e))))
+    (ordered-distinct before irr l (and-right (all (before x) l) (ordered before l) h))

@@ -6,10 +6,10 @@ use native.Mathlib.Nat.{lt-of-le-of-lt, sub-le, zero-lt-suc}
 use native.Mathlib.Omega.{arith}
 use lib.Arith.{lt-one}
 use lib.Pow.{pow-lt, pow-pos, pow-mono, ones-lt}
-use lib.Bits.{bitAnd, and-le-l, and-le-r, and-comm, and-self, or-lt}
+use lib.Bits.{bitAnd, and-le-l, and-le-r, and-comm, and-self, and-zero-l, or-lt}
 use lib.Dec.{eqb, ltb, leb}
 use borrow.Author.Tests.{eqb-true, eqb-false, eq-eqb, ne-eqb, lt-ltb, le-leb, leb-true, leb-false, not-true, not-false}
-use Rattle.drive_sets.specs.Bools.{clash, by-test, false-of, true-of, same-test, and-intro, and-left, and-right, cond-true}
+use Rattle.drive_sets.specs.Bools.{clash, by-test, false-of, true-of, same-test, and-intro, and-left, and-right, or-left, cond-true}
 use Rattle.drive_sets.specs.Masks.{has, single, full, union, common, minus, meets, subset}
 use Rattle.drive_sets.specs.Masks.Bits.{bit, bit-lt, bit-zero, bit-suc, bit-none, bit-above, half-lt, bit-ext, bit-and, bit-or, bit-minus, bit-one, bit-ones, on-digits, digit-ext}
 
@@ -72,6 +72,10 @@ full-has d n h p q = has-full d n h ∙ and-intro (le-leb 1 d p) (le-leb d n q)
 pub common-lt : (n a b : ℕ) → a < 2 ^ n → common a b < 2 ^ n
 unfolding common
 common-lt n a b h = lt-of-le-of-lt (and-le-l a b) h
+
+pub common-lt-right : (n a b : ℕ) → b < 2 ^ n → common a b < 2 ^ n
+unfolding common
+common-lt-right n a b h = lt-of-le-of-lt (and-le-r a b) h
 
 pub union-lt : (n a b : ℕ) → a < 2 ^ n → b < 2 ^ n → union a b < 2 ^ n
 unfolding union
@@ -141,12 +145,26 @@ pub subset-refl : (a : ℕ) → subset a a ≡ true
 unfolding subset
 subset-refl a = eq-eqb (bitAnd a a) a (and-self a)
 
+pub none-subset : (a : ℕ) → subset 0 a ≡ true
+unfolding subset
+none-subset a = eq-eqb (bitAnd 0 a) 0 (and-zero-l a)
+
 pub subset-trans : (n a b c : ℕ) → a < 2 ^ n → subset a b ≡ true → subset b c ≡ true → subset a c ≡ true
 subset-trans n a b c h p q = has-subset n a c h (λ d e. subset-has d b c q (subset-has d a b p e))
 
 pub subset-antisym : (a b : ℕ) → subset a b ≡ true → subset b a ≡ true → a ≡ b
 unfolding subset
 subset-antisym a b p q = sym (eqb-true (bitAnd a b) a p) ∙ (and-comm a b ∙ eqb-true (bitAnd b a) b q)
+
+pub subset-lt : (n a b : ℕ) → subset a b ≡ true → b < 2 ^ n → a < 2 ^ n
+unfolding subset
+subset-lt n a b e h = subst (λ (x : ℕ). x < 2 ^ n) (eqb-true (bitAnd a b) a e) (lt-of-le-of-lt (and-le-r a b) h)
+
+pub subset-union : (n a b : ℕ) → a < 2 ^ n → subset a (union a b) ≡ true
+subset-union n a b h = has-subset n a (union a b) h (λ d e. has-union d a b ∙ or-left (has d b) e)
+
+pub subset-minus : (n a b : ℕ) → a < 2 ^ n → subset (minus a b) a ≡ true
+subset-minus n a b h = has-subset n (minus a b) a (minus-lt n a b h) (λ d e. and-left (has d a) (not (has d b)) (sym (has-minus d a b) ∙ e))
 
 -- where a is no part of b, a drive of a is not in b
 pub subset-not : (n a b : ℕ) → a < 2 ^ n → subset a b ≡ false → (d : ℕ) × (has d a ≡ true) × (has d b ≡ false)
@@ -161,8 +179,7 @@ pub subset-full : (n m : ℕ) → n ≤ 64 → m < 2 ^ n → subset m (full n) �
 subset-full n m h lt = has-subset n m (full n) lt (λ d e. let w = has-bounds n d m lt e in full-has d n h (w .0) (w .1))
 
 pub full-subset : (n m : ℕ) → subset m (full n) ≡ true → m < 2 ^ n
-unfolding subset
-full-subset n m e = subst (λ (x : ℕ). x < 2 ^ n) (eqb-true (bitAnd m (full n)) m e) (lt-of-le-of-lt (and-le-r m (full n)) (full-lt n))
+full-subset n m e = subset-lt n m (full n) e (full-lt n)
 
 -- ---- sets that share a drive
 
@@ -187,6 +204,10 @@ not-meets n a b h f = false-of (meets a b) (λ e. let w = meets-has n a b h e in
 pub meets-sym : (a b : ℕ) → meets a b ≡ meets b a
 unfolding meets
 meets-sym a b = ap (λ (x : ℕ). not (eqb x 0)) (and-comm a b)
+
+-- what a part of m meets, m meets
+pub meets-subset : (n s a b : ℕ) → a < 2 ^ n → subset a b ≡ true → meets s a ≡ true → meets s b ≡ true
+meets-subset n s a b h e p = let w = meets-has n a s h (meets-sym a s ∙ p) in has-meets (w .0) s b (w .2) (subset-has (w .0) a b e (w .1))
 
 pub meets-none : (a b : ℕ) → meets a b ≡ false → common a b ≡ 0
 unfolding meets common

@@ -1,0 +1,81 @@
+-- The drives of m that have a private set: which they are, and when they are all of m.
+use mathlib.Core.Path.{_≡_, sym, ap, ap₂, _∙_}
+use mathlib.Core.Bool.{Bool, true, false, _||_}
+use mathlib.Core.List.{List, [], _∷_, _++_}
+use Prim.Native.Nat.{ℕ, _^_, _≤_, _<_}
+use lib.Pow.{pow-pos}
+use lib.Dec.{eqb}
+use borrow.Author.Tests.{eqb-true, eqb-false, eq-eqb, ne-eqb}
+use Rattle.drive_sets.specs.Bools.{by-test, false-of, cond-true, cond-false}
+use Rattle.drive_sets.specs.Lists.{any, elem}
+use Rattle.drive_sets.specs.Lists.Laws.{any-append, any-elem, any-intro}
+use Rattle.drive_sets.specs.Masks.{has, single, union, common, subset, size}
+use Rattle.drive_sets.specs.Masks.Laws.{has-none, has-union, has-bounds, has-ext, common-lt-right, union-lt, has-subset, subset-antisym, subset-not}
+use Rattle.drive_sets.specs.Masks.Sizes.{size-single}
+use Rattle.drive_sets.specs.Masks.OneDrive.{has-lone, shared-has}
+use Rattle.hitting_sets.specs.Hitting.{alone}
+
+-- one of the sets is private to drive d of m: it meets m in d alone
+abbrev pub Private : List ℕ → ℕ → ℕ → Type 0
+Private sets m d = (s : ℕ) × (elem s sets ≡ true) × (common s m ≡ single d)
+
+pub alone-lt : (n : ℕ) (sets : List ℕ) (m : ℕ) → m < 2 ^ n → alone sets m < 2 ^ n
+unfolding alone
+alone-lt n [] m h = pow-pos n
+alone-lt n (s ∷ sets) m h =
+    by-test (eqb (size (common s m)) 1)
+    (λ e. rw e (union-lt n (common s m) (alone sets m) (common-lt-right n s m h) (alone-lt n sets m h)))
+    (λ e. rw e (alone-lt n sets m h))
+
+pub has-alone : (d : ℕ) → 1 ≤ d → d ≤ 64 → (sets : List ℕ) (m : ℕ) → m < 2 ^ 64 → has d (alone sets m) ≡ any (λ s. eqb (common s m) (single d)) sets
+unfolding alone any
+has-alone d low high [] m h = has-none d
+has-alone d low high (s ∷ sets) m h =
+    let rest = has-alone d low high sets m h in
+    by-test (eqb (size (common s m)) 1)
+    (λ e. ap (has d) (cond-true (union (common s m) (alone sets m)) (alone sets m) e)
+    ∙ (has-union d (common s m) (alone sets m)
+    ∙ ap₂ _||_ (has-lone d low high (common s m) (common-lt-right 64 s m h) (eqb-true (size (common s m)) 1 e)) rest))
+    (λ e. ap (has d) (cond-false (union (common s m) (alone sets m)) (alone sets m) e)
+    ∙ (rest
+    ∙ sym (ap (λ (b : Bool). b || any (λ s. eqb (common s m) (single d)) sets)
+    (ne-eqb (common s m) (single d) (λ q. eqb-false (size (common s m)) 1 e (ap size q ∙ size-single d low high))))))
+
+pub private-alone : (d : ℕ) → 1 ≤ d → d ≤ 64 → (sets : List ℕ) (m : ℕ) → m < 2 ^ 64 → Private sets m d → has d (alone sets m) ≡ true
+private-alone d low high sets m h w =
+    has-alone d low high sets m h ∙ any-intro (λ s. eqb (common s m) (single d)) sets (w .0) (w .1) (eq-eqb (common (w .0) m) (single d) (w .2))
+
+pub alone-private : (d : ℕ) (sets : List ℕ) (m : ℕ) → m < 2 ^ 64 → has d (alone sets m) ≡ true → Private sets m d
+alone-private d sets m h e =
+    let b = has-bounds 64 d (alone sets m) (alone-lt 64 sets m h) e in
+    let w = any-elem (λ s. eqb (common s m) (single d)) sets (sym (has-alone d (b .0) (b .1) sets m h) ∙ e) in
+    (w .0, w .1, eqb-true (common (w .0) m) (single d) (w .2))
+
+pub alone-subset : (sets : List ℕ) (m : ℕ) → m < 2 ^ 64 → subset (alone sets m) m ≡ true
+alone-subset sets m h =
+    has-subset 64 (alone sets m) m (alone-lt 64 sets m h) (λ d e.
+    let b = has-bounds 64 d (alone sets m) (alone-lt 64 sets m h) e in
+    let w = alone-private d sets m h e in
+    shared-has d (b .0) (b .1) (w .0) m (w .2) .1)
+
+pub alone-append : (l k : List ℕ) (m : ℕ) → m < 2 ^ 64 → alone (l ++ k) m ≡ union (alone l m) (alone k m)
+alone-append l k m h =
+    has-ext 64 (alone (l ++ k) m) (union (alone l m) (alone k m)) (alone-lt 64 (l ++ k) m h)
+    (union-lt 64 (alone l m) (alone k m) (alone-lt 64 l m h) (alone-lt 64 k m h))
+    (λ d low high. has-alone d low high (l ++ k) m h
+    ∙ (any-append (λ s. eqb (common s m) (single d)) l k
+    ∙ sym (has-union d (alone l m) (alone k m) ∙ ap₂ _||_ (has-alone d low high l m h) (has-alone d low high k m h))))
+
+-- ---- every drive of m has a private set, or one has none
+
+pub all-alone : (sets : List ℕ) (m : ℕ) → m < 2 ^ 64 → ((d : ℕ) → has d m ≡ true → Private sets m d) → alone sets m ≡ m
+all-alone sets m h f =
+    subset-antisym (alone sets m) m (alone-subset sets m h)
+    (has-subset 64 m (alone sets m) h (λ d e. let b = has-bounds 64 d m h e in private-alone d (b .0) (b .1) sets m h (f d e)))
+
+pub alone-all : (sets : List ℕ) (m : ℕ) → m < 2 ^ 64 → alone sets m ≡ m → (d : ℕ) → has d m ≡ true → Private sets m d
+alone-all sets m h e d i = alone-private d sets m h (ap (has d) e ∙ i)
+
+pub not-all-alone : (sets : List ℕ) (m : ℕ) → m < 2 ^ 64 → (alone sets m ≡ m → ⊥) → (d : ℕ) × (has d m ≡ true) × (has d (alone sets m) ≡ false)
+not-all-alone sets m h ne =
+    subset-not 64 m (alone sets m) h (false-of (subset m (alone sets m)) (λ e. ne (subset-antisym (alone sets m) m (alone-subset sets m h) e)))
