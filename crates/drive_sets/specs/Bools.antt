@@ -1,6 +1,6 @@
 -- Tests: going by the two cases of one, and how tests combine.
 use mathlib.Core.Path.{_≡_, refl, sym, ap, _∙_}
-use mathlib.Core.Bool.{Bool, true, false, _&&_, _||_, cond, true≢false}
+use mathlib.Core.Bool.{Bool, true, false, not, _&&_, _||_, cond, true≢false}
 use mathlib.Core.Logic.{_⊎_, inl, inr}
 
 pub clash : {b : Bool} → b ≡ true → b ≡ false → ⊥
@@ -48,6 +48,16 @@ or-right false p = p
 pub or-cases : (a b : Bool) → (a || b) ≡ true → (a ≡ true) ⊎ (b ≡ true)
 or-cases true b h = inl refl
 or-cases false b h = inr h
+
+pub or-swap : (a b c : Bool) → (a || (b || c)) ≡ (b || (a || c))
+or-swap true true c = refl
+or-swap true false c = refl
+or-swap false b c = refl
+
+pub or-and-not : (a b : Bool) → (a || (b && not a)) ≡ (a || b)
+or-and-not true b = refl
+or-and-not false true = refl
+or-and-not false false = refl
 
 pub or-false-left : (a b : Bool) → (a || b) ≡ false → a ≡ false
 or-false-left true b h = absurd (true≢false h)

@@ -4,6 +4,7 @@ use mathlib.Core.List.{List, [], _∷_}
 use Prim.Native.Nat.{ℕ, zero, suc}
 use lib.Dec.{eqb}
 pub mod Laws
+pub mod Distinct
 
 -- a, a + 1, .., k of them
 unfoldable pub range : ℕ → ℕ → List ℕ

@@ -9,6 +9,7 @@ use lib.Dec.{eqb, ltb}
 use Rattle.drive_sets.specs.Lists.{range, keep}
 pub mod Bits
 pub mod Laws
+pub mod Outside
 pub mod Sizes
 pub mod OneDrive
 

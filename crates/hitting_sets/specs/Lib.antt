@@ -1,4 +1,6 @@
--- Hitting sets, the search for the minimal ones, its look-ahead, and orders of masks.
+-- Hitting sets, the search for the minimal ones, its look-ahead, orders of masks, cores and sets as duals, and cores from executions.
 pub mod Hitting
 pub mod LookAhead
 pub mod Order
+pub mod Duality
+pub mod Executions

@@ -1,14 +1,15 @@
 -- Laws of ranges, of kept elements, of tests over a list, and of ordered lists.
 use mathlib.Core.Path.{_≡_, refl, sym, ap, ap₂, _∙_, subst}
-use mathlib.Core.Bool.{Bool, true, false, not, _&&_, _||_, cond}
+use mathlib.Core.Bool.{Bool, true, false, _&&_, _||_, cond}
 use mathlib.Core.Logic.{_⊎_, inl, inr, ⊎-elim}
 use mathlib.Core.List.{List, [], _∷_, _++_}
-use Prim.Native.Nat.{ℕ, zero, suc, _+_, _≤_, _<_}
+use Prim.Native.Nat.{ℕ, zero, suc, _+_, _≤_, _<_, zero-le, suc-le-suc}
 use native.Mathlib.Omega.{arith}
 use lib.Dec.{eqb, ltb}
-use borrow.Author.Tests.{eqb-true, eqb-false, eq-eqb, lt-ltb, not-true}
-use Rattle.drive_sets.specs.Bools.{clash, by-test, false-of, same-test, and-intro, and-left, and-right, or-left, or-right, or-cases, cond-true, cond-false}
-use Rattle.drive_sets.specs.Lists.{range, keep, all, any, elem, ordered, distinct}
+use lib.ListN.{length}
+use borrow.Author.Tests.{eqb-true, eqb-false, eq-eqb, lt-ltb}
+use Rattle.drive_sets.specs.Bools.{clash, by-test, false-of, same-test, and-intro, and-left, and-right, and-not, or-left, or-right, or-cases, cond-true, cond-false}
+use Rattle.drive_sets.specs.Lists.{range, keep, all, any, elem, ordered}
 
 -- ---- membership
 
@@ -27,6 +28,14 @@ elem-cases x y l h = ⊎-elim (λ e. inl (eqb-true x y e)) (λ e. inr e) (or-cas
 pub elem-none : (x : ℕ) → elem x [] ≡ false
 unfolding elem any
 elem-none x = refl
+
+pub elem-some : (x : ℕ) (l : List ℕ) → elem x l ≡ true → 1 ≤ length l
+elem-some x [] h = absurd (clash h (elem-none x))
+elem-some x (y ∷ l) h = suc-le-suc zero-le
+
+pub some-elem : (l : List ℕ) → 1 ≤ length l → (x : ℕ) × (elem x l ≡ true)
+some-elem [] h = absurd (omega arith)
+some-elem (x ∷ l) h = (x, elem-head x l)
 
 pub any-append : (p : ℕ → Bool) (l m : List ℕ) → any p (l ++ m) ≡ (any p l || any p m)
 unfolding any
@@ -70,6 +79,15 @@ unfolding all
 all-intro p [] f = refl
 all-intro p (y ∷ l) f = and-intro (f y (elem-head y l)) (all-intro p l (λ x h. f x (elem-tail x y l h)))
 
+-- where not all pass the test, one fails it
+pub all-not : (p : ℕ → Bool) (l : List ℕ) → all p l ≡ false → (x : ℕ) × (elem x l ≡ true) × (p x ≡ false)
+unfolding all
+all-not p [] h = absurd (clash refl h)
+all-not p (y ∷ l) h =
+    by-test (p y)
+    (λ e. let w = all-not p l (and-not (p y) (all p l) e h) in (w .0, elem-tail (w .0) y l (w .1), w .2))
+    (λ e. (y, elem-head y l, e))
+
 pub all-append : (p : ℕ → Bool) (l m : List ℕ) → all p (l ++ m) ≡ (all p l && all p m)
 unfolding all
 all-append p [] m = refl
@@ -99,6 +117,10 @@ any-intro p (y ∷ l) x e h =
     (λ q. or-left (any p l) (ap p (sym q) ∙ h))
     (λ q. or-right (p y) (any-intro p l x q h))
     (elem-cases x y l e)
+
+-- where none passes the test, each fails it
+pub any-not : (p : ℕ → Bool) (l : List ℕ) (x : ℕ) → any p l ≡ false → elem x l ≡ true → p x ≡ false
+any-not p l x h e = false-of (p x) (λ q. clash (any-intro p l x e q) h)
 
 -- ---- kept elements
 
@@ -136,6 +158,14 @@ unfolding keep
 keep-same p q [] f = refl
 keep-same p q (x ∷ l) f =
     ap₂ (λ (b : Bool) (r : List ℕ). cond b (x ∷ r) r) (f x (elem-head x l)) (keep-same p q l (λ y h. f y (elem-tail y x l h)))
+
+pub length-keep : (p : ℕ → Bool) (l : List ℕ) → length (keep p l) ≤ length l
+unfolding keep
+length-keep p [] = zero-le
+length-keep p (x ∷ l) =
+    by-test (p x)
+    (λ e. rw (keep-true p x l e) (suc-le-suc (length-keep p l)))
+    (λ e. rw (keep-false p x l e) (omega (arith, length-keep p l)))
 
 -- ---- ranges
 
@@ -206,25 +236,3 @@ module _ (before : ℕ → ℕ → Bool) (asym : (x y : ℕ) → before x y ≡ 
           same-test (elem z l) (elem z m)
           (λ h. ⊎-elim (λ d. absurd (not-first x z (after-x z h) (d ∙ sym e))) (λ d. d) (elem-cases z y m (sym (f z) ∙ elem-tail z x l h)))
           (λ h. ⊎-elim (λ d. absurd (not-first y z (after-y z h) (d ∙ e))) (λ d. d) (elem-cases z x l (f z ∙ elem-tail z y m h)))
-
--- ---- lists in which no element occurs twice
-
-pub distinct-append : (l m : List ℕ) → distinct l ≡ true → distinct m ≡ true → ((x : ℕ) → elem x l ≡ true → elem x m ≡ true → ⊥) → distinct (l ++ m) ≡ true
-unfolding distinct
-distinct-append [] m p q f = q
-distinct-append (x ∷ l) m p q f =
-    and-intro
-    (ap not (false-of (elem x (l ++ m)) (λ h.
-    ⊎-elim
-    (λ e. clash e (not-true (elem x l) (and-left (not (elem x l)) (distinct l) p)))
-    (λ e. f x (elem-head x l) e)
-    (elem-append-cases x l m h))))
-    (distinct-append l m (and-right (not (elem x l)) (distinct l) p) q (λ y h. f y (elem-tail y x l h)))
-
-pub ordered-distinct : (before : ℕ → ℕ → Bool) → ((x : ℕ) → before x x ≡ true → ⊥) → (l : List ℕ) → ordered before l ≡ true → distinct l ≡ true
-unfolding ordered distinct
-ordered-distinct before irr [] h = refl
-ordered-distinct before irr (x ∷ l) h =
-    and-intro
-    (ap not (false-of (elem x l) (λ e. irr x (all-elem (before x) l x (and-left (all (before x) l) (ordered before l) h) e))))
-    (ordered-distinct before irr l (and-right (all (before x) l) (ordered before l) h))

@@ -14,7 +14,8 @@ use lib.ListN.{length}
 use borrow.Author.Tests.{eqb-true, eqb-false, eq-eqb, lt-ltb, ltb-true, not-true}
 use Rattle.drive_sets.specs.Bools.{clash, by-test, same-test, and-intro, and-left, and-right, cond-true}
 use Rattle.drive_sets.specs.Lists.{range, keep, any, elem, ordered, distinct}
-use Rattle.drive_sets.specs.Lists.Laws.{elem-head, elem-tail, all-intro, keep-true, keep-false, elem-keep, range-elem, ordered-keep, ordered-range, ordered-unique, ordered-distinct}
+use Rattle.drive_sets.specs.Lists.Laws.{elem-head, elem-tail, all-intro, keep-true, keep-false, elem-keep, range-elem, ordered-keep, ordered-range, ordered-unique}
+use Rattle.drive_sets.specs.Lists.Distinct.{ordered-distinct}
 use Rattle.drive_sets.specs.Masks.{has, single, full, union, common, minus, meets, subset, size, lowest, drives, ofDrives}
 use Rattle.drive_sets.specs.Masks.Bits.{bit, bit-lt, bit-zero, bit-suc, half-lt, and-odd, and-half, or-odd, or-half, minus-half, minus-odd}
 use Rattle.drive_sets.specs.Masks.Laws.{has-none, has-union, has-minus, has-single, has-bounds, has-ext, union-lt, minus-lt, single-lt, full-lt, full-is, has-subset, not-meets, meets-sym, meets-none}

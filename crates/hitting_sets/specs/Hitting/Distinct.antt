@@ -7,7 +7,8 @@ use lib.Dec.{eqb}
 use borrow.Author.Tests.{eqb-true, not-true}
 use Rattle.drive_sets.specs.Bools.{clash, by-test, and-left, and-right, cond-false}
 use Rattle.drive_sets.specs.Lists.{any, elem, distinct}
-use Rattle.drive_sets.specs.Lists.Laws.{elem-head, elem-tail, distinct-append}
+use Rattle.drive_sets.specs.Lists.Laws.{elem-head, elem-tail}
+use Rattle.drive_sets.specs.Lists.Distinct.{distinct-append}
 use Rattle.drive_sets.specs.Masks.{has, single, union, meets, drives}
 use Rattle.drive_sets.specs.Masks.Laws.{has-bounds, meets-not}
 use Rattle.drive_sets.specs.Masks.Sizes.{elem-drives, drives-distinct}
