@@ -12,6 +12,7 @@ use Rattle.drive_sets.specs.Masks.{full, subset}
 use Rattle.drive_sets.specs.Refusals.{Outcome, result, refuseIf, andThen}
 use Rattle.hitting_sets.specs.Hitting.{hits, minimals}
 use Rattle.hitting_sets.specs.Order.{byMask, bySize, sort, normal}
+pub mod Laws
 
 -- a frame has 1 to 64 drives
 unfoldable pub isFrame : ℕ → Bool

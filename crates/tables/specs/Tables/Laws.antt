@@ -1,0 +1,203 @@
+-- Theorems of tables: the list of cores is THE list of Junqueira and Marzullo's cores, Back of a table's cores is the table, and what
+-- holds of the chosen core of every accepted table.
+use mathlib.Core.Path.{_≡_, refl, sym, ap, _∙_, subst}
+use mathlib.Core.Bool.{true, false, not}
+use mathlib.Core.List.{List, [], _∷_}
+use Prim.Native.Nat.{ℕ, _^_, _≤_, _<_}
+use native.Mathlib.Nat.{lt-of-lt-of-le}
+use native.Mathlib.Omega.{arith}
+use lib.Pow.{pow-mono}
+use lib.Dec.{eqb, leb, ltb}
+use lib.ListN.{length, getD}
+use borrow.Author.Tests.{leb-true, le-leb, ltb-false, le-ltb, eqb-false, not-true, not-false}
+use Rattle.drive_sets.specs.declared.Refusal.the-variants.{WrongMark, FrameSize, BadSet, TooManySets, TooManyCores}
+use Rattle.drive_sets.specs.Bools.{clash, same-test, and-intro, and-left, and-right, cond-false}
+use Rattle.drive_sets.specs.Lists.{all, elem, ordered}
+use Rattle.drive_sets.specs.Lists.Laws.{elem-head, elem-some, all-elem, all-intro, ordered-unique}
+use Rattle.drive_sets.specs.Masks.{has, single, full, common, subset, meets}
+use Rattle.drive_sets.specs.Masks.Laws.{full-lt, full-has, full-subset, has-some, has-bounds, has-meets}
+use Rattle.drive_sets.specs.Refusals.{result}
+use Rattle.drive_sets.specs.Refusals.Laws.{passed, same-result}
+use Rattle.hitting_sets.specs.Hitting.{hits, Minimal, minimals}
+use Rattle.hitting_sets.specs.Hitting.Laws.{Below, hits-meets, meets-hits, hits-same-elements, minimal-lt, minimal-same-hits}
+use Rattle.hitting_sets.specs.Hitting.Alone.{alone-all}
+use Rattle.hitting_sets.specs.Hitting.Minimality.{minimal-alone, hitting-contains}
+use Rattle.hitting_sets.specs.Hitting.Found.{minimals-minimal, minimal-found}
+use Rattle.hitting_sets.specs.Hitting.Distinct.{minimals-distinct}
+use Rattle.hitting_sets.specs.Duality.{back-of-minimals}
+use Rattle.hitting_sets.specs.Order.{bySize, normal}
+use Rattle.hitting_sets.specs.Order.Strict.{bySize-strict}
+use Rattle.hitting_sets.specs.Order.Sort.{elem-sort, ordered-sort}
+use Rattle.hitting_sets.specs.Order.Normal.{normal-elem, ordered-normal, antichain-normal, normal-idempotent, hits-normal, normal-some, length-normal}
+use Rattle.tables.specs.Tables.{isFrame, isSet, isEmpty, cores, chosen, dual, uncrowded, normalTable}
+
+-- ---- what it is for n and sets to meet no refusal
+
+pub record Accepted (n : ℕ) (sets : List ℕ) : Type 0 where
+  pub low : 1 ≤ n
+  pub high : n ≤ 64
+  pub some : 1 ≤ length sets
+  pub most : length sets ≤ 128
+  pub good : (s : ℕ) → elem s sets ≡ true → isSet n s ≡ true
+  pub few-cores : length (cores (normal sets)) ≤ 1024
+
+not-empty : (l : List ℕ) → isEmpty l ≡ false → 1 ≤ length l
+unfolding isEmpty
+not-empty [] e = absurd (clash refl e)
+not-empty (x ∷ l) e = omega arith
+
+some-not-empty : (l : List ℕ) → 1 ≤ length l → isEmpty l ≡ false
+unfolding isEmpty
+some-not-empty [] h = absurd (omega arith)
+some-not-empty (x ∷ l) h = refl
+
+pub table-accepted : (n : ℕ) (sets table : List ℕ) → normalTable n sets ≡ result table → Accepted n sets × (table ≡ normal sets)
+unfolding normalTable uncrowded isFrame
+table-accepted n sets table e =
+    let frame = passed (not (isFrame n)) FrameSize _ e in
+    let some = passed (isEmpty sets) WrongMark _ (frame .1) in
+    let most = passed (ltb 128 (length sets)) TooManySets _ (some .1) in
+    let good = passed (not (all (isSet n) sets)) BadSet _ (most .1) in
+    let few = passed (ltb 1024 (length (cores (normal sets)))) TooManyCores _ (good .1) in (
+      record {
+        low = leb-true 1 n (and-left (leb 1 n) (leb n 64) (not-false (isFrame n) (frame .0)));
+        high = leb-true n 64 (and-right (leb 1 n) (leb n 64) (not-false (isFrame n) (frame .0)));
+        some = not-empty sets (some .0);
+        most = ltb-false 128 (length sets) (most .0);
+        good = λ s h. all-elem (isSet n) sets s (not-false (all (isSet n) sets) (good .0)) h;
+        few-cores = ltb-false 1024 (length (cores (normal sets))) (few .0);
+      },
+      sym (same-result (few .1)),
+    )
+
+pub accepted-table : (n : ℕ) (sets : List ℕ) → Accepted n sets → normalTable n sets ≡ result (normal sets)
+unfolding normalTable uncrowded isFrame
+accepted-table n sets a =
+    cond-false _ _ (ap not (and-intro (le-leb 1 n (a .low)) (le-leb n 64 (a .high))))
+    ∙ (cond-false _ _ (some-not-empty sets (a .some))
+    ∙ (cond-false _ _ (le-ltb 128 (length sets) (a .most))
+    ∙ (cond-false _ _ (ap not (all-intro (isSet n) sets (a .good))) ∙ cond-false _ _ (le-ltb 1024 (length (cores (normal sets))) (a .few-cores)))))
+
+-- ---- sets of the frame
+
+pub set-lt : (n s : ℕ) → isSet n s ≡ true → s < 2 ^ n
+unfolding isSet
+set-lt n s e = full-subset n s (and-right (not (eqb s 0)) (subset s (full n)) e)
+
+pub set-some : (n s : ℕ) → isSet n s ≡ true → s ≡ 0 → ⊥
+unfolding isSet
+set-some n s e = eqb-false s 0 (not-true (eqb s 0) (and-left (not (eqb s 0)) (subset s (full n)) e))
+
+module _ (n : ℕ) (sets : List ℕ) (a : Accepted n sets) where
+  pub sets-below : Below n sets
+  sets-below s h = set-lt n s (a .good s h)
+
+  pub sets-word : Below 64 sets
+  sets-word s h = lt-of-lt-of-le (sets-below s h) (pow-mono {i = n} {j = 64} (a .high))
+
+  -- the normal table is accepted, and is its own normal table
+  pub accepted-normal : Accepted n (normal sets)
+  accepted-normal = record {
+    low = a .low;
+    high = a .high;
+    some = normal-some sets sets-word (a .some);
+    most = omega (arith, length-normal sets, a .most);
+    good = λ s h. a .good s (normal-elem s sets h);
+    few-cores = subst (λ (l : List ℕ). length (cores l) ≤ 1024) (sym (normal-idempotent sets)) (a .few-cores);
+  }
+
+-- ---- the list of cores
+
+module _ (sets : List ℕ) (word : Below 64 sets) where
+  pub core-minimal : (c : ℕ) → elem c (cores sets) ≡ true → Minimal sets c
+  unfolding cores
+  core-minimal c h = minimals-minimal sets c word (sym (elem-sort bySize c (minimals sets)) ∙ h)
+
+  pub minimal-core : (c : ℕ) → Minimal sets c → elem c (cores sets) ≡ true
+  unfolding cores
+  minimal-core c h = elem-sort bySize c (minimals sets) ∙ minimal-found sets c word h
+
+  -- strictly by size, then by mask: each core once
+  pub cores-ordered : ordered bySize (cores sets) ≡ true
+  unfolding cores
+  cores-ordered = ordered-sort bySize bySize-strict (minimals sets) (minimals-distinct sets word)
+
+  -- it is the only such list
+  pub cores-unique : (l : List ℕ) → ordered bySize l ≡ true → ((c : ℕ) → elem c l ≡ true → Minimal sets c) → ((c : ℕ) → Minimal sets c → elem c l ≡ true)
+      → l ≡ cores sets
+  cores-unique l o sound complete =
+      ordered-unique bySize (bySize-strict .asym) l (cores sets) o cores-ordered
+      (λ c. same-test (elem c l) (elem c (cores sets)) (λ h. minimal-core c (sound c h)) (λ h. complete c (core-minimal c h)))
+
+-- lists that the same sets hit have the same cores
+pub cores-same-hits : (l k : List ℕ) → Below 64 l → Below 64 k → ((m : ℕ) → hits l m ≡ hits k m) → cores l ≡ cores k
+cores-same-hits l k p q f =
+    cores-unique k q (cores l) (cores-ordered l p)
+    (λ c h. minimal-same-hits l k c f (core-minimal l p c h))
+    (λ c h. minimal-core l p c (minimal-same-hits k l c (λ x. sym (f x)) h))
+
+-- the order in which the sets are listed does not matter
+pub cores-same-elements : (l k : List ℕ) → Below 64 l → Below 64 k → ((x : ℕ) → elem x l ≡ elem x k) → cores l ≡ cores k
+cores-same-elements l k p q f = cores-same-hits l k p q (λ m. hits-same-elements l k m f)
+
+-- nor do the sets that the normal table drops
+pub cores-normal : (sets : List ℕ) → Below 64 sets → cores (normal sets) ≡ cores sets
+cores-normal sets word = cores-same-hits (normal sets) sets (λ s h. word s (normal-elem s sets h)) word (hits-normal sets word)
+
+-- ---- the way back
+
+pub dual-cores : (n : ℕ) (sets : List ℕ) → Accepted n sets → dual (cores (normal sets)) ≡ normal sets
+unfolding dual cores
+dual-cores n sets a =
+    back-of-minimals n (normal sets) (a .high) (sets-below n (normal sets) (accepted-normal n sets a)) bySize (ordered-normal sets) (antichain-normal sets)
+
+-- ---- the chosen core
+
+-- every accepted table has a core
+pub some-core : (n : ℕ) (sets : List ℕ) → Accepted n sets → 1 ≤ length (cores sets)
+some-core n sets a =
+    let c = hitting-contains sets (full n) (lt-of-lt-of-le (full-lt n) (pow-mono {i = n} {j = 64} (a .high))) (meets-hits sets (full n) every) in
+    elem-some (c .0) (cores sets) (minimal-core sets (sets-word n sets a) (c .0) (c .2))
+  where
+    every : (s : ℕ) → elem s sets ≡ true → meets s (full n) ≡ true
+    every s h =
+        let lt = sets-below n sets a s h in
+        let d = has-some n s lt (set-some n s (a .good s h)) in
+        let b = has-bounds n (d .0) s lt (d .1) in
+        has-meets (d .0) s (full n) (d .1) (full-has (d .0) n (a .high) (b .0) (b .1))
+
+first-elem : (l : List ℕ) → 1 ≤ length l → elem (getD l 0 0) l ≡ true
+first-elem [] h = absurd (omega arith)
+first-elem (x ∷ l) h = elem-head x l
+
+-- what the exchange rests on: the chosen core of an accepted table lies within the frame, meets every listed set, and each of its
+-- drives is alone in it in some listed set
+pub record ChosenCore (n : ℕ) (sets : List ℕ) (core : ℕ) : Type 0 where
+  pub within : core < 2 ^ n
+  pub meets-all : (s : ℕ) → elem s sets ≡ true → meets s core ≡ true
+  pub alone : (d : ℕ) → has d core ≡ true → (s : ℕ) × (elem s sets ≡ true) × (common s core ≡ single d)
+
+pub chosen-core : (n : ℕ) (sets : List ℕ) → Accepted n sets → ChosenCore n sets (chosen (normal sets))
+unfolding chosen
+chosen-core n sets a = record {
+  within = lt;
+  meets-all = λ s h. hits-meets sets core s (minimal .all-met) h;
+  alone = λ d h. alone-all sets core word (minimal-alone sets core word minimal) d h;
+}
+  where
+    core : ℕ
+    core = chosen (normal sets)
+
+    below : Below 64 (normal sets)
+    below s h = sets-word n sets a s (normal-elem s sets h)
+
+    minimal : Minimal sets core
+    minimal =
+        minimal-same-hits (normal sets) sets core (hits-normal sets (sets-word n sets a))
+        (core-minimal (normal sets) below core (first-elem (cores (normal sets)) (some-core n (normal sets) (accepted-normal n sets a))))
+
+    lt : core < 2 ^ n
+    lt = minimal-lt n sets core (a .high) (sets-below n sets a) minimal
+
+    word : core < 2 ^ 64
+    word = lt-of-lt-of-le lt (pow-mono {i = n} {j = 64} (a .high))
