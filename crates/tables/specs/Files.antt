@@ -16,6 +16,7 @@ use Rattle.records.specs.declared.Head.the-variants.{Record, Refused}
 use Rattle.records.specs.Fields.{fromBytes, writtenAt}
 use Rattle.records.specs.Marks.{mark, headOf, recordBytes}
 use Rattle.tables.specs.Tables.{isFrame, isSet, isEmpty, uncrowded, normalTable}
+pub mod Laws
 
 -- what is read: the drives, the sets, and the bytes after EN
 pub record ReadTable : Type 0 where

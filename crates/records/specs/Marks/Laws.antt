@@ -1,18 +1,22 @@
 -- Laws of marks and records: a mark is read back as its kind, and a record that was written is found where it is due, with its field
 -- and what stands behind it.
-use mathlib.Core.Path.{_≡_, refl, ap, _∙_}
-use mathlib.Core.Bool.{true, not}
+use mathlib.Core.Path.{_≡_, refl, sym, ap, _∙_}
+use mathlib.Core.Bool.{true, not, _||_}
+use mathlib.Core.Logic.{⊎-elim}
 use mathlib.Core.List.{List, _++_, append-assoc}
 use Prim.Native.Nat.{ℕ, _+_, _^_, _<_}
 use native.Mathlib.Omega.{arith}
 use lib.ListN.{length, take, drop, length-append}
 use lib.Seq.{take-at, drop-at}
-use borrow.Author.Tests.{le-ltb}
-use Rattle.drive_sets.specs.Bools.{cond-false}
+use lib.Dec.{eqb, ltb}
+use borrow.Author.Tests.{le-ltb, eqb-true, not-false}
+use Rattle.drive_sets.specs.Bools.{by-test, or-cases, cond-true, cond-false}
+use Rattle.drive_sets.specs.declared.Refusal.{Refusal}
 use Rattle.records.specs.declared.Due.{Due}
 use Rattle.records.specs.declared.Kind.{Kind}
 use Rattle.records.specs.declared.Kind.the-variants.{Frame, Survivor, Proposal, Crash, End, Known, Decide, Unknown}
-use Rattle.records.specs.declared.Head.the-variants.{Record}
+use Rattle.records.specs.declared.Due.the-variants.{AtFrame, AtFirstSet, AtSetOrEnd, AtProposal, AtCrashOrEnd, AtMessage}
+use Rattle.records.specs.declared.Head.the-variants.{Record, Refused}
 use Rattle.records.specs.Fields.{fromBytes, toBytes}
 use Rattle.records.specs.Fields.Laws.{length-toBytes, field-back}
 use Rattle.records.specs.Marks.{ascii, markText, mark, bodyWidth, kindOf, isDue, headOf, recordBytes}
@@ -80,3 +84,40 @@ head-record due k x rest d =
 
     is-kind : kindOf (fromBytes (take 2 s)) ≡ k
     is-kind = ap kindOf is-mark ∙ kind-mark k
+
+-- ---- what is found is due
+
+mark-kind : (m : ℕ) (k : Kind) → m ≡ mark k → mark (kindOf m) ≡ m
+mark-kind m k e = ap (λ (x : ℕ). mark (kindOf x)) e ∙ (ap mark (kind-mark k) ∙ sym e)
+
+one-of : (m : ℕ) (j k : Kind) → (eqb m (mark j) || eqb m (mark k)) ≡ true → mark (kindOf m) ≡ m
+one-of m j k e =
+    ⊎-elim (λ h. mark-kind m j (eqb-true m (mark j) h)) (λ h. mark-kind m k (eqb-true m (mark k) h)) (or-cases (eqb m (mark j)) (eqb m (mark k)) e)
+
+due-kind : (due : Due) (m : ℕ) → isDue due m ≡ true → mark (kindOf m) ≡ m
+unfolding isDue
+due-kind AtFrame m e = mark-kind m Frame (eqb-true m (mark Frame) e)
+due-kind AtFirstSet m e = mark-kind m Survivor (eqb-true m (mark Survivor) e)
+due-kind AtSetOrEnd m e = one-of m Survivor End e
+due-kind AtProposal m e = mark-kind m Proposal (eqb-true m (mark Proposal) e)
+due-kind AtCrashOrEnd m e = one-of m Crash End e
+due-kind AtMessage m e = one-of m Known Decide e
+
+record-not-refused : {r : Refusal} {k : Kind} → Refused r ≡ Record k → ⊥
+record-not-refused e = let z : _≡_ {A = ℕ} 0 1 = cc in omega arith
+
+pub head-due : (due : Due) (s : List ℕ) (k : Kind) → headOf due s ≡ Record k → isDue due (mark k) ≡ true
+unfolding headOf
+head-due due s k e =
+    by-test (ltb (length s) 2)
+    (λ h. absurd (record-not-refused (sym (cond-true _ _ h) ∙ e)))
+    (λ h. by-test (not (isDue due m))
+    (λ n. absurd (record-not-refused (sym (cond-false _ _ h ∙ cond-true _ _ n) ∙ e)))
+    (λ n. by-test (ltb (length s) (2 + bodyWidth (kindOf m)))
+    (λ b. absurd (record-not-refused (sym (cond-false _ _ h ∙ (cond-false _ _ n ∙ cond-true _ _ b)) ∙ e)))
+    (λ b. let found : Record (kindOf m) ≡ Record k = sym (cond-false _ _ h ∙ (cond-false _ _ n ∙ cond-false _ _ b)) ∙ e in
+    let kind : kindOf m ≡ k = cc in
+    ap (isDue due) (ap mark (sym kind) ∙ due-kind due m (not-false (isDue due m) n)) ∙ not-false (isDue due m) n)))
+  where
+    m : ℕ
+    m = fromBytes (take 2 s)

@@ -70,13 +70,21 @@ table-accepted n sets table e =
       sym (same-result (few .1)),
     )
 
+pub accepted-uncrowded : (n : ℕ) (sets : List ℕ) → Accepted n sets → uncrowded sets ≡ result (normal sets)
+unfolding uncrowded
+accepted-uncrowded n sets a = cond-false _ _ (le-ltb 1024 (length (cores (normal sets))) (a .few-cores))
+
+pub accepted-frame : (n : ℕ) (sets : List ℕ) → Accepted n sets → isFrame n ≡ true
+unfolding isFrame
+accepted-frame n sets a = and-intro (le-leb 1 n (a .low)) (le-leb n 64 (a .high))
+
 pub accepted-table : (n : ℕ) (sets : List ℕ) → Accepted n sets → normalTable n sets ≡ result (normal sets)
-unfolding normalTable uncrowded isFrame
+unfolding normalTable
 accepted-table n sets a =
-    cond-false _ _ (ap not (and-intro (le-leb 1 n (a .low)) (le-leb n 64 (a .high))))
+    cond-false _ _ (ap not (accepted-frame n sets a))
     ∙ (cond-false _ _ (some-not-empty sets (a .some))
     ∙ (cond-false _ _ (le-ltb 128 (length sets) (a .most))
-    ∙ (cond-false _ _ (ap not (all-intro (isSet n) sets (a .good))) ∙ cond-false _ _ (le-ltb 1024 (length (cores (normal sets))) (a .few-cores)))))
+    ∙ (cond-false _ _ (ap not (all-intro (isSet n) sets (a .good))) ∙ accepted-uncrowded n sets a)))
 
 -- ---- sets of the frame
 
