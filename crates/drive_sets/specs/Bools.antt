@@ -38,6 +38,23 @@ pub and-not : (a b : Bool) → a ≡ true → (a && b) ≡ false → b ≡ false
 and-not true b h e = e
 and-not false b h e = absurd (true≢false (sym h))
 
+-- the tests of a chain one after the other, as code makes them
+pub and-first : (a b : Bool) → a ≡ false → a ≡ (a && b)
+and-first true b h = absurd (true≢false h)
+and-first false b h = refl
+
+pub and-second : (a b : Bool) → a ≡ true → b ≡ (a && b)
+and-second true b h = refl
+and-second false b h = absurd (true≢false (sym h))
+
+pub or-first : (a b : Bool) → a ≡ true → a ≡ (a || b)
+or-first true b h = refl
+or-first false b h = absurd (true≢false (sym h))
+
+pub or-second : (a b : Bool) → a ≡ false → b ≡ (a || b)
+or-second true b h = absurd (true≢false h)
+or-second false b h = refl
+
 pub or-left : {a : Bool} (b : Bool) → a ≡ true → (a || b) ≡ true
 or-left b p = ap (λ (x : Bool). x || b) p
 

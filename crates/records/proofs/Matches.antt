@@ -1,8 +1,9 @@
 -- Marks matched: none of the known ones, and the two tests of a place where two kinds are due.
-use mathlib.Core.Path.{_≡_, sym, ap, _∙_}
-use mathlib.Core.Bool.{Bool, _||_}
+use mathlib.Core.Path.{_≡_}
+use mathlib.Core.Bool.{_||_}
 use Prim.Native.Nat.{ℕ}
 use lib.Dec.{eqb}
+use Rattle.drive_sets.specs.Bools.{or-first, or-second}
 use borrow.Author.Tests.{eq-eqb, ne-eqb}
 use Rattle.records.specs.declared.Kind.the-variants.{Frame, Survivor, Proposal, Crash, End, Known, Decide, Unknown}
 use Rattle.records.specs.Marks.{mark, kindOf}
@@ -14,7 +15,7 @@ kind-unknown m a b c d e f g =
     rw (ne-eqb m (mark Frame) a, ne-eqb m (mark Survivor) b, ne-eqb m (mark Proposal) c, ne-eqb m (mark Crash) d, ne-eqb m (mark End) e, ne-eqb m (mark Known) f, ne-eqb m (mark Decide) g)
 
 pub first-due : (m a b : ℕ) → m ≡ a → eqb m a ≡ (eqb m a || eqb m b)
-first-due m a b e = eq-eqb m a e ∙ sym (ap (λ (t : Bool). t || eqb m b) (eq-eqb m a e))
+first-due m a b e = or-first (eqb m a) (eqb m b) (eq-eqb m a e)
 
 pub second-due : (m a b : ℕ) → (m ≡ a → ⊥) → eqb m b ≡ (eqb m a || eqb m b)
-second-due m a b ne = sym (ap (λ (t : Bool). t || eqb m b) (ne-eqb m a ne))
+second-due m a b ne = or-second (eqb m a) (eqb m b) (ne-eqb m a ne)

@@ -1,13 +1,16 @@
 -- The part of a buffer from a place on, lent to a writer and come back: the bytes are written from that place on, and no other changes.
 use mathlib.Core.Path.{_≡_, sym, ap, _∙_}
 use mathlib.Core.List.{List, _++_, append-nil}
-use Prim.Native.Nat.{ℕ, _+_, _-_, _≤_, _<_}
-use native.Mathlib.Nat.{le-of-eq}
-use lib.ListN.{length, take, drop, length-drop, drop-of-length-le}
-use lib.Seq.{take-all}
+use Prim.Native.Nat.{ℕ, _+_, _-_, _≤_, _<_, min}
+use native.Mathlib.Nat.{le-of-eq, le-of-lt}
+use lib.ListN.{length, take, drop, length-take, length-drop, drop-of-length-le}
+use lib.Dec.{leb}
+use borrow.Author.Tests.{leb-true, leb-false}
+use Rattle.drive_sets.specs.Bools.{by-test}
+use lib.Seq.{take-all, take-nil, take-take}
 use borrow.Rule.Slice.PartMut.{putMid}
 use native.Mathlib.Omega.{arith}
-use Rattle.records.specs.Fields.{toBytes, written, writtenAt}
+use Rattle.records.specs.Fields.{fromBytes, toBytes, written, writtenAt}
 use Rattle.records.specs.Fields.Laws.{length-toBytes, written-none, written-then}
 use Rattle.records.specs.Marks.{recordBytes}
 use Rattle.records.specs.Marks.Laws.{length-record}
@@ -36,3 +39,26 @@ record-written m width x old first back h e f =
 
 pub record-none : (m width x : ℕ) (old : List ℕ) → length old < 2 + width → old ≡ written (recordBytes m width x) old
 record-none m width x old h = sym (written-none (recordBytes m width x) old (omega (arith, length-record m width x)))
+
+-- a field at a place: past the end, up to the end, or within
+module _ (s : List ℕ) (start width : ℕ) where
+  capped : take 8 (take width (drop start s)) ≡ take (min 8 width) (drop start s)
+  capped =
+      by-test (leb width 8)
+      (λ h. let le = leb-true width 8 h in
+      let e : width ≡ min 8 width = omega arith in
+      take-all 8 (take width (drop start s)) (omega (arith, length-take width (drop start s))) ∙ ap (λ (k : ℕ). take k (drop start s)) e)
+      (λ h. let lt = leb-false width 8 h in
+      let e : 8 ≡ min 8 width = omega arith in
+      take-take 8 width (drop start s) (omega arith) ∙ ap (λ (k : ℕ). take k (drop start s)) e)
+
+  pub field-past : length s < start → 0 ≡ fromBytes (take (min 8 width) (drop start s))
+  unfolding fromBytes
+  field-past h = sym (ap (λ (l : List ℕ). fromBytes (take (min 8 width) l)) (drop-of-length-le s (le-of-lt h)) ∙ ap fromBytes (take-nil (min 8 width)))
+
+  pub field-to-end : length s - start < width → fromBytes (take 8 (take (length s - start) (drop start s))) ≡ fromBytes (take (min 8 width) (drop start s))
+  field-to-end h =
+      ap fromBytes (ap (take 8) (rest-is s start ∙ sym (take-all width (drop start s) (omega (arith, length-drop start s)))) ∙ capped)
+
+  pub field-within : fromBytes (take 8 (take (start + width - start) (drop start s))) ≡ fromBytes (take (min 8 width) (drop start s))
+  field-within = let e : start + width - start ≡ width = omega arith in ap fromBytes (ap (λ (k : ℕ). take 8 (take k (drop start s))) e ∙ capped)

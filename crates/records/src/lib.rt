@@ -2,7 +2,8 @@
 // starts at the cursor. A mark is a number, matched to a record kind and tested against what is due.
 ghost use mathlib.Core.Path.{_≡_};
 ghost use Prim.Native.Nat.{min};
-ghost use lib.ListN.{take};
+ghost use lib.Dec.{eqb};
+ghost use lib.ListN.{take, drop};
 ghost use Rattle.records.specs.Fields.{fromBytes, toBytes, written};
 ghost use Rattle.records.specs.Marks.{mark, kindOf, bodyWidth, isDue, headOf, recordBytes};
 use drive_sets::Refusal;
@@ -75,6 +76,20 @@ pub fn from_bytes(s: &[u8]) -> u64
     x
 }
 
+// The field of a width at a place, of at most 8 bytes; bytes that are not there count as none.
+pub fn field(s: &[u8], at: usize, width: usize) -> u64
+    ensures { λ r. ⌜ r ≡ fromBytes (take (min 8 width) (drop at (now (s .entry)))) ⌝ }
+{
+    if s.len() < at {
+        return 0;
+    }
+    if s.len() - at < width {
+        return from_bytes(&s[at..]);
+    }
+    let end = at + width;
+    from_bytes(&s[at..end])
+}
+
 // The field of x over the first bytes of the part; every other byte stays.
 pub fn put_field(part: &mut [u8], width: usize, x: u64)
     ensures { λ _. ⌜ now (part .exit) ≡ written (toBytes width x) (now (part .entry)) ⌝ }
@@ -134,6 +149,22 @@ pub fn body_width(k: Kind) -> usize
         Kind::Known => 10,
         Kind::Decide => 4,
         Kind::Unknown => 0,
+    }
+}
+
+// A record of this kind ends a file.
+pub fn is_end(k: Kind) -> bool
+    ensures { λ r. ⌜ r ≡ eqb (mark k) (mark Kind.End) ⌝ }
+{
+    match k {
+        Kind::Frame => false,
+        Kind::Survivor => false,
+        Kind::Proposal => false,
+        Kind::Crash => false,
+        Kind::End => true,
+        Kind::Known => false,
+        Kind::Decide => false,
+        Kind::Unknown => false,
     }
 }
 

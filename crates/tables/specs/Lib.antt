@@ -1,3 +1,4 @@
--- Tables given as n and sets, and tables as bytes.
+-- Tables given as n and sets, tables as bytes, and reading as the code does it.
 pub mod Tables
 pub mod Files
+pub mod Reading

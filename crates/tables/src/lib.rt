@@ -1,1 +1,2 @@
-// Survivor tables: reading, writing, cores and the way back. So far their definitions, in specs/.
+// Survivor tables: reading, writing, cores and the way back.
+pub mod reading;

@@ -1,15 +1,15 @@
 -- Laws of marks and records: a mark is read back as its kind, and a record that was written is found where it is due, with its field
 -- and what stands behind it.
-use mathlib.Core.Path.{_≡_, refl, sym, ap, _∙_}
+use mathlib.Core.Path.{_≡_, refl, sym, ap, _∙_, subst}
 use mathlib.Core.Bool.{true, not, _||_}
 use mathlib.Core.Logic.{⊎-elim}
 use mathlib.Core.List.{List, _++_, append-assoc}
-use Prim.Native.Nat.{ℕ, _+_, _^_, _<_}
+use Prim.Native.Nat.{ℕ, _+_, _^_, _≤_, _<_}
 use native.Mathlib.Omega.{arith}
 use lib.ListN.{length, take, drop, length-append}
 use lib.Seq.{take-at, drop-at}
 use lib.Dec.{eqb, ltb}
-use borrow.Author.Tests.{le-ltb, eqb-true, not-false}
+use borrow.Author.Tests.{le-ltb, eqb-true, ltb-false, not-false}
 use Rattle.drive_sets.specs.Bools.{by-test, or-cases, cond-true, cond-false}
 use Rattle.drive_sets.specs.declared.Refusal.{Refusal}
 use Rattle.records.specs.declared.Due.{Due}
@@ -106,9 +106,14 @@ due-kind AtMessage m e = one-of m Known Decide e
 record-not-refused : {r : Refusal} {k : Kind} → Refused r ≡ Record k → ⊥
 record-not-refused e = let z : _≡_ {A = ℕ} 0 1 = cc in omega arith
 
-pub head-due : (due : Due) (s : List ℕ) (k : Kind) → headOf due s ≡ Record k → isDue due (mark k) ≡ true
+-- the record found: its mark is due, and its body is there
+pub record Present (due : Due) (s : List ℕ) (k : Kind) : Type 0 where
+  pub is-due : isDue due (mark k) ≡ true
+  pub long : 2 + bodyWidth k ≤ length s
+
+pub head-present : (due : Due) (s : List ℕ) (k : Kind) → headOf due s ≡ Record k → Present due s k
 unfolding headOf
-head-due due s k e =
+head-present due s k e =
     by-test (ltb (length s) 2)
     (λ h. absurd (record-not-refused (sym (cond-true _ _ h) ∙ e)))
     (λ h. by-test (not (isDue due m))
@@ -117,7 +122,14 @@ head-due due s k e =
     (λ b. absurd (record-not-refused (sym (cond-false _ _ h ∙ (cond-false _ _ n ∙ cond-true _ _ b)) ∙ e)))
     (λ b. let found : Record (kindOf m) ≡ Record k = sym (cond-false _ _ h ∙ (cond-false _ _ n ∙ cond-false _ _ b)) ∙ e in
     let kind : kindOf m ≡ k = cc in
-    ap (isDue due) (ap mark (sym kind) ∙ due-kind due m (not-false (isDue due m) n)) ∙ not-false (isDue due m) n)))
+    record {
+      is-due = ap (isDue due) (ap mark (sym kind) ∙ due-kind due m (not-false (isDue due m) n)) ∙ not-false (isDue due m) n;
+      long = subst (λ (j : Kind). 2 + bodyWidth j ≤ length s) kind (ltb-false (length s) (2 + bodyWidth (kindOf m)) b);
+    })))
   where
     m : ℕ
     m = fromBytes (take 2 s)
+
+-- a kind is known by its mark
+pub mark-unique : (j k : Kind) → mark j ≡ mark k → j ≡ k
+mark-unique j k e = sym (kind-mark j) ∙ (ap kindOf e ∙ kind-mark k)

@@ -26,7 +26,7 @@ use Rattle.records.specs.declared.Head.the-variants.{Record, Refused}
 use Rattle.records.specs.declared.Kind.{Kind}
 use Rattle.records.specs.Fields.{fromBytes}
 use Rattle.records.specs.Marks.{ascii, markText, mark, bodyWidth, isDue, headOf, recordBytes}
-use Rattle.records.specs.Marks.Laws.{head-record, head-due, record-field, record-rest}
+use Rattle.records.specs.Marks.Laws.{head-record, head-present, record-field, record-rest}
 use Rattle.tables.specs.Tables.{isFrame, isSet, isEmpty, cores, uncrowded}
 use Rattle.tables.specs.Tables.Laws.{Accepted, set-lt, accepted-uncrowded, accepted-frame, accepted-normal}
 use Rattle.tables.specs.Files.{ReadTable, atRecord, dueAfter, atEnd, readSets, readListed, accepted, readTable, readWhole, setRecords, tableBytes}
@@ -151,7 +151,7 @@ record-read (Record k) f e = (k, refl, e)
 end-listed : (listed s : List ℕ) (k : Kind) → headOf (dueAfter listed) s ≡ Record k → eqb (mark k) (mark End) ≡ true → 1 ≤ length listed
 unfolding dueAfter isDue mark markText ascii fromBytes
 end-listed [] s k e h =
-    let wrong = subst (λ (m : ℕ). isDue AtFirstSet m ≡ true) (eqb-true (mark k) (mark End) h) (head-due AtFirstSet s k e) in
+    let wrong = subst (λ (m : ℕ). isDue AtFirstSet m ≡ true) (eqb-true (mark k) (mark End) h) (head-present AtFirstSet s k e .is-due) in
     absurd (clash wrong refl)
 end-listed (x ∷ listed) s k e h = omega arith
 

@@ -1,0 +1,56 @@
+-- FR, its drives, then the sets.
+use Rattle.tables.proofs.Steps.{refused-outcome, listed-refused, frame-whole, listed-no-frame, listed-sets}
+use native.Mathlib.Omega.{arith}
+use mathlib.Core.Path.{refl, _∙_}
+use borrow.Author.Needs.{needs}
+use Rattle.tables.proofs.reading.read_listed.Statement.{statement}
+use Rattle.tables.proofs.reading.read_listed.Tie as tie
+
+read-head-requires : tie.Need-read-head-requires
+read-head-requires c κs = search needs
+
+enum-known-head : tie.Need-enum-known-head
+enum-known-head c = search needs
+
+refused-requires : tie.Need-refused-requires
+refused-requires c κs = search needs
+
+enum-told : tie.Need-enum-told
+enum-told c = search needs
+
+shared-slice-read-n : tie.Need-shared-slice-read-n
+shared-slice-read-n c = let a = c .before .before .before .before .before .args in omega (arith, frame-whole (a .s .now) _ (c .before .before .before .read-head .ensures) _ (c .before .enum-told .given .1))
+
+is-frame-requires : tie.Need-is-frame-requires
+is-frame-requires c κs = search needs
+
+refused-requires-2 : tie.Need-refused-requires-2
+refused-requires-2 c κs = search needs
+
+returns : tie.Need-returns
+returns c = let a = c .before .before .before .before .before .before .before .before .args in refused-outcome _ _ _ (c .refused2 .ensures) ∙ listed-no-frame (a .s .now) _ (c .before .before .before .before .before .before .read-head .ensures) _ (c .before .before .before .before .enum-told .given .1) _ _ refl (c .before .before .is-frame .ensures) (c .before .if1 .taken)
+
+read-sets-requires : tie.Need-read-sets-requires
+read-sets-requires c κs = let a = c .before .before .before .before .before .before .before .args in frame-whole (a .s .now) _ (c .before .before .before .before .before .read-head .ensures) _ (c .before .before .before .enum-told .given .1)
+
+returns-2 : tie.Need-returns-2
+returns-2 c = let a = c .before .before .before .before .before .before .args in refused-outcome _ _ _ (c .refused .ensures) ∙ listed-refused (a .s .now) _ (c .before .before .before .before .read-head .ensures) _ (c .before .before .head .given .1)
+
+returns-3 : tie.Need-returns-3
+returns-3 c = let a = c .before .before .before .before .before .before .before .before .args in c .read-sets .ensures ∙ listed-sets (a .s .now) _ (c .before .before .before .before .before .before .read-head .ensures) _ (c .before .before .before .before .enum-told .given .1) _ _ refl (c .before .before .is-frame .ensures) (c .before .if1 .left)
+
+pub read-listed-spec : {M : Type 1} → statement M
+read-listed-spec =
+    tie.close
+    (tie.spec
+    read-head-requires
+    enum-known-head
+    refused-requires
+    enum-told
+    shared-slice-read-n
+    is-frame-requires
+    refused-requires-2
+    returns
+    read-sets-requires
+    returns-2
+    returns-3)

@@ -1,0 +1,166 @@
+// The table reader: FR with n, 1 to 128 SV with a mask, EN with their count. Refusals are found from left to right.
+ghost use mathlib.Core.Path.{_≡_};
+ghost use mathlib.Core.List.{[]};
+ghost use Prim.Native.Nat.{_≤_};
+ghost use lib.ListN.{length, drop};
+ghost use Rattle.tables.specs.Tables.{isFrame, isSet};
+ghost use Rattle.tables.specs.Files.{readSets, readListed};
+ghost use Rattle.tables.specs.Reading.{dueOf, endStep, setStep, stepOf, readOutcome};
+use drive_sets::Refusal;
+use records::Due;
+use records::Head;
+use records::Kind;
+
+pub const MAX_SETS: usize = 128;
+
+// A table: n drives, and its sets, the first `count` of the array.
+pub struct Table {
+    pub n: u8,
+    pub count: usize,
+    pub sets: [u64; 128],
+}
+
+pub enum Answer {
+    Accepted,
+    Refused(Refusal),
+}
+
+// What reading gives: the table and how many bytes it took, where it is accepted.
+pub struct TableRead {
+    pub answer: Answer,
+    pub table: Table,
+    pub used: usize,
+}
+
+// What stands where a set or the end is due.
+enum Step {
+    Set(u64),
+    End,
+    Stop(Refusal),
+}
+
+// 1 to 64 drives.
+pub fn is_frame(n: u8) -> bool
+    ensures { λ r. ⌜ r ≡ isFrame n ⌝ }
+{
+    1 <= n && n <= drive_sets::MAX_DRIVES
+}
+
+// A set of the drives 1 to n, not empty.
+pub fn is_set(n: u8, s: u64) -> bool
+    ensures { λ r. ⌜ r ≡ isSet n s ⌝ }
+{
+    s != 0 && drive_sets::subset(s, drive_sets::full(n))
+}
+
+// After FR a set is due, and after a set another one or the end.
+fn due_after(count: usize) -> Due
+    ensures { λ r. ⌜ r ≡ dueOf count ⌝ }
+{
+    if count == 0 {
+        Due::AtFirstSet
+    } else {
+        Due::AtSetOrEnd
+    }
+}
+
+fn refused(r: Refusal) -> TableRead
+    ensures { λ t. ⌜ t .answer ≡ Answer.Refused r ⌝ }
+{
+    TableRead {
+        answer: Answer::Refused(r),
+        table: Table {
+            n: 0,
+            count: 0,
+            sets: [0u64; 128],
+        },
+        used: 0,
+    }
+}
+
+// The end, where `count` sets are listed.
+fn end_step(s: &[u8], count: usize) -> Step
+    ensures { λ r. ⌜ r ≡ endStep count (now (s .entry)) ⌝ }
+{
+    if records::field(s, 2, 1) == count as u64 {
+        Step::End
+    } else {
+        Step::Stop(Refusal::CountDiffers)
+    }
+}
+
+// One set more than `count`.
+fn set_step(s: &[u8], n: u8, count: usize) -> Step
+    ensures { λ r. ⌜ r ≡ setStep n count (now (s .entry)) ⌝ }
+{
+    if MAX_SETS <= count {
+        return Step::Stop(Refusal::TooManySets);
+    }
+    let set = records::field(s, 2, 8);
+    if is_set(n, set) {
+        Step::Set(set)
+    } else {
+        Step::Stop(Refusal::BadSet)
+    }
+}
+
+// The record at the start of the bytes, where `count` sets are listed before it.
+fn next_step(s: &[u8], n: u8, count: usize) -> Step
+    ensures { λ r. ⌜ r ≡ stepOf n count (now (s .entry)) ⌝ }
+{
+    let head = records::read_head(s, due_after(count));
+    match head {
+        Head::Refused(r) => Step::Stop(r),
+        Head::Record(kind) => {
+            if records::is_end(kind) {
+                return end_step(s, count);
+            }
+            set_step(s, n, count)
+        }
+    }
+}
+
+// The records after the three bytes of FR.
+fn read_sets(s: &[u8], n: u8) -> TableRead
+    requires { ⌜ 3 ≤ length (now s) ⌝ }
+    ensures { λ r. ⌜ readOutcome r (now (s .entry)) ≡ readSets 128 n [] (drop 3 (now (s .entry))) ⌝ }
+{
+    let mut sets = [0u64; 128];
+    let mut count = 0;
+    let mut at = 3;
+    loop {
+        let next = next_step(&s[at..], n, count);
+        match next {
+            Step::Stop(r) => return refused(r),
+            Step::End => {
+                return TableRead {
+                    answer: Answer::Accepted,
+                    table: Table { n, count, sets },
+                    used: at + 3,
+                };
+            }
+            Step::Set(set) => {
+                sets[count] = set;
+                count += 1;
+                at += 10;
+            }
+        }
+    }
+}
+
+// A table as it is listed.
+fn read_listed(s: &[u8]) -> TableRead
+    ensures { λ r. ⌜ readOutcome r (now (s .entry)) ≡ readListed (now (s .entry)) ⌝ }
+{
+    let head = records::read_head(s, Due::AtFrame);
+    match head {
+        Head::Refused(r) => refused(r),
+        Head::Record(_) => {
+            let n = s[2];
+            if !is_frame(n) {
+                return refused(Refusal::FrameSize);
+            }
+            read_sets(s, n)
+        }
+    }
+}
