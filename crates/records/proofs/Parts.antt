@@ -26,16 +26,20 @@ part-written old back new start e =
     ap (λ (t : List ℕ). take start old ++ (back ++ t)) (drop-of-length-le (drop start old) (le-of-eq (length-drop start old)))
     ∙ ap (λ (t : List ℕ). take start old ++ t) (append-nil back ∙ (e ∙ ap (written new) (rest-is old start)))
 
--- a mark, and then its field over the part behind it
+-- bytes over the part behind those already written
+pub part-then : (old a b part back : List ℕ) (start : ℕ) → part ≡ written a old → start ≡ length a → length a + length b ≤ length old
+    → back ≡ written b (take (length part - start) (drop start part)) → putMid start (length part - start) part back ≡ written (a ++ b) old
+part-then old a b part back start p e h f =
+    part-written part back b start f
+    ∙ (ap (writtenAt start b) p ∙ (ap (λ (k : ℕ). writtenAt k b (written a old)) e ∙ written-then a b old h))
+
+-- a mark, and then its field
 pub record-written : (m width x : ℕ) (old first back : List ℕ) → 2 + width ≤ length old → first ≡ written (toBytes 2 m) old
     → back ≡ written (toBytes width x) (take (length first - 2) (drop 2 first))
     → putMid 2 (length first - 2) first back ≡ written (recordBytes m width x) old
 unfolding recordBytes
 record-written m width x old first back h e f =
-    part-written first back (toBytes width x) 2 f
-    ∙ (ap (writtenAt 2 (toBytes width x)) e
-    ∙ (ap (λ (k : ℕ). writtenAt k (toBytes width x) (written (toBytes 2 m) old)) (sym (length-toBytes 2 m))
-    ∙ written-then (toBytes 2 m) (toBytes width x) old (omega (arith, length-toBytes 2 m, length-toBytes width x))))
+    part-then old (toBytes 2 m) (toBytes width x) first back 2 e (sym (length-toBytes 2 m)) (omega (arith, length-toBytes 2 m, length-toBytes width x)) f
 
 pub record-none : (m width x : ℕ) (old : List ℕ) → length old < 2 + width → old ≡ written (recordBytes m width x) old
 record-none m width x old h = sym (written-none (recordBytes m width x) old (omega (arith, length-record m width x)))

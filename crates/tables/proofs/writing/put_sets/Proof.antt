@@ -1,0 +1,80 @@
+-- The records of the sets, one behind the other.
+use borrow.Author.Needs.{needs}
+use Rattle.tables.proofs.Writes.{Writing, sets-none, writing-start, writing-turn, writing-end}
+use Rattle.records.specs.Marks.{ascii, markText, mark}
+use Rattle.records.specs.Fields.{fromBytes}
+use lib.ListN.{length}
+use Prim.Native.Nat.{_-_}
+use mathlib.Core.Path.{refl}
+use Rattle.tables.proofs.writing.put_sets.Statement.{statement}
+use Rattle.tables.proofs.writing.put_sets.Tie as tie
+
+abbrev Inv-loop : tie.InvT-loop
+Inv-loop part₀ sets at₀ i₀ part at i = Writing part₀ sets part at i
+
+abbrev μ-loop : tie.MeasureT-loop
+μ-loop part₀ sets at₀ i₀ part at i = length sets - i
+
+returns : tie.Need-returns Inv-loop μ-loop
+returns c = sets-none (c .before .before .before .args .part .now) (c .before .before .before .args .sets .now) (c .if1 .taken)
+
+loop-holds : tie.Need-loop-holds Inv-loop μ-loop
+loop-holds c = writing-start (c .before .before .before .args .part .now) (c .before .before .before .args .sets .now) (c .if1 .left)
+
+sub-put-record : tie.Need-sub-put-record Inv-loop μ-loop
+sub-put-record c = search needs
+
+part-put-record-start : tie.Need-part-put-record-start Inv-loop μ-loop
+part-put-record-start c = search needs
+
+part-put-record-end : tie.Need-part-put-record-end Inv-loop μ-loop
+part-put-record-end c = search needs
+
+mul-put-record : tie.Need-mul-put-record Inv-loop μ-loop
+mul-put-record c = search needs
+
+shared-slice-read-put-record : tie.Need-shared-slice-read-put-record Inv-loop μ-loop
+shared-slice-read-put-record c = search needs
+
+put-record-requires : tie.Need-put-record-requires Inv-loop μ-loop
+put-record-requires c κs = search needs
+
+add-at : tie.Need-add-at Inv-loop μ-loop
+add-at c = search needs
+
+add-i : tie.Need-add-i Inv-loop μ-loop
+add-i c = search needs
+
+loop-less : tie.Need-loop-less Inv-loop μ-loop
+loop-less c = search needs
+
+loop-again : tie.Need-loop-again Inv-loop μ-loop
+unfolding mark markText ascii fromBytes
+loop-again c = writing-turn _ _ _ _ _ (c .before .before .before .before .before .before .loop .inv) (c .before .before .before .before .before .loop-test .taken) _ _ _ refl refl (c .before .before .put-record .ensures)
+
+same-length : tie.Need-same-length Inv-loop μ-loop
+same-length c = c .before .loop .inv .long
+
+returns-2 : tie.Need-returns-2 Inv-loop μ-loop
+returns-2 c = writing-end _ _ _ _ _ (c .before .loop .inv) (c .loop-test .left)
+
+pub put-sets-spec : {M : Type 1} → statement M
+put-sets-spec =
+    tie.close
+    (tie.spec
+    Inv-loop
+    μ-loop
+    returns
+    loop-holds
+    sub-put-record
+    part-put-record-start
+    part-put-record-end
+    mul-put-record
+    shared-slice-read-put-record
+    put-record-requires
+    add-at
+    add-i
+    loop-less
+    loop-again
+    same-length
+    returns-2)
