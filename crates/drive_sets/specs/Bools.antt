@@ -1,7 +1,8 @@
--- Tests: going by the two cases of one, and how tests combine.
-use mathlib.Core.Path.{_≡_, refl, sym, ap, _∙_}
-use mathlib.Core.Bool.{Bool, true, false, not, _&&_, _||_, cond, true≢false}
+-- Tests: going by the two cases of one, how tests combine, and tests of numbers as sets.
+use mathlib.Core.Path.{_≡_, refl, sym, ap, _∙_, fun-ext}
+use mathlib.Core.Bool.{Bool, true, false, not, _&&_, _||_, cond, true≢false, Bool·beq}
 use mathlib.Core.Logic.{_⊎_, inl, inr}
+use Prim.Native.Nat.{ℕ}
 
 pub clash : {b : Bool} → b ≡ true → b ≡ false → ⊥
 clash p q = true≢false (sym p ∙ q)
@@ -90,3 +91,30 @@ module _ {ℓ} {A : Type ℓ} (x y : A) where
 
   pub cond-false : {b : Bool} → b ≡ false → cond b x y ≡ y
   cond-false p = ap (λ (t : Bool). cond t x y) p
+
+-- the test whether two tests agree
+pub beq-eq : (a b : Bool) → Bool·beq a b ≡ true → a ≡ b
+beq-eq true true h = refl
+beq-eq true false h = sym h
+beq-eq false true h = h
+beq-eq false false h = refl
+
+pub eq-beq : (a b : Bool) → a ≡ b → Bool·beq a b ≡ true
+eq-beq true true h = refl
+eq-beq true false h = sym h
+eq-beq false true h = h
+eq-beq false false h = refl
+
+-- of two tests that differ, where the first implies the second, the second alone is true
+pub beq-differ : (a b : Bool) → (a ≡ true → b ≡ true) → Bool·beq a b ≡ false → (a ≡ false) × (b ≡ true)
+beq-differ true b f h = absurd (clash (eq-beq true b (sym (f refl))) h)
+beq-differ false true f h = (refl, refl)
+beq-differ false false f h = absurd (clash refl h)
+
+infix 4 _⊆_
+-- every number of the set p is in the set q
+abbrev pub _⊆_ : (ℕ → Bool) → (ℕ → Bool) → Type 0
+p ⊆ q = (x : ℕ) → p x ≡ true → q x ≡ true
+
+pub same-sets : {p q : ℕ → Bool} → p ⊆ q → q ⊆ p → p ≡ q
+same-sets {p} {q} f g = fun-ext (λ x. same-test (p x) (q x) (f x) (g x))

@@ -1,10 +1,15 @@
--- Lists of numbers: a range, those that pass a test, tests of all and of some. All of it computes on numerals.
+-- Lists of numbers: a range, those that pass a test, tests of all and of some, the smallest value on a list and the first.
+-- All of it computes on numerals.
 use mathlib.Core.Bool.{Bool, true, false, not, _&&_, _||_, cond}
 use mathlib.Core.List.{List, [], _∷_}
-use Prim.Native.Nat.{ℕ, zero, suc}
+use mathlib.Core.Option.{Option, none, some, orElse}
+use Prim.Native.Nat.{ℕ, zero, suc, min}
 use lib.Dec.{eqb}
 pub mod Laws
 pub mod Distinct
+pub mod Counts
+pub mod Smallest
+pub mod FirstSome
 
 -- a, a + 1, .., k of them
 unfoldable pub range : ℕ → ℕ → List ℕ
@@ -42,3 +47,18 @@ ordered before (x ∷ l) = all (before x) l && ordered before l
 unfoldable pub distinct : List ℕ → Bool
 distinct [] = true
 distinct (x ∷ l) = not (elem x l) && distinct l
+
+-- the smaller of a and b, where there is a b
+unfoldable pub smaller : ℕ → Option ℕ → ℕ
+smaller a none = a
+smaller a (some b) = min a b
+
+-- the smallest value of f on the list; none where the list is empty
+unfoldable pub smallest : (ℕ → ℕ) → List ℕ → Option ℕ
+smallest f [] = none
+smallest f (x ∷ l) = some (smaller (f x) (smallest f l))
+
+-- the first value that f has on the list, f being partial
+unfoldable pub firstSome : (ℕ → Option ℕ) → List ℕ → Option ℕ
+firstSome f [] = none
+firstSome f (x ∷ l) = orElse (f x) (firstSome f l)

@@ -1,0 +1,2 @@
+-- The rounds of SyncCrash, and the proof that they reach agreement.
+pub mod Rounds

@@ -1,0 +1,82 @@
+-- Quiet rounds: Q of the proof on paper. Where e decides by a quiet round, everybody else who sends was heard by e and is undecided (Q1),
+-- no core drive that closes the round knows more than e (Q2), and a listener e knows just what each of them knows (Q3).
+use mathlib.Core.Path.{_≡_, _∙_}
+use mathlib.Core.Bool.{true, false}
+use mathlib.Core.Logic.{⊎-elim}
+use mathlib.Core.Option.{none, some}
+use Prim.Native.Nat.{ℕ, suc}
+use Rattle.drive_sets.specs.Bools.{by-test, and-left, and-right, beq-eq, _⊆_, same-sets}
+use Rattle.drive_sets.specs.Lists.{range, any}
+use Rattle.drive_sets.specs.Lists.Laws.{all-elem, any-elem}
+use Rattle.agreement.specs.Rounds.{Instance, InFrame, Lawful, heard, unchanged, quiet, after, knows, before, decision}
+use Rattle.agreement.specs.Rounds.Steps.{Sender, Closer, knows-stays, closer-active, active-sends, heard-cases, learns, learnt}
+use Rattle.agreement.specs.Rounds.Decisions.{QuietClose, announced-none, decides-quiet}
+use Rattle.agreement.specs.Rounds.Validity.{smallestOf-some, knows-own, knows-core}
+use Rattle.agreement.specs.Rounds.HeardSets.{sender-was-heard}
+use Rattle.agreement.specs.Rounds.Listeners.{listener-knows-less}
+
+module _ {S : Instance} (L : Lawful S) where
+  open Instance S using (n, core)
+  open Lawful L using (in-frame)
+
+  pub quiet-unchanged : (k e d : ℕ) → quiet S (after S k) k e ≡ true → InFrame S d → heard S (after S k) k e d ≡ before S k e d
+  unfolding quiet unchanged
+  quiet-unchanged k e d q f =
+      beq-eq (heard S (after S k) k e d) (before S k e d)
+      (all-elem (unchanged S (after S k) k e) (range 1 n) d (and-right (any (heard S (after S k) k e) (range 1 n)) _ q) f)
+
+  -- every sender is heard
+  pub quiet-hears : {k e d : ℕ} → quiet S (after S k) k e ≡ true → Closer S k e → Sender S k d → heard S (after S k) k e d ≡ true
+  quiet-hears {k} {e} {d} q c s = quiet-unchanged k e d q (in-frame (s .in-core)) ∙ sender-was-heard L k s (closer-active L c)
+
+  module _ {k e : ℕ} (q : QuietClose S k e) where
+    -- a quiet drive heard somebody, so that it knows a number and decides
+    quiet-knows : (x : ℕ) × (knows S (suc k) e x ≡ true)
+    unfolding quiet
+    quiet-knows =
+        let w = any-elem (heard S (after S k) k e) (range 1 n) (and-left (any (heard S (after S k) k e) (range 1 n)) _ (q .same)) in
+        let d = w .0 in
+        ⊎-elim
+        (λ r. (d, learns L (q .closer) r (announced-none L (q .unannounced) r) d (knows-own L k (r .sender .in-core))))
+        (λ p. (e, knows-own L (suc k) (p .0)))
+        (heard-cases L k e d (w .2))
+
+    pub quiet-decides : (v : ℕ) × (decision S (suc k) e ≡ some v)
+    quiet-decides =
+        let w = quiet-knows in
+        let v = smallestOf-some L (knows S (suc k) e) (w .0) (in-frame (knows-core L (suc k) e (w .0) (w .1))) (w .1) in
+        (v .0, decides-quiet L q ∙ v .1)
+
+    -- Q1. Nobody who sends has decided.
+    pub quiet-undecided : {d : ℕ} → Sender S k d → decision S k d ≡ none
+    quiet-undecided {d} s =
+        ⊎-elim (λ r. announced-none L (q .unannounced) r) (λ p. rw (p .1) (q .undecided)) (heard-cases L k e d (quiet-hears (q .same) (q .closer) s))
+
+    -- what a sender knew when the round began, e knows at its close
+    pub quiet-learns : {d : ℕ} → Sender S k d → knows S k d ⊆ knows S (suc k) e
+    quiet-learns {d} s x t =
+        ⊎-elim
+        (λ r. learns L (q .closer) r (quiet-undecided s) x t)
+        (λ p. knows-stays L k e x (rw (p .1) at t))
+        (heard-cases L k e d (quiet-hears (q .same) (q .closer) s))
+
+    module _ {d : ℕ} (i : core d ≡ true) (c : Closer S k d) where
+      -- Q2
+      pub quiet-knows-most : knows S (suc k) d ⊆ knows S (suc k) e
+      quiet-knows-most x t =
+          ⊎-elim (quiet-learns (active-sends L i (closer-active L c)) x) (λ w. quiet-learns (w .reached .sender) x (w .knew)) (learnt L c x t)
+
+      -- Q3
+      pub listener-knows-same : core e ≡ false → knows S (suc k) e ≡ knows S (suc k) d
+      listener-knows-same l = same-sets (listener-knows-less L l i (q .closer) c) quiet-knows-most
+
+  -- All who decide by a quiet round know the same, some core drive p closing the round: two core drives by Q2 both ways, a listener by F3.
+  module _ {k p : ℕ} (i : core p ≡ true) (c : Closer S k p) where
+    quiet-knows-less : {d e : ℕ} → QuietClose S k d → QuietClose S k e → knows S (suc k) d ⊆ knows S (suc k) e
+    quiet-knows-less {d} a b =
+        by-test (core d)
+        (λ t. quiet-knows-most b t (a .closer))
+        (λ t x h. quiet-knows-most b i c x (listener-knows-less L t i (a .closer) c x h))
+
+    pub quiet-knows-same : {d e : ℕ} → QuietClose S k d → QuietClose S k e → knows S (suc k) d ≡ knows S (suc k) e
+    quiet-knows-same a b = same-sets (quiet-knows-less a b) (quiet-knows-less b a)
