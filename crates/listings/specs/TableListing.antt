@@ -2,7 +2,6 @@
 -- On a refusal only `refused` and its number.
 use mathlib.Core.List.{List, [], _∷_, _++_}
 use Prim.Native.Nat.{ℕ}
-use Prim.Native.String.{String}
 use Rattle.drive_sets.specs.Refusals.{Outcome, refused, result, number}
 use Rattle.records.specs.Marks.{ascii}
 use Rattle.tables.specs.Tables.{cores, chosen}
@@ -16,29 +15,29 @@ fields text [] = []
 fields text (x ∷ l) = ascii " " ++ (text x ++ fields text l)
 
 -- a line: a word and its fields
-unfoldable pub line : String → List ℕ → List ℕ
-line word rest = ascii word ++ (rest ++ ascii "\n")
+unfoldable pub line : List ℕ → List ℕ → List ℕ
+line word rest = word ++ (rest ++ ascii "\n")
 
 -- a line for each mask
-unfoldable pub maskLines : String → List ℕ → List ℕ
+unfoldable pub maskLines : List ℕ → List ℕ → List ℕ
 maskLines word [] = []
 maskLines word (m ∷ l) = line word (fields hexadecimal (m ∷ [])) ++ maskLines word l
 
 unfoldable pub verdictLine : ℕ → Verdict → List ℕ
-verdictLine k yes = line "k" (fields decimal (k ∷ []) ++ ascii " yes")
+verdictLine k yes = line (ascii "k") (fields decimal (k ∷ []) ++ ascii " yes")
 verdictLine k (no positions blocks) =
-    line "k" (fields decimal (k ∷ []) ++ (ascii " no sets" ++ (fields decimal positions ++ (ascii " blocks" ++ fields hexadecimal blocks))))
+    line (ascii "k") (fields decimal (k ∷ []) ++ (ascii " no sets" ++ (fields decimal positions ++ (ascii " blocks" ++ fields hexadecimal blocks))))
 
 unfoldable pub refusalLine : ℕ → List ℕ
-refusalLine k = line "refused" (fields decimal (k ∷ []))
+refusalLine k = line (ascii "refused") (fields decimal (k ∷ []))
 
 -- the listing of a normal table
 unfoldable pub listing : ℕ → List ℕ → List ℕ
 listing n table =
-    line "drives" (fields decimal (n ∷ []))
-    ++ (maskLines "set" table
-    ++ (maskLines "core" (cores table)
-    ++ (line "chosen" (fields hexadecimal (chosen table ∷ []))
+    line (ascii "drives") (fields decimal (n ∷ []))
+    ++ (maskLines (ascii "set") table
+    ++ (maskLines (ascii "core") (cores table)
+    ++ (line (ascii "chosen") (fields hexadecimal (chosen table ∷ []))
     ++ (verdictLine 2 (verdictOn 2 n table) ++ (verdictLine 3 (verdictOn 3 n table) ++ verdictLine 4 (verdictOn 4 n table))))))
 
 abbrev pub listingOf : Outcome ReadTable → List ℕ

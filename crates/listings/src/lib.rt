@@ -1,1 +1,2 @@
-// The text that the programs print. So far its definition, in specs/, and the marked cases of document 01.
+// The text that the programs print, written into a lent buffer.
+mod text;
