@@ -13,7 +13,7 @@ use Rattle.tables.specs.Tables.{isFrame, isSet, isEmpty, cores, chosen, uncrowd
 use Rattle.tables.specs.Files.{dueAfter, atEnd, readSets, readListed, accepted, readWhole}
 use Rattle.verdicts.specs.Verdicts.{firstWith, disjoint, blocksOf, verdictOn}
 use Rattle.listings.specs.Text.{digit, inBase, decimal, hexadecimal}
-use Rattle.listings.specs.TableListing.{fields, line, maskLines, verdictLine, refusalLine, listing, tableProgram}
+use Rattle.listings.specs.TableListing.{fields, line, lines, verdictLine, refusalLine, listing, tableProgram}
 
 -- a program as a function of its input, an input, and the output that is due
 pub record Case : Type 0 where
@@ -71,5 +71,5 @@ marked =
     ∷ []
 
 pub marked-cases : AllGiven marked
-unfolding marked sv fileA fileC fileH fileI onesIn range keep all any has single full union common minus outside meets subset size drives alone forEach search minimals byMask bySize insert sort dropRepeats holdsAnother normal fromBytes ascii markText mark bodyWidth kindOf isDue headOf isFrame isSet isEmpty cores chosen uncrowded dueAfter atEnd readSets readListed accepted readWhole firstWith disjoint blocksOf verdictOn digit inBase decimal hexadecimal fields line maskLines verdictLine refusalLine listing tableProgram
+unfolding marked sv fileA fileC fileH fileI onesIn range keep all any has single full union common minus outside meets subset size drives alone forEach search minimals byMask bySize insert sort dropRepeats holdsAnother normal fromBytes ascii markText mark bodyWidth kindOf isDue headOf isFrame isSet isEmpty cores chosen uncrowded dueAfter atEnd readSets readListed accepted readWhole firstWith disjoint blocksOf verdictOn digit inBase decimal hexadecimal fields line lines verdictLine refusalLine listing tableProgram
 marked-cases = (refl, (refl, (refl, (refl, tt))))

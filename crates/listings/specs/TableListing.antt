@@ -18,10 +18,10 @@ fields text (x ∷ l) = ascii " " ++ (text x ++ fields text l)
 unfoldable pub line : List ℕ → List ℕ → List ℕ
 line word rest = word ++ (rest ++ ascii "\n")
 
--- a line for each mask
-unfoldable pub maskLines : List ℕ → List ℕ → List ℕ
-maskLines word [] = []
-maskLines word (m ∷ l) = line word (fields hexadecimal (m ∷ [])) ++ maskLines word l
+-- a line for each value
+unfoldable pub lines : List ℕ → (ℕ → List ℕ) → List ℕ → List ℕ
+lines word text [] = []
+lines word text (x ∷ l) = line word (fields text (x ∷ [])) ++ lines word text l
 
 unfoldable pub verdictLine : ℕ → Verdict → List ℕ
 verdictLine k yes = line (ascii "k") (fields decimal (k ∷ []) ++ ascii " yes")
@@ -35,8 +35,8 @@ refusalLine k = line (ascii "refused") (fields decimal (k ∷ []))
 unfoldable pub listing : ℕ → List ℕ → List ℕ
 listing n table =
     line (ascii "drives") (fields decimal (n ∷ []))
-    ++ (maskLines (ascii "set") table
-    ++ (maskLines (ascii "core") (cores table)
+    ++ (lines (ascii "set") hexadecimal table
+    ++ (lines (ascii "core") hexadecimal (cores table)
     ++ (line (ascii "chosen") (fields hexadecimal (chosen table ∷ []))
     ++ (verdictLine 2 (verdictOn 2 n table) ++ (verdictLine 3 (verdictOn 3 n table) ++ verdictLine 4 (verdictOn 4 n table))))))
 

@@ -1,0 +1,59 @@
+-- The fields of a list, item by item.
+use borrow.Author.Needs.{needs}
+use Rattle.listings.proofs.Puts.{Putting, putting-start, putting-turn, putting-end, fields-by-item}
+use Rattle.listings.specs.TableListing.{fields}
+use Rattle.listings.specs.Text.{inBase}
+use lib.ListN.{length}
+use mathlib.Core.Path.{refl}
+use Prim.Native.Nat.{_-_}
+use Rattle.listings.proofs.lines.put_fields.Statement.{statement}
+use Rattle.listings.proofs.lines.put_fields.Tie as tie
+
+abbrev Inv-loop : tie.InvT-loop
+Inv-loop buf₀ start base most numbers at₀ i₀ buf at i = Putting (fields (inBase base most)) buf₀ numbers buf start at i
+
+abbrev μ-loop : tie.MeasureT-loop
+μ-loop buf₀ start base most numbers at₀ i₀ buf at i = length numbers - i
+
+loop-holds : tie.Need-loop-holds Inv-loop μ-loop
+loop-holds c = putting-start (fields-by-item (inBase (c .before .before .args .base) (c .before .before .args .most))) _ _ _ (c .before .before .pre .0)
+
+mul-put-value : tie.Need-mul-put-value Inv-loop μ-loop
+mul-put-value c = search needs
+
+shared-slice-read-put-value : tie.Need-shared-slice-read-put-value Inv-loop μ-loop
+shared-slice-read-put-value c = search needs
+
+put-value-requires : tie.Need-put-value-requires Inv-loop μ-loop
+put-value-requires c κs = search needs
+
+add-i : tie.Need-add-i Inv-loop μ-loop
+add-i c = search needs
+
+loop-less : tie.Need-loop-less Inv-loop μ-loop
+loop-less c = search needs
+
+loop-again : tie.Need-loop-again Inv-loop μ-loop
+loop-again c = putting-turn (fields-by-item (inBase (c .before .before .before .before .before .before .before .before .before .args .base) (c .before .before .before .before .before .before .before .before .before .args .most))) (c .before .before .before .before .before .before .loop .inv) (c .before .before .before .before .before .loop-test .taken) refl (search needs) (c .before .before .put-value .ensures)
+
+same-length : tie.Need-same-length Inv-loop μ-loop
+same-length c = c .before .loop .inv .long
+
+returns : tie.Need-returns Inv-loop μ-loop
+returns c = putting-end (c .before .loop .inv) (c .loop-test .left)
+
+pub put-fields-spec : {M : Type 1} → statement M
+put-fields-spec =
+    tie.close
+    (tie.spec
+    Inv-loop
+    μ-loop
+    loop-holds
+    mul-put-value
+    shared-slice-read-put-value
+    put-value-requires
+    add-i
+    loop-less
+    loop-again
+    same-length
+    returns)

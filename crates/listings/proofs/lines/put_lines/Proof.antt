@@ -1,0 +1,59 @@
+-- The lines of a list, item by item.
+use borrow.Author.Needs.{needs}
+use Rattle.listings.proofs.Puts.{Putting, putting-start, putting-turn, putting-end, lines-by-item}
+use Rattle.listings.specs.TableListing.{lines}
+use Rattle.listings.specs.Text.{inBase}
+use lib.ListN.{length}
+use mathlib.Core.Path.{refl}
+use Prim.Native.Nat.{_-_}
+use Rattle.listings.proofs.lines.put_lines.Statement.{statement}
+use Rattle.listings.proofs.lines.put_lines.Tie as tie
+
+abbrev Inv-loop : tie.InvT-loop
+Inv-loop buf₀ start word base most numbers at₀ i₀ buf at i = Putting (lines word (inBase base most)) buf₀ numbers buf start at i
+
+abbrev μ-loop : tie.MeasureT-loop
+μ-loop buf₀ start word base most numbers at₀ i₀ buf at i = length numbers - i
+
+loop-holds : tie.Need-loop-holds Inv-loop μ-loop
+loop-holds c = let a = c .before .before .before .args in putting-start (lines-by-item (a .word .now) (inBase (a .base) (a .most))) _ _ _ (c .before .before .before .pre .0)
+
+mul-put-line : tie.Need-mul-put-line Inv-loop μ-loop
+mul-put-line c = search needs
+
+shared-slice-read-put-line : tie.Need-shared-slice-read-put-line Inv-loop μ-loop
+shared-slice-read-put-line c = search needs
+
+put-line-requires : tie.Need-put-line-requires Inv-loop μ-loop
+put-line-requires c κs = search needs
+
+add-i : tie.Need-add-i Inv-loop μ-loop
+add-i c = search needs
+
+loop-less : tie.Need-loop-less Inv-loop μ-loop
+loop-less c = search needs
+
+loop-again : tie.Need-loop-again Inv-loop μ-loop
+loop-again c = let a = c .before .before .before .before .before .before .before .before .before .before .args in putting-turn (lines-by-item (a .word .now) (inBase (a .base) (a .most))) (c .before .before .before .before .before .before .loop .inv) (c .before .before .before .before .before .loop-test .taken) refl (search needs) (c .before .before .put-line .ensures)
+
+same-length : tie.Need-same-length Inv-loop μ-loop
+same-length c = c .before .loop .inv .long
+
+returns : tie.Need-returns Inv-loop μ-loop
+returns c = putting-end (c .before .loop .inv) (c .loop-test .left)
+
+pub put-lines-spec : {M : Type 1} → statement M
+put-lines-spec =
+    tie.close
+    (tie.spec
+    Inv-loop
+    μ-loop
+    loop-holds
+    mul-put-line
+    shared-slice-read-put-line
+    put-line-requires
+    add-i
+    loop-less
+    loop-again
+    same-length
+    returns)
