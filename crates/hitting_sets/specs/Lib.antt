@@ -1,6 +1,8 @@
--- Hitting sets, the search for the minimal ones, its look-ahead, orders of masks, cores and sets as duals, and cores from executions.
+-- Hitting sets, the search for the minimal ones, its look-ahead, the first set missed, orders of masks, cores and sets as duals, and cores
+-- from executions.
 pub mod Hitting
 pub mod LookAhead
+pub mod Missed
 pub mod Order
 pub mod Duality
 pub mod Executions

@@ -1,1 +1,2 @@
-// The minimal hitting sets of a list of masks: the engine of the cores and of the way back. So far its definitions, in specs/.
+// The minimal hitting sets of a list of sets of drives: the engine of the cores and of the way back.
+pub mod search;

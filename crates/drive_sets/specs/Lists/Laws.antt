@@ -122,6 +122,14 @@ any-intro p (y ∷ l) x e h =
 pub any-not : (p : ℕ → Bool) (l : List ℕ) (x : ℕ) → any p l ≡ false → elem x l ≡ true → p x ≡ false
 any-not p l x h e = false-of (p x) (λ q. clash (any-intro p l x e q) h)
 
+pub any-true : (p : ℕ → Bool) (x : ℕ) (l : List ℕ) → p x ≡ true → any p (x ∷ l) ≡ true
+unfolding any
+any-true p x l h = or-left (any p l) h
+
+pub any-false : (p : ℕ → Bool) (x : ℕ) (l : List ℕ) → p x ≡ false → any p (x ∷ l) ≡ any p l
+unfolding any
+any-false p x l h = ap (λ (b : Bool). b || any p l) h
+
 -- ---- kept elements
 
 pub keep-true : (p : ℕ → Bool) (x : ℕ) (l : List ℕ) → p x ≡ true → keep p (x ∷ l) ≡ x ∷ keep p l

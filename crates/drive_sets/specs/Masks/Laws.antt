@@ -1,12 +1,12 @@
 -- Membership in each set of drives, when sets are equal, are part of one another, and share a drive.
 use mathlib.Core.Path.{_≡_, refl, sym, ap, _∙_, subst}
-use mathlib.Core.Bool.{Bool, true, false, not, _&&_, _||_}
-use Prim.Native.Nat.{ℕ, zero, suc, _-_, _/_, _%_, _^_, _≤_, _<_, min, max, zero-le, suc-le-suc}
-use native.Mathlib.Nat.{lt-of-le-of-lt, sub-le, zero-lt-suc}
+use mathlib.Core.Bool.{Bool, true, false, not, _&&_, _||_, or-assoc}
+use Prim.Native.Nat.{ℕ, zero, suc, _+_, _-_, _/_, _%_, _^_, _≤_, _<_, min, max, zero-le, suc-le-suc}
+use native.Mathlib.Nat.{lt-of-le-of-lt, sub-le, zero-lt-suc, pow-suc}
 use native.Mathlib.Omega.{arith}
 use lib.Arith.{lt-one}
 use lib.Pow.{pow-lt, pow-pos, pow-mono, ones-lt}
-use lib.Bits.{bitAnd, and-le-l, and-le-r, and-comm, and-self, and-zero-l, or-lt}
+use lib.Bits.{bitAnd, and-le-l, and-le-r, and-comm, and-self, and-zero-l, or-lt, or-zero-r, or-add-and}
 use lib.Dec.{eqb, ltb, leb}
 use borrow.Author.Tests.{eqb-true, eqb-false, eq-eqb, ne-eqb, lt-ltb, le-leb, leb-true, leb-false, not-true, not-false}
 use Rattle.drive_sets.specs.Bools.{clash, by-test, false-of, true-of, same-test, and-intro, and-left, and-right, or-left, cond-true}
@@ -165,6 +165,40 @@ subset-union n a b h = has-subset n a (union a b) h (λ d e. has-union d a b ∙
 
 pub subset-minus : (n a b : ℕ) → a < 2 ^ n → subset (minus a b) a ≡ true
 subset-minus n a b h = has-subset n (minus a b) a (minus-lt n a b h) (λ d e. and-left (has d a) (not (has d b)) (sym (has-minus d a b) ∙ e))
+
+-- ---- union
+
+power-above : (n : ℕ) → n < 2 ^ n
+power-above zero = pow-pos 0
+power-above (suc n) = omega (arith, pow-suc 2 n, power-above n, pow-pos n)
+
+pub union-assoc : (a b c : ℕ) → union (union a b) c ≡ union a (union b c)
+union-assoc a b c =
+    has-ext n (union (union a b) c) (union a (union b c)) (union-lt n (union a b) c (union-lt n a b a-lt b-lt) c-lt) (union-lt n a (union b c) a-lt (union-lt n b c b-lt c-lt))
+    (λ d p q. has-union d (union a b) c
+    ∙ (ap (λ (t : Bool). t || has d c) (has-union d a b)
+    ∙ (or-assoc (has d a) (has d b) (has d c) ∙ sym (has-union d a (union b c) ∙ ap (λ (t : Bool). has d a || t) (has-union d b c)))))
+  where
+    n : ℕ
+    n = a + b + c
+
+    a-lt : a < 2 ^ n
+    a-lt = omega (arith, power-above a, pow-mono {i = a} {j = n} (omega arith))
+
+    b-lt : b < 2 ^ n
+    b-lt = omega (arith, power-above b, pow-mono {i = b} {j = n} (omega arith))
+
+    c-lt : c < 2 ^ n
+    c-lt = omega (arith, power-above c, pow-mono {i = c} {j = n} (omega arith))
+
+pub union-none : (a : ℕ) → union a 0 ≡ a
+unfolding union
+union-none a = or-zero-r a
+
+-- a part adds nothing
+pub union-subset : (a b : ℕ) → subset a b ≡ true → union a b ≡ b
+unfolding subset union
+union-subset a b e = omega (arith, or-add-and a b, eqb-true (bitAnd a b) a e)
 
 -- where a is no part of b, a drive of a is not in b
 pub subset-not : (n a b : ℕ) → a < 2 ^ n → subset a b ≡ false → (d : ℕ) × (has d a ≡ true) × (has d b ≡ false)

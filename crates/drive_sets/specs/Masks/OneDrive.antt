@@ -7,9 +7,9 @@ use native.Mathlib.Omega.{arith}
 use lib.Dec.{eqb}
 use borrow.Author.Tests.{eqb-true, eqb-false, eq-eqb, ne-eqb, not-true}
 use Rattle.drive_sets.specs.Bools.{clash, by-test, same-test, and-intro, and-left, and-right, or-left, or-right, or-cases}
-use Rattle.drive_sets.specs.Masks.{has, single, union, common, minus, subset, size}
-use Rattle.drive_sets.specs.Masks.Laws.{has-union, has-common, has-minus, has-single, has-ext, common-lt-right, union-lt, minus-lt, single-lt, subset-has}
-use Rattle.drive_sets.specs.Masks.Sizes.{size-single, single-subset, subset-size}
+use Rattle.drive_sets.specs.Masks.{has, single, union, common, minus, subset, size, lowest}
+use Rattle.drive_sets.specs.Masks.Laws.{has-union, has-common, has-minus, has-single, has-bounds, has-ext, common-lt-right, union-lt, minus-lt, single-lt, subset-has}
+use Rattle.drive_sets.specs.Masks.Sizes.{size-none, lowest-has, size-single, single-subset, subset-size}
 
 module _ (d : ℕ) (low : 1 ≤ d) (high : d ≤ 64) where
   pub single-has : has d (single d) ≡ true
@@ -98,3 +98,13 @@ module _ (d : ℕ) (low : 1 ≤ d) (high : d ≤ 64) where
     -- and the only one that s shares with a part of m that has it
     pub shared-part : (t : ℕ) → t < 2 ^ 64 → subset t m ≡ true → has d t ≡ true → common s t ≡ single d
     shared-part t h p q = share-one s t h (shared-has .0) q (λ x i j. shared-only x i (subset-has x t m p j))
+
+-- a set of one drive has its lowest drive alone
+pub lone-has : (m : ℕ) → m < 2 ^ 64 → size m ≡ 1 → has (lowest m) m ≡ true
+lone-has m h e = lowest-has m h (λ z. omega (arith, sym e ∙ (ap size z ∙ size-none)))
+
+pub lone-single : (m : ℕ) → m < 2 ^ 64 → size m ≡ 1 → m ≡ single (lowest m)
+lone-single m h e =
+    let i = lone-has m h e in
+    let w = has-bounds 64 (lowest m) m h i in
+    eqb-true m (single (lowest m)) (sym (has-lone (lowest m) (w .0) (w .1) m h e) ∙ i)

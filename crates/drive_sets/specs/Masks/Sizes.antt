@@ -266,6 +266,12 @@ drives-lowest m h ne =
         ∙ (joined (eqb x low) (has x m) (λ e. ap (λ (y : ℕ). has y m) (eqb-true x low e) ∙ is-in)
         ∙ sym (ap (λ (b : Bool). eqb x low || b) (elem-drives x others (minus-lt 64 m (single low) h) ∙ has-others x)))
 
+pub lowest-removed : (m : ℕ) → m < 2 ^ 64 → (m ≡ 0 → ⊥) → size (minus m (single (lowest m))) < size m
+lowest-removed m h ne =
+    let e = lowest-has m h ne in
+    let w = has-bounds 64 (lowest m) m h e in
+    omega (arith, size-remove (lowest m) m (w .0) (w .1) e)
+
 pub drives-none : drives 0 ≡ []
 unfolding drives keep range has
 drives-none = refl

@@ -1,0 +1,7 @@
+-- What the functions' proofs share.
+pub mod Scans
+pub mod Shares
+pub mod Walks
+pub mod Covers
+pub mod Places
+pub mod Trials

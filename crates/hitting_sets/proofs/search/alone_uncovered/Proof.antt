@@ -1,0 +1,92 @@
+-- The drives that stay alone: the sets from the last to the first, of which those that add no drive or are covered do not count.
+use borrow.Author.Tests.{eqb-true, eqb-false}
+use mathlib.Core.List.{List}
+use Prim.Native.Nat.{ℕ}
+use borrow.Author.Tests.{not-false}
+use mathlib.Core.Logic.{⊎-elim}
+use borrow.Author.Needs.{needs}
+use Rattle.hitting_sets.proofs.Scans.{Back, back-start, back-turn, back-end, alone-more, alone-skip, alone-had, kept-more, kept-skip, kept-same}
+use Rattle.hitting_sets.specs.LookAhead.{covered}
+use Rattle.hitting_sets.specs.Hitting.{alone}
+use Rattle.drive_sets.specs.Masks.{common, union}
+use Rattle.drive_sets.specs.Lists.{keep}
+use mathlib.Core.Bool.{not}
+use mathlib.Core.Path.{refl, sym, ap, _∙_}
+use Rattle.hitting_sets.proofs.search.alone_uncovered.Statement.{statement}
+use Rattle.hitting_sets.proofs.search.alone_uncovered.Tie as tie
+
+abbrev Inv-loop : tie.InvT-loop
+Inv-loop sets ahead m bar i₀ found₀ i found = Back (λ l. alone (keep (λ s. not (covered ahead m bar s)) l) m) sets i found
+
+abbrev μ-loop : tie.MeasureT-loop
+μ-loop sets ahead m bar i₀ found₀ i found = i
+
+loop-holds : tie.Need-loop-holds Inv-loop μ-loop
+unfolding alone keep
+loop-holds c = back-start _ _ _ refl
+
+sub-i : tie.Need-sub-i Inv-loop μ-loop
+sub-i c = search needs
+
+mul-s : tie.Need-mul-s Inv-loop μ-loop
+mul-s c = search needs
+
+shared-slice-read-s : tie.Need-shared-slice-read-s Inv-loop μ-loop
+shared-slice-read-s c = search needs
+
+subset-requires : tie.Need-subset-requires Inv-loop μ-loop
+subset-requires c κs = search needs
+
+size-requires : tie.Need-size-requires Inv-loop μ-loop
+size-requires c κs = search needs
+
+covered-requires : tie.Need-covered-requires Inv-loop μ-loop
+covered-requires c κs = search needs
+
+loop-less : tie.Need-loop-less Inv-loop μ-loop
+loop-less c = search needs
+
+loop-again : tie.Need-loop-again Inv-loop μ-loop
+unfolding common union
+loop-again c =
+    back-turn _ _ _ _ _ (c .before .before .before .before .before .before .before .before .loop .inv) (c .before .before .before .before .before .before .before .loop-test .taken)
+    (kept-more (λ l. alone l (c .before .before .before .before .before .before .before .before .before .before .before .args .m)) _ _ _ (ap not (sym (c .before .covered .ensures)) ∙ c .if3 .taken) _
+    (alone-more _ _ _ (sym (c .before .before .before .size .ensures) ∙ eqb-true (c .before .before .before .size .result) 1 (c .before .before .if2 .taken))))
+
+loop-less-2 : tie.Need-loop-less-2 Inv-loop μ-loop
+loop-less-2 c = search needs
+
+loop-again-2 : tie.Need-loop-again-2 Inv-loop μ-loop
+unfolding common
+loop-again-2 c =
+    let f : List ℕ → ℕ = λ l. alone l (c .before .before .before .before .before .before .before .args .m) in
+    back-turn _ _ _ _ _ (c .before .before .before .before .loop .inv) (c .before .before .before .loop-test .taken)
+    (⊎-elim
+    (λ w. kept-skip f _ _ _ (ap not (sym (w .3 .ensures)) ∙ w .4 .left))
+    (λ w. ⊎-elim
+    (λ v. kept-same f _ _ _ (alone-skip _ _ _ (λ e. eqb-false (v .1 .result) 1 (v .2 .left) (v .1 .ensures ∙ e))))
+    (λ v. kept-same f _ _ _ (alone-had _ _ _ (sym (c .before .subset .ensures) ∙ not-false _ (v .left))))
+    w)
+    (c .if1 .came))
+
+returns : tie.Need-returns Inv-loop μ-loop
+returns c = back-end _ _ _ _ (c .before .loop .inv) (c .loop-test .left)
+
+pub alone-uncovered-spec : {M : Type 1} → statement M
+alone-uncovered-spec =
+    tie.close
+    (tie.spec
+    Inv-loop
+    μ-loop
+    loop-holds
+    sub-i
+    mul-s
+    shared-slice-read-s
+    subset-requires
+    size-requires
+    covered-requires
+    loop-less
+    loop-again
+    loop-less-2
+    loop-again-2
+    returns)

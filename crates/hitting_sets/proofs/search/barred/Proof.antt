@@ -1,0 +1,65 @@
+-- The barred drives: the drives of m from the lowest on.
+use borrow.Author.Needs.{needs}
+use Rattle.hitting_sets.proofs.Walks.{Barring, barring-start, barring-turn, barring-end, walk-bounds, walk-fewer}
+use Rattle.drive_sets.specs.Masks.{union, size}
+use Rattle.hitting_sets.proofs.search.barred.Statement.{statement}
+use Rattle.hitting_sets.proofs.search.barred.Tie as tie
+
+abbrev Inv-loop : tie.InvT-loop
+Inv-loop sets m all rest₀ bar₀ rest bar = Barring sets m rest bar
+
+abbrev μ-loop : tie.MeasureT-loop
+μ-loop sets m all rest₀ bar₀ rest bar = size rest
+
+in-all-private-requires : tie.Need-in-all-private-requires Inv-loop μ-loop
+in-all-private-requires c κs = search needs
+
+loop-holds : tie.Need-loop-holds Inv-loop μ-loop
+loop-holds c = barring-start _ _ (c .before .before .fits .m .fits)
+
+lowest-requires : tie.Need-lowest-requires Inv-loop μ-loop
+lowest-requires c κs = search needs
+
+place-requires : tie.Need-place-requires Inv-loop μ-loop
+place-requires c κs = walk-bounds _ _ (c .before .before .loop .inv .word) (c .before .loop-test .taken) (c .lowest .ensures)
+
+mul-minus : tie.Need-mul-minus Inv-loop μ-loop
+mul-minus c = search needs
+
+element-copy-out-minus : tie.Need-element-copy-out-minus Inv-loop μ-loop
+element-copy-out-minus c = search needs
+
+minus-requires : tie.Need-minus-requires Inv-loop μ-loop
+minus-requires c κs = search needs
+
+remove-requires : tie.Need-remove-requires Inv-loop μ-loop
+remove-requires c κs = search needs
+
+loop-less : tie.Need-loop-less Inv-loop μ-loop
+loop-less c = walk-fewer _ _ (c .before .before .before .before .before .before .loop .inv .word) (c .before .before .before .before .before .loop-test .taken) (c .before .before .before .before .lowest .ensures) _ (c .remove .ensures)
+
+loop-again : tie.Need-loop-again Inv-loop μ-loop
+unfolding union
+loop-again c =
+    barring-turn _ _ _ _ _ _ _ _ (c .before .before .before .before .before .before .before .in-all-private .result .of) (c .before .before .before .before .before .before .loop .inv) (c .before .before .before .before .before .loop-test .taken) (c .before .before .before .before .lowest .ensures) (c .remove .ensures) (c .before .before .before .place .ensures .0) (c .before .minus .ensures) (c .before .before .before .before .before .before .before .in-all-private .ensures)
+
+returns : tie.Need-returns Inv-loop μ-loop
+returns c = barring-end _ _ _ _ (c .before .loop .inv) (c .loop-test .left)
+
+pub barred-spec : {M : Type 1} → statement M
+barred-spec =
+    tie.close
+    (tie.spec
+    Inv-loop
+    μ-loop
+    in-all-private-requires
+    loop-holds
+    lowest-requires
+    place-requires
+    mul-minus
+    element-copy-out-minus
+    minus-requires
+    remove-requires
+    loop-less
+    loop-again
+    returns)

@@ -1,0 +1,50 @@
+-- A branch goes on: a test after the other, the first on the sets seen.
+use Rattle.hitting_sets.specs.Hitting.{alone}
+use borrow.Author.Tests.{eq-eqb, ne-eqb}
+use lib.ListN.{take}
+use native.Mathlib.Nat.{sub-zero}
+use mathlib.Core.Bool.{not}
+use Prim.Native.Nat.{ℕ}
+use mathlib.Core.Path.{sym, ap, _∙_}
+use borrow.Author.Needs.{needs}
+use Rattle.hitting_sets.proofs.search.goes_on.Statement.{statement}
+use Rattle.hitting_sets.proofs.search.goes_on.Tie as tie
+
+sub-alone : tie.Need-sub-alone
+sub-alone c = search needs
+
+part-alone-start : tie.Need-part-alone-start
+part-alone-start c = search needs
+
+part-alone-end : tie.Need-part-alone-end
+part-alone-end c = search needs
+
+alone-requires : tie.Need-alone-requires
+alone-requires c κs = search needs
+
+returns : tie.Need-returns
+returns c =
+    let a = c .before .before .before .before .args in
+    let e = c .before .alone .ensures ∙ ap (λ (k : ℕ). alone (take k (a .sets .now)) (a .t)) (sub-zero (a .seen)) in
+    rw (ne-eqb (alone (take (a .seen) (a .sets .now)) (a .t)) (a .t) (λ q. c .if1 .taken (e ∙ q)))
+
+doomed-requires : tie.Need-doomed-requires
+doomed-requires c κs = search needs
+
+returns-2 : tie.Need-returns-2
+returns-2 c =
+    let a = c .before .before .before .before .before .args in
+    let e = c .before .before .alone .ensures ∙ ap (λ (k : ℕ). alone (take k (a .sets .now)) (a .t)) (sub-zero (a .seen)) in
+    rw (eq-eqb (alone (take (a .seen) (a .sets .now)) (a .t)) (a .t) (sym e ∙ c .before .if1 .left)) (ap not (c .doomed .ensures))
+
+pub goes-on-spec : {M : Type 1} → statement M
+goes-on-spec =
+    tie.close
+    (tie.spec
+    sub-alone
+    part-alone-start
+    part-alone-end
+    alone-requires
+    returns
+    doomed-requires
+    returns-2)
