@@ -72,6 +72,10 @@ or-swap true true c = refl
 or-swap true false c = refl
 or-swap false b c = refl
 
+pub or-false : (a : Bool) → (a || false) ≡ a
+or-false true = refl
+or-false false = refl
+
 pub or-and-not : (a b : Bool) → (a || (b && not a)) ≡ (a || b)
 or-and-not true b = refl
 or-and-not false true = refl

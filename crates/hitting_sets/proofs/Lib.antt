@@ -5,3 +5,9 @@ pub mod Walks
 pub mod Covers
 pub mod Places
 pub mod Trials
+pub mod Asking
+pub mod Filling
+pub mod Halves
+pub mod Keeping
+pub mod Merges
+pub mod Orders

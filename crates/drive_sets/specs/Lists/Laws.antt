@@ -8,7 +8,7 @@ use native.Mathlib.Omega.{arith}
 use lib.Dec.{eqb, ltb}
 use lib.ListN.{length}
 use borrow.Author.Tests.{eqb-true, eqb-false, eq-eqb, lt-ltb}
-use Rattle.drive_sets.specs.Bools.{clash, by-test, false-of, same-test, and-intro, and-left, and-right, and-not, or-left, or-right, or-cases, cond-true, cond-false}
+use Rattle.drive_sets.specs.Bools.{clash, by-test, false-of, same-test, and-intro, and-left, and-right, and-not, or-left, or-right, or-cases, or-false, cond-true, cond-false}
 use Rattle.drive_sets.specs.Lists.{range, keep, all, any, elem, ordered}
 
 -- ---- membership
@@ -54,6 +54,10 @@ elem-append-right x l m h = elem-append x l m ∙ or-right (elem x l) h
 
 pub elem-append-cases : (x : ℕ) (l m : List ℕ) → elem x (l ++ m) ≡ true → (elem x l ≡ true) ⊎ (elem x m ≡ true)
 elem-append-cases x l m h = or-cases (elem x l) (elem x m) (sym (elem-append x l m) ∙ h)
+
+pub elem-last : (x : ℕ) (l : List ℕ) (y : ℕ) → elem x (l ++ (y ∷ [])) ≡ (elem x l || eqb x y)
+unfolding elem any
+elem-last x l y = elem-append x l (y ∷ []) ∙ ap (λ (b : Bool). elem x l || b) (or-false (eqb x y))
 
 pub elem-one : (x y : ℕ) → elem x (y ∷ []) ≡ true → x ≡ y
 elem-one x y h = ⊎-elim (λ e. e) (λ e. absurd (clash e (elem-none x))) (elem-cases x y [] h)

@@ -1,14 +1,14 @@
 -- The normal form of a list of sets: by mask, without repeats, no set part of another. It has the same hitting sets, for each set
 -- that it drops holds one that it keeps. Document 01: the normal table drops repeats and each set that holds another.
 use mathlib.Core.Path.{_≡_, refl, sym, ap, _∙_}
-use mathlib.Core.Bool.{Bool, true, false, not, _&&_, _||_}
+use mathlib.Core.Bool.{Bool, true, false, not, _&&_, _||_, and-false}
 use mathlib.Core.List.{List, [], _∷_}
 use Prim.Native.Nat.{ℕ, zero, suc, _≤_, _<_, zero-le}
 use native.Mathlib.Omega.{arith}
 use lib.Dec.{eqb, leb}
 use lib.ListN.{length}
-use borrow.Author.Tests.{eqb-true, eqb-false, ne-eqb, leb-true, leb-false, not-true}
-use Rattle.drive_sets.specs.Bools.{clash, by-test, false-of, true-of, same-test, and-intro, and-left, and-right, or-and-not}
+use borrow.Author.Tests.{eqb-true, eqb-false, ne-eqb, leb-true, leb-false, le-leb, lt-leb, not-true}
+use Rattle.drive_sets.specs.Bools.{clash, by-test, false-of, true-of, same-test, and-intro, and-left, and-right, or-and-not, cond-true, cond-false}
 use Rattle.drive_sets.specs.Lists.{keep, any, elem, distinct, ordered}
 use Rattle.drive_sets.specs.Lists.Laws.{elem-some, some-elem, any-elem, any-intro, elem-keep, length-keep, ordered-unique}
 use Rattle.drive_sets.specs.Lists.Distinct.{distinct-none, distinct-cons, distinct-keep, ordered-distinct}
@@ -17,7 +17,7 @@ use Rattle.drive_sets.specs.Masks.Laws.{subset-refl, subset-trans, meets-sym, m
 use Rattle.drive_sets.specs.Masks.Sizes.{subset-size}
 use Rattle.hitting_sets.specs.Hitting.{hits}
 use Rattle.hitting_sets.specs.Hitting.Laws.{Below, hits-meets, meets-hits}
-use Rattle.hitting_sets.specs.Order.{byMask, dropRepeats, holdsAnother, normal}
+use Rattle.hitting_sets.specs.Order.{byMask, dropRepeats, holdsAnother, normal, normalWithin}
 use Rattle.hitting_sets.specs.Order.Strict.{strict-irr, byMask-strict}
 use Rattle.hitting_sets.specs.Order.Sort.{elem-sort, length-sort, ordered-sort}
 
@@ -122,6 +122,21 @@ normal-fixed sets o antichain =
 
 pub normal-idempotent : (sets : List ℕ) → normal (normal sets) ≡ normal sets
 normal-idempotent sets = normal-fixed (normal sets) (ordered-normal sets) (antichain-normal sets)
+
+-- ---- where there is room
+
+pub normalWithin-fits : (room : ℕ) (sets : List ℕ) → length sets ≤ 128 → length sets ≤ room → normalWithin room sets ≡ normal sets
+unfolding normalWithin
+normalWithin-fits room sets p q = cond-true _ _ (and-intro (le-leb (length sets) 128 p) (le-leb (length sets) room q))
+
+pub normalWithin-over : (room : ℕ) (sets : List ℕ) → 128 < length sets → normalWithin room sets ≡ []
+unfolding normalWithin
+normalWithin-over room sets h = cond-false _ _ (ap (λ (b : Bool). b && leb (length sets) room) (lt-leb (length sets) 128 h))
+
+pub normalWithin-short : (room : ℕ) (sets : List ℕ) → room < length sets → normalWithin room sets ≡ []
+unfolding normalWithin
+normalWithin-short room sets h =
+    cond-false _ _ (ap (λ (b : Bool). leb (length sets) 128 && b) (lt-leb (length sets) room h) ∙ and-false (leb (length sets) 128))
 
 -- ---- what it keeps
 
