@@ -65,25 +65,33 @@ module _ (m width x : ℕ) (rest : List ℕ) where
   pub record-rest : drop (2 + width) (recordBytes m width x ++ rest) ≡ rest
   record-rest = drop-at (recordBytes m width x) rest (2 + width) (length-record m width x)
 
-pub head-record : (due : Due) (k : Kind) (x : ℕ) (rest : List ℕ) → isDue due (mark k) ≡ true
-    → headOf due (recordBytes (mark k) (bodyWidth k) x ++ rest) ≡ Record k
+-- a mark that is due, and behind it at least as many bytes as its kind asks for
+pub head-body : (due : Due) (k : Kind) (body : List ℕ) → isDue due (mark k) ≡ true → bodyWidth k ≤ length body → headOf due (toBytes 2 (mark k) ++ body) ≡ Record k
 unfolding headOf
-head-record due k x rest d =
-    cond-false _ _ (le-ltb (length s) 2 (omega (arith, long)))
+head-body due k body d long =
+    cond-false _ _ (le-ltb (length s) 2 (omega (arith, whole)))
     ∙ (cond-false _ _ (ap not (ap (isDue due) is-mark ∙ d))
-    ∙ (cond-false _ _ (le-ltb (length s) (2 + bodyWidth (kindOf (fromBytes (take 2 s)))) (omega (arith, long, ap bodyWidth is-kind))) ∙ ap Record is-kind))
+    ∙ (cond-false _ _ (le-ltb (length s) (2 + bodyWidth (kindOf (fromBytes (take 2 s)))) (omega (arith, whole, ap bodyWidth is-kind))) ∙ ap Record is-kind))
   where
     s : List ℕ
-    s = recordBytes (mark k) (bodyWidth k) x ++ rest
+    s = toBytes 2 (mark k) ++ body
 
-    long : length s ≡ 2 + bodyWidth k + length rest
-    long = length-append (recordBytes (mark k) (bodyWidth k) x) rest ∙ omega (arith, length-record (mark k) (bodyWidth k) x)
+    whole : length s ≡ 2 + length body
+    whole = length-append (toBytes 2 (mark k)) body ∙ ap (λ (w : ℕ). w + length body) (length-toBytes 2 (mark k))
 
     is-mark : fromBytes (take 2 s) ≡ mark k
-    is-mark = record-mark (mark k) (bodyWidth k) x rest (mark-lt k)
+    is-mark = ap fromBytes (take-at (toBytes 2 (mark k)) body 2 (length-toBytes 2 (mark k))) ∙ field-back 2 (mark k) (mark-lt k)
 
     is-kind : kindOf (fromBytes (take 2 s)) ≡ k
     is-kind = ap kindOf is-mark ∙ kind-mark k
+
+pub head-record : (due : Due) (k : Kind) (x : ℕ) (rest : List ℕ) → isDue due (mark k) ≡ true
+    → headOf due (recordBytes (mark k) (bodyWidth k) x ++ rest) ≡ Record k
+unfolding recordBytes
+head-record due k x rest d =
+    ap (headOf due) (append-assoc (toBytes 2 (mark k)) (toBytes (bodyWidth k) x) rest)
+    ∙ head-body due k (toBytes (bodyWidth k) x ++ rest) d
+    (omega (arith, length-append (toBytes (bodyWidth k) x) rest, length-toBytes (bodyWidth k) x))
 
 -- ---- what is found is due
 

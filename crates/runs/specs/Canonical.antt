@@ -1,0 +1,71 @@
+-- The canonical order of calls of a scenario: all openings; in each round all sends, then all messages, then all closes, by drive. And what
+-- it gives for each drive.
+use mathlib.Core.List.{List, [], _∷_, _++_, map}
+use Prim.Native.Nat.{ℕ, zero, suc}
+use Rattle.drive_sets.specs.Lists.{keep}
+use Rattle.drive_sets.specs.Masks.{size}
+use Rattle.drive_sets.specs.Refusals.{Outcome, refused, result}
+use Rattle.exchange.specs.declared.Decision.{Decision}
+use Rattle.exchange.specs.declared.Decision.the-variants.{Undecided, Decided}
+use Rattle.runs.specs.World.{Call, opens, sends, delivers, closes, World, nothingOpen, applyAll, decisionOf}
+use Rattle.runs.specs.Scenario.{Crash, stays, crashes, Scenario, frame, coreOf, reach}
+use Rattle.runs.specs.Runs.{sendingOf, sender, closer, joined}
+
+-- room for the longest message: 12 bytes and 64 numbers
+abbrev pub room : ℕ
+room = 140
+
+unfoldable pub openingCalls : Scenario → List Call
+openingCalls s = map (λ d. opens d (s .n) (s .sets) d (s .proposal d)) (frame s)
+
+unfoldable pub deliveries : Outcome (List ℕ) → List ℕ → List Call
+deliveries (refused r) es = []
+deliveries (result bytes) es = map (λ e. delivers e bytes) es
+
+-- the messages of these senders in round r
+unfoldable pub messageCalls : Scenario → ℕ → World → List ℕ → List Call
+messageCalls s r w [] = []
+messageCalls s r w (d ∷ ds) = deliveries (sendingOf (w d) room 0) (reach s r d) ++ messageCalls s r w ds
+
+unfoldable pub roundCalls : Scenario → ℕ → World → List Call
+roundCalls s r w =
+    map (λ d. sends d room 0) (keep (sender s r w) (frame s))
+    ++ (messageCalls s r w (keep (sender s r w) (frame s))
+    ++ map closes (keep (closer s r w) (frame s)))
+
+-- the parts of so many rounds from round r on
+unfoldable pub roundsFrom : Scenario → ℕ → ℕ → World → List (List Call)
+roundsFrom s zero r w = []
+roundsFrom s (suc k) r w = roundCalls s r w ∷ roundsFrom s k (suc r) (applyAll w (roundCalls s r w))
+
+unfoldable pub canonicalRounds : Scenario → List (List Call)
+canonicalRounds s = roundsFrom s (size (coreOf s)) 1 (applyAll nothingOpen (openingCalls s))
+
+unfoldable pub canonical : Scenario → List Call
+canonical s = openingCalls s ++ joined (canonicalRounds s)
+
+-- ---- what it gives
+
+-- a drive decides on a pattern number in a round, or not at all; a drive with a CR counts as stopped, even if it decided before
+pub data Ending : Type 0 where
+  decides : ℕ → ℕ → Ending  -- the pattern number and the round
+  undecided : Ending
+  stopped : Ending
+
+unfoldable pub endingOn : Decision → ℕ → Ending → Ending
+endingOn Undecided r later = later
+endingOn (Decided v) r later = decides (v .0) r
+
+-- the first of the rounds r, r + 1, .. that leaves the drive decided
+unfoldable pub firstDecision : ℕ → ℕ → World → List (List Call) → Ending
+firstDecision d r w [] = undecided
+firstDecision d r w (p ∷ ps) =
+    let later = firstDecision d (suc r) (applyAll w p) ps in
+    endingOn (decisionOf (applyAll w p d)) r later
+
+unfoldable pub endingOf : Scenario → Crash → ℕ → Ending
+endingOf s stays d = firstDecision d 1 (applyAll nothingOpen (openingCalls s)) (canonicalRounds s)
+endingOf s (crashes r m) d = stopped
+
+unfoldable pub endings : Scenario → List Ending
+endings s = map (λ d. endingOf s (s .crash d) d) (frame s)

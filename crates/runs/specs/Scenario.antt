@@ -1,0 +1,64 @@
+-- A scenario: a frame, what its drives propose, and which of them crash; the list of a sender, and how far it gets.
+use mathlib.Core.Bool.{Bool, true, false, not, _&&_, cond}
+use mathlib.Core.List.{List, _++_}
+use Prim.Native.Nat.{ℕ}
+use lib.Dec.{eqb, leb, ltb}
+use lib.ListN.{take}
+use Rattle.drive_sets.specs.Lists.{range, keep}
+use Rattle.drive_sets.specs.Masks.{has}
+use Rattle.hitting_sets.specs.Order.{normal}
+use Rattle.tables.specs.Tables.{chosen}
+pub mod Laws
+
+-- CR, a crash failure: the drive acts normally before that round, makes that many sends of that round's list and is gone before the
+-- round closes. A function of the drive, so there is at most one CR to a drive.
+pub data Crash : Type 0 where
+  stays : Crash
+  crashes : ℕ → ℕ → Crash  -- the round and the sends
+
+pub record Scenario : Type 0 where
+  pub n : ℕ
+  pub sets : List ℕ
+  pub proposal : ℕ → ℕ
+  pub crash : ℕ → Crash
+
+-- the drives of the frame, rising
+unfoldable pub frame : Scenario → List ℕ
+frame s = range 1 (s .n)
+
+-- the chosen core of the table
+unfoldable pub coreOf : Scenario → ℕ
+coreOf s = chosen (normal (s .sets))
+
+-- a CR for an earlier round
+unfoldable pub goneBefore : Crash → ℕ → Bool
+goneBefore stays r = false
+goneBefore (crashes q sends) r = ltb q r
+
+-- a CR for this round or an earlier one
+unfoldable pub goneBy : Crash → ℕ → Bool
+goneBy stays r = false
+goneBy (crashes q sends) r = leb q r
+
+-- a CR for this round with no sends
+unfoldable pub sendsNone : Crash → ℕ → Bool
+sendsNone stays r = false
+sendsNone (crashes q sends) r = eqb q r && eqb sends 0
+
+unfoldable pub hasCrash : Crash → Bool
+hasCrash stays = false
+hasCrash (crashes q sends) = true
+
+-- a sender sends to the other core drives, rising, then to the listeners, rising
+unfoldable pub listOf : Scenario → ℕ → List ℕ
+listOf s d =
+    keep (λ e. has e (coreOf s) && not (eqb e d)) (frame s) ++ keep (λ e. not (has e (coreOf s))) (frame s)
+
+-- with a CR for this round, the first so many of them
+unfoldable pub cut : Crash → ℕ → List ℕ → List ℕ
+cut stays r l = l
+cut (crashes q sends) r l = cond (eqb q r) (take sends l) l
+
+-- the drives that a sender's message goes to in round r
+unfoldable pub reach : Scenario → ℕ → ℕ → List ℕ
+reach s r d = cut (s .crash d) r (listOf s d)

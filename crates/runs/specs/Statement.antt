@@ -1,0 +1,147 @@
+-- Demand 3: what is to be proved of every run, as types. One statement speaks of the whole list of calls.
+use mathlib.Core.Path.{_≡_}
+use mathlib.Core.Bool.{Bool, true, false, not, _&&_, _||_}
+use mathlib.Core.List.{List, [], _∷_, _++_}
+use Prim.Native.Nat.{ℕ, zero, suc, _-_, _≤_, _<_}
+use lib.Dec.{eqb}
+use lib.ListN.{length, take, getD}
+use Rattle.drive_sets.specs.Lists.{keep, elem}
+use Rattle.drive_sets.specs.Masks.{has, size, drives}
+use Rattle.drive_sets.specs.Refusals.{result}
+use Rattle.hitting_sets.specs.Order.{normal}
+use Rattle.tables.specs.Tables.{chosen, normalTable}
+use Rattle.exchange.specs.declared.Decision.the-variants.{Decided}
+use Rattle.exchange.specs.State.{isDrive, isDecided}
+use Rattle.runs.specs.World.{Call, opens, sends, delivers, closes, World, nothingOpen, apply, applyAll, decisionOf, roundIn}
+use Rattle.runs.specs.Scenario.{Scenario, stays, crashes, coreOf, hasCrash}
+use Rattle.runs.specs.Runs.{Run, joined}
+pub mod Laws
+
+-- ---- scenarios
+
+-- a CR passes 8, 9 and 10
+pub record Passes (s : Scenario) (d round sends : ℕ) : Type 0 where
+  pub inFrame : isDrive (s .n) d ≡ true
+  pub from : 1 ≤ round
+  pub upTo : round ≤ size (coreOf s)
+  pub ofCore : has d (coreOf s) ≡ true → sends ≤ s .n - 1
+  pub ofListener : has d (coreOf s) ≡ false → sends ≡ 0
+
+-- the table meets no refusal, so it is accepted; the drives propose pattern numbers; each CR passes
+pub record Valid (s : Scenario) : Type 0 where
+  pub accepted : normalTable (s .n) (s .sets) ≡ result (normal (s .sets))
+  pub patterns : (d : ℕ) → isDrive (s .n) d ≡ true → s .proposal d < 65536
+  pub passes : (d round sends : ℕ) → s .crash d ≡ crashes round sends → Passes s d round sends
+
+-- a survivor set is untouched if no drive of it has a CR
+pub record Untouched (s : Scenario) : Type 0 where
+  pub set : ℕ
+  pub listed : elem set (s .sets) ≡ true
+  pub stay : (d : ℕ) → has d set ≡ true → s .crash d ≡ stays
+
+-- a drive of the frame stays up if it has no CR
+pub record Up (s : Scenario) (d : ℕ) : Type 0 where
+  pub inFrame : isDrive (s .n) d ≡ true
+  pub stay : s .crash d ≡ stays
+
+-- v is the proposal of a core drive: the number that it is opened with
+pub record Proposed (s : Scenario) (v : ℕ) : Type 0 where
+  pub by : ℕ
+  pub inCore : has by (coreOf s) ≡ true
+  pub is : v ≡ s .proposal by
+
+-- f, the number of core drives with a CR
+unfoldable pub coreCrashes : Scenario → ℕ
+coreCrashes s = length (keep (λ d. hasCrash (s .crash d)) (drives (coreOf s)))
+
+-- ---- decisions
+
+unfoldable pub isCloseOf : ℕ → Call → Bool
+isCloseOf d (opens e n sets own number) = false
+isCloseOf d (sends e room start) = false
+isCloseOf d (delivers e bytes) = false
+isCloseOf d (closes e) = eqb d e
+
+-- the closes of d among the calls leave it undecided
+unfoldable pub leaveUndecided : ℕ → World → List Call → Bool
+leaveUndecided d w [] = true
+leaveUndecided d w (c ∷ cs) =
+    (not (isCloseOf d c) || not (isDecided (decisionOf (apply w c d)))) && leaveUndecided d (apply w c) cs
+
+module _ {s : Scenario} {calls : List Call} (run : Run s calls) where
+  -- the calls of round k + 1, and those before that round
+  unfoldable pub partAt : ℕ → List Call
+  partAt k = getD (run .rounds) k []
+
+  unfoldable pub callsBefore : ℕ → List Call
+  callsBefore k = run .first ++ joined (take k (run .rounds))
+
+  -- a drive decides on v in its round k + 1: the close of that round, which is among that round's calls, leaves it decided on v, and the
+  -- closes before left it undecided
+  pub record DecidesAfter (d v k : ℕ) : Type 0 where
+    pub earlier : List Call
+    pub later : List Call
+    pub among : partAt k ≡ earlier ++ (closes d ∷ later)
+    pub inRound : roundIn (applyAll nothingOpen (callsBefore k ++ earlier) d) ≡ suc k
+    pub undecided : leaveUndecided d nothingOpen (callsBefore k ++ earlier) ≡ true
+    pub decided : decisionOf (applyAll nothingOpen (callsBefore k ++ earlier ++ (closes d ∷ [])) d) ≡ Decided (record { 0 = v })
+
+  -- in round r, from 1
+  abbrev pub Decides : ℕ → ℕ → ℕ → Type 0
+  Decides d v zero = ⊥
+  Decides d v (suc k) = DecidesAfter d v k
+
+  -- ---- agreement
+
+  pub record DecidesSoon (d v : ℕ) : Type 0 where
+    pub round : ℕ
+    pub upTo : round ≤ suc (coreCrashes s)
+    pub decides : Decides d v round
+
+  -- there is one number, proposed by a core drive, on which every drive that stays up decides in a round up to f + 1; none of them decides
+  -- on another; and after the whole list each stands decided on it
+  pub record Agreed : Type 0 where
+    pub value : ℕ
+    pub proposed : Proposed s value
+    pub all : (d : ℕ) → Up s d → DecidesSoon d value
+    pub only : (d v r : ℕ) → Up s d → Decides d v r → v ≡ value
+    pub final : (d : ℕ) → Up s d → decisionOf (applyAll nothingOpen calls d) ≡ Decided (record { 0 = value })
+
+unfoldable pub Agreement : Type 0
+Agreement = (s : Scenario) → Valid s → Untouched s → (calls : List Call) (run : Run s calls) → Agreed run
+
+-- ---- the bound is reached: for every f below the core's size, in some run with f core drives crashing and some survivor set untouched, a
+-- drive that stays up decides in round f + 1, whatever is proposed
+
+pub record TightAt (n : ℕ) (sets : List ℕ) (proposal : ℕ → ℕ) (f : ℕ) : Type 0 where
+  pub scenario : Scenario
+  pub frameIs : scenario .n ≡ n
+  pub setsAre : scenario .sets ≡ sets
+  pub proposalIs : scenario .proposal ≡ proposal
+  pub valid : Valid scenario
+  pub untouched : Untouched scenario
+  pub many : coreCrashes scenario ≡ f
+  pub calls : List Call
+  pub run : Run scenario calls
+  pub drive : ℕ
+  pub up : Up scenario drive
+  pub value : ℕ
+  pub decides : Decides run drive value (suc f)
+
+unfoldable pub Tight : Type 0
+Tight = (n : ℕ) (sets : List ℕ) → normalTable n sets ≡ result (normal sets) → (proposal : ℕ → ℕ) → ((d : ℕ) → isDrive n d ≡ true → proposal d < 65536)
+    → (f : ℕ) → f < size (chosen (normal sets)) → TightAt n sets proposal f
+
+-- ---- every scenario has a run
+
+unfoldable pub RunsExist : Type 0
+RunsExist = (s : Scenario) → Valid s → (calls : List Call) × Run s calls
+
+-- ---- two runs of one scenario leave the same decisions, made in the same rounds, at every drive that stays up
+
+pub record Same {s : Scenario} {calls calls′ : List Call} (run : Run s calls) (run′ : Run s calls′) (d : ℕ) : Type 0 where
+  pub decides : (v r : ℕ) → Decides run d v r → Decides run′ d v r
+  pub final : decisionOf (applyAll nothingOpen calls d) ≡ decisionOf (applyAll nothingOpen calls′ d)
+
+unfoldable pub SameResult : Type 0
+SameResult = (s : Scenario) → Valid s → (calls calls′ : List Call) (run : Run s calls) (run′ : Run s calls′) → (d : ℕ) → Up s d → Same run run′ d
