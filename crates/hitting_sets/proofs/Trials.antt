@@ -1,22 +1,22 @@
 -- The search's returns. In the loop over the drives of a set that is missed, what is still to be listed, put behind what is there, is the
 -- whole.
 use mathlib.Core.Path.{_≡_, refl, sym, ap, _∙_, subst}
-use mathlib.Core.Bool.{Bool, true, false, not, _&&_}
+use mathlib.Core.Bool.{Bool, true, false}
 use mathlib.Core.List.{List, [], _∷_}
 use Prim.Native.Nat.{ℕ, suc, _+_, _^_, _≤_, _<_}
 use native.Mathlib.Omega.{arith}
-use lib.Dec.{eqb}
 use lib.ListN.{length, getD, take, set}
 use Rattle.drive_sets.specs.Masks.{has, single, union, minus, subset, lowest, drives}
 use Rattle.drive_sets.specs.Masks.Laws.{subset-has, subset-refl, subset-trans, subset-minus}
 use Rattle.drive_sets.specs.Masks.Sizes.{drives-none}
-use Rattle.hitting_sets.specs.Hitting.{hits, Minimal, alone, forEach}
-use Rattle.hitting_sets.specs.LookAhead.{doomed}
+use Rattle.hitting_sets.specs.Hitting.{hits, Minimal, forEach}
+use Rattle.hitting_sets.specs.LookAhead.{goesOn}
 use Rattle.hitting_sets.specs.Missed.{FirstMissed}
 use Rattle.drive_sets.specs.Filled.{Filled}
 use Rattle.drive_sets.specs.Filled.Laws.{filled-none, filled-one, filled-over, filled-then, filled-le, filled-same}
 use Rattle.hitting_sets.proofs.Walks.{walk-has, walk-first, walk-word}
-use Rattle.hitting_sets.proofs.Places.{From, Each, Branching, branching, from-end, passed-search, from-missed, added-hits, on-minimal, on-each, off-each}
+use Rattle.hitting_sets.proofs.Places.{From, Each, from-end, passed-search, from-missed}
+use Rattle.hitting_sets.proofs.Branches.{Branching, branching, added-hits, on-minimal, on-each, off-each}
 
 -- ---- no set is missed: m alone is listed, if there is room
 
@@ -63,7 +63,7 @@ module _ {sets : List ℕ} {m pos i : ℕ} {out₀ out : List ℕ} {count found 
     pub try-hits : hits (take (i + 1) sets) t ≡ true
     try-hits = added-hits sets i m (y .branch) d d-in t q
 
-    pub try-minimal : {b : Bool} → b ≡ (eqb (alone (take (i + 1) sets) t) t && not (doomed sets t)) → b ≡ true → Minimal (take (i + 1) sets) t
+    pub try-minimal : {b : Bool} → b ≡ goesOn sets (i + 1) t → b ≡ true → Minimal (take (i + 1) sets) t
     try-minimal e g = on-minimal sets i m (y .branch) d d-in t q (sym e ∙ g)
 
     module _ (next : ℕ) (n : next ≡ minus rest (single d)) where
@@ -73,7 +73,7 @@ module _ {sets : List ℕ} {m pos i : ℕ} {out₀ out : List ℕ} {count found 
           ∙ subset-trans 64 (minus rest (single d)) rest (getD sets i 0) (subst (λ (k : ℕ). k < 2 ^ 64) n (walk-word rest d (y .word) ne p next n))
           (subset-minus 64 rest (single d) (y .word)) (y .part)
 
-      pub try-on : {b : Bool} → b ≡ (eqb (alone (take (i + 1) sets) t) t && not (doomed sets t)) → b ≡ true → {o : List ℕ} {r : ℕ} → Filled out o found r (From sets t (i + 1)) → length o ≡ length out
+      pub try-on : {b : Bool} → b ≡ goesOn sets (i + 1) t → b ≡ true → {o : List ℕ} {r : ℕ} → Filled out o found r (From sets t (i + 1)) → length o ≡ length out
           → {out' : List ℕ} {found' : ℕ} → out' ≡ o → found' ≡ r → Trying sets m pos i out₀ out' count found' next
       try-on e g {o} {r} f l p' q' = rw (p', q') (record {
         branch = y .branch;
@@ -86,7 +86,7 @@ module _ {sets : List ℕ} {m pos i : ℕ} {out₀ out : List ℕ} {count found 
             (filled-then out o o' found r r' (From sets t (i + 1)) (Each sets i m (drives next)) l f h));
       })
 
-      pub try-off : {b : Bool} → b ≡ (eqb (alone (take (i + 1) sets) t) t && not (doomed sets t)) → b ≡ false
+      pub try-off : {b : Bool} → b ≡ goesOn sets (i + 1) t → b ≡ false
           → {out' : List ℕ} {found' : ℕ} → out' ≡ out → found' ≡ found → Trying sets m pos i out₀ out' count found' next
       try-off e g p' q' = rw (p', q') (record {
         branch = y .branch;

@@ -3,12 +3,11 @@
 ghost use mathlib.Core.Path.{_≡_};
 ghost use mathlib.Core.Bool.{true, not, _&&_};
 ghost use Prim.Native.Nat.{ℕ, _-_, _≤_, _<_};
-ghost use lib.Dec.{eqb};
 ghost use lib.ListN.{length, getD, take, drop};
 ghost use Rattle.drive_sets.specs.Lists.{keep};
 ghost use Rattle.drive_sets.specs.Masks.{minus, meets, subset, drives};
 ghost use Rattle.hitting_sets.specs.Hitting.{hits, Minimal, alone, search, minimals};
-ghost use Rattle.hitting_sets.specs.LookAhead.{inAll, privates, barred, covered, doomed};
+ghost use Rattle.hitting_sets.specs.LookAhead.{inAll, privates, barred, covered, doomed, goesOn};
 ghost use Rattle.hitting_sets.specs.Missed.{FirstMissed};
 ghost use Rattle.drive_sets.specs.Filled.{Filled};
 use drive_sets::Drive;
@@ -154,7 +153,7 @@ fn next_missed(sets: &[u64], pos: usize, m: u64) -> usize
 // Each drive of t has a private set among the first `seen` sets, which t meets, and t is not doomed.
 fn goes_on(sets: &[u64], seen: usize, t: u64) -> bool
     requires { ⌜ (seen ≤ length (now sets)) × (hits (take seen (now sets)) t ≡ true) ⌝ }
-    ensures { λ r. ⌜ r ≡ (eqb (alone (take seen (now (sets .entry))) t) t && not (doomed (now (sets .entry)) t)) ⌝ }
+    ensures { λ r. ⌜ r ≡ goesOn (now (sets .entry)) seen t ⌝ }
 {
     if alone(&sets[0..seen], t) != t {
         return false;

@@ -2,3 +2,4 @@
 pub mod Tables
 pub mod Files
 pub mod Reading
+pub mod Complete

@@ -1,3 +1,4 @@
 // Survivor tables: reading, writing, cores and the way back.
+pub mod completing;
 pub mod reading;
 pub mod writing;

@@ -128,6 +128,35 @@ has-some n a h ne = let w = some-bit n a h ne in (suc (w .0), eq-eqb (bit (w .0)
 pub none-has : (n a : ℕ) → a < 2 ^ n → ((d : ℕ) → has d a ≡ false) → a ≡ 0
 none-has n a h f = has-ext n a 0 h (pow-pos n) (λ d p q. f d ∙ sym (has-none d))
 
+-- ---- union
+
+power-above : (n : ℕ) → n < 2 ^ n
+power-above zero = pow-pos 0
+power-above (suc n) = omega (arith, pow-suc 2 n, power-above n, pow-pos n)
+
+pub union-assoc : (a b c : ℕ) → union (union a b) c ≡ union a (union b c)
+union-assoc a b c =
+    has-ext n (union (union a b) c) (union a (union b c)) (union-lt n (union a b) c (union-lt n a b a-lt b-lt) c-lt) (union-lt n a (union b c) a-lt (union-lt n b c b-lt c-lt))
+    (λ d p q. has-union d (union a b) c
+    ∙ (ap (λ (t : Bool). t || has d c) (has-union d a b)
+    ∙ (or-assoc (has d a) (has d b) (has d c) ∙ sym (has-union d a (union b c) ∙ ap (λ (t : Bool). has d a || t) (has-union d b c)))))
+  where
+    n : ℕ
+    n = a + b + c
+
+    a-lt : a < 2 ^ n
+    a-lt = omega (arith, power-above a, pow-mono {i = a} {j = n} (omega arith))
+
+    b-lt : b < 2 ^ n
+    b-lt = omega (arith, power-above b, pow-mono {i = b} {j = n} (omega arith))
+
+    c-lt : c < 2 ^ n
+    c-lt = omega (arith, power-above c, pow-mono {i = c} {j = n} (omega arith))
+
+pub union-none : (a : ℕ) → union a 0 ≡ a
+unfolding union
+union-none a = or-zero-r a
+
 -- ---- subset
 
 pub subset-has : (d a b : ℕ) → subset a b ≡ true → has d a ≡ true → has d b ≡ true
@@ -165,35 +194,6 @@ subset-union n a b h = has-subset n a (union a b) h (λ d e. has-union d a b ∙
 
 pub subset-minus : (n a b : ℕ) → a < 2 ^ n → subset (minus a b) a ≡ true
 subset-minus n a b h = has-subset n (minus a b) a (minus-lt n a b h) (λ d e. and-left (has d a) (not (has d b)) (sym (has-minus d a b) ∙ e))
-
--- ---- union
-
-power-above : (n : ℕ) → n < 2 ^ n
-power-above zero = pow-pos 0
-power-above (suc n) = omega (arith, pow-suc 2 n, power-above n, pow-pos n)
-
-pub union-assoc : (a b c : ℕ) → union (union a b) c ≡ union a (union b c)
-union-assoc a b c =
-    has-ext n (union (union a b) c) (union a (union b c)) (union-lt n (union a b) c (union-lt n a b a-lt b-lt) c-lt) (union-lt n a (union b c) a-lt (union-lt n b c b-lt c-lt))
-    (λ d p q. has-union d (union a b) c
-    ∙ (ap (λ (t : Bool). t || has d c) (has-union d a b)
-    ∙ (or-assoc (has d a) (has d b) (has d c) ∙ sym (has-union d a (union b c) ∙ ap (λ (t : Bool). has d a || t) (has-union d b c)))))
-  where
-    n : ℕ
-    n = a + b + c
-
-    a-lt : a < 2 ^ n
-    a-lt = omega (arith, power-above a, pow-mono {i = a} {j = n} (omega arith))
-
-    b-lt : b < 2 ^ n
-    b-lt = omega (arith, power-above b, pow-mono {i = b} {j = n} (omega arith))
-
-    c-lt : c < 2 ^ n
-    c-lt = omega (arith, power-above c, pow-mono {i = c} {j = n} (omega arith))
-
-pub union-none : (a : ℕ) → union a 0 ≡ a
-unfolding union
-union-none a = or-zero-r a
 
 -- a part adds nothing
 pub union-subset : (a b : ℕ) → subset a b ≡ true → union a b ≡ b

@@ -1,18 +1,15 @@
--- The search: the sets still to come become fewer with each call; each return, and each turn of the loop over a missed set's drives, is a law of Trials.
-use Rattle.hitting_sets.proofs.Trials.{try-hits}
--- The search: the sets still to come become fewer with each call; each return, and each turn of the loop over a missed set's drives, is a law of Trials.
-use borrow.Author.Tests.{leb-true, leb-false}
+-- The search: the sets still to come become fewer with each call; each return, and each turn of the loop over a missed set's drives, is a
+-- law of Trials.
+use mathlib.Core.Path.{ap, _∙_}
+use mathlib.Core.Logic.{⊎-elim}
+use Prim.Native.Nat.{ℕ, _-_, _<_}
+use native.Mathlib.Omega.{arith}
 use lib.ListN.{length, length-set}
 use borrow.Author.Needs.{needs}
-use Rattle.hitting_sets.proofs.Trials.{Trying, try-start, try-minimal, try-on, try-off, try-end, try-full, end-one, end-over}
-use Rattle.hitting_sets.proofs.Walks.{walk-fewer}
+use borrow.Author.Tests.{leb-true, leb-false}
 use Rattle.drive_sets.specs.Masks.{size}
-use lib.ListN.{length}
-use native.Mathlib.Omega.{arith}
-use Prim.Native.Nat.{_-_}
-use mathlib.Core.Logic.{⊎-elim}
-use mathlib.Core.Path.{ap, _∙_}
-use Prim.Native.Nat.{ℕ, _<_}
+use Rattle.hitting_sets.proofs.Walks.{walk-fewer}
+use Rattle.hitting_sets.proofs.Trials.{Trying, try-start, try-hits, try-minimal, try-on, try-off, try-end, try-full, end-one, end-over}
 use borrow.Fn.Kinds.{In}
 use borrow.Fn.PlainCycle.{Measures, is, falls, and}
 use Rattle.hitting_sets.proofs.search.search_from.Reads as search-from

@@ -1,0 +1,13 @@
+-- The minimal hitting sets in the first places of a slice, in an order.
+use mathlib.Core.Path.{_≡_}
+use mathlib.Core.Bool.{Bool}
+use mathlib.Core.List.{List}
+use Prim.Native.Nat.{ℕ, suc, _≤_, min}
+use lib.ListN.{length, take}
+use Rattle.hitting_sets.specs.Hitting.{minimals}
+use Rattle.hitting_sets.specs.Order.{sort}
+
+-- r is their number, and one more than the room says that there are more; in order where the room is at most 1024
+pub record Found (before : ℕ → ℕ → Bool) (sets out out' : List ℕ) (r : ℕ) : Type 0 where
+  pub total : r ≡ min (suc (length out)) (length (minimals sets))
+  pub listed : r ≤ length out → length out ≤ 1024 → take r out' ≡ sort before (minimals sets)

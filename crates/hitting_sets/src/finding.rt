@@ -1,0 +1,19 @@
+// All minimal hitting sets, each once, in an order.
+ghost use Rattle.hitting_sets.specs.Found.{Found};
+ghost use Rattle.hitting_sets.specs.Order.{precedes};
+use crate::search;
+use crate::sorting;
+use crate::sorting::Order;
+
+// The minimal hitting sets of the sets in the first places of out, as many as the result says; one more than the room says that there
+// are more. Out behind them, and all of it where there are more, is left free.
+pub fn find(order: Order, sets: &[u64], out: &mut [u64]) -> usize
+    ensures { λ r. ⌜ Found (precedes order) (now (sets .entry)) (now (out .entry)) (now (out .exit)) r ⌝ }
+{
+    let found = search::minimal_hitting_sets(sets, out);
+    if out.len() < found {
+        return found;
+    }
+    sorting::sort(order, out, found);
+    found
+}

@@ -1,0 +1,57 @@
+-- The normal form, then the cores; more than there is room for, or all of them.
+use Rattle.tables.proofs.Completes.{count-le, normal-taken, normal-part, too-many, completed}
+use Rattle.tables.specs.Complete.{completeOutcome}
+use Rattle.tables.specs.Reading.{setsOf}
+use native.Mathlib.Omega.{arith}
+use mathlib.Core.Path.{refl}
+use borrow.Author.Needs.{needs}
+use Rattle.tables.proofs.completing.complete_sets.Statement.{statement}
+use Rattle.tables.proofs.completing.complete_sets.Tie as tie
+
+slice-aggregate-normal : tie.Need-slice-aggregate-normal
+slice-aggregate-normal c = search needs
+
+normal-requires : tie.Need-normal-requires
+normal-requires c κs = search needs
+
+sub-find : tie.Need-sub-find
+sub-find c = search needs
+
+part-find-start : tie.Need-part-find-start
+part-find-start c = search needs
+
+part-find-end : tie.Need-part-find-end
+part-find-end c = omega (arith, count-le (c .before .before .before .before .before .args .sets .now) _ _ _ (c .before .before .before .before .before .pre) refl (c .before .before .normal2 .ensures))
+
+slice-aggregate-find : tie.Need-slice-aggregate-find
+slice-aggregate-find c = search needs
+
+find-requires : tie.Need-find-requires
+find-requires c κs = search needs
+
+returns : tie.Need-returns
+unfolding completeOutcome
+returns c =
+    let a = c .before .before .before .before .before .before .before .before .before .before .args in
+    too-many (a .n) (a .sets .now) _ _ _ _ (normal-part (a .sets .now) _ _ _ (c .before .before .before .before .before .before .before .before .before .before .pre) refl (c .before .before .before .before .before .before .before .normal2 .ensures)) refl (c .before .before .find .ensures) (c .if1 .taken)
+
+returns-2 : tie.Need-returns-2
+unfolding completeOutcome setsOf
+returns-2 c =
+    let a = c .before .before .before .before .before .before .before .before .before .before .args in
+    completed (a .n) (a .sets .now) _ _ _ _ (normal-part (a .sets .now) _ _ _ (c .before .before .before .before .before .before .before .before .before .before .pre) refl (c .before .before .before .before .before .before .before .normal2 .ensures)) refl (c .before .before .find .ensures) (c .if1 .left)
+    _ (normal-taken (a .sets .now) _ _ _ (c .before .before .before .before .before .before .before .before .before .before .pre) refl (c .before .before .before .before .before .before .before .normal2 .ensures))
+
+pub complete-sets-spec : {M : Type 1} → statement M
+complete-sets-spec =
+    tie.close
+    (tie.spec
+    slice-aggregate-normal
+    normal-requires
+    sub-find
+    part-find-start
+    part-find-end
+    slice-aggregate-find
+    find-requires
+    returns
+    returns-2)

@@ -1,0 +1,12 @@
+-- A refusal.
+use Rattle.tables.specs.Complete.{completeOutcome}
+use mathlib.Core.Path.{refl}
+use Rattle.tables.proofs.completing.refused.Statement.{statement}
+use Rattle.tables.proofs.completing.refused.Tie as tie
+
+returns : tie.Need-returns
+unfolding completeOutcome
+returns c = refl
+
+pub refused-spec : {M : Type 1} → statement M
+refused-spec = tie.close (tie.spec returns)

@@ -1,0 +1,80 @@
+// A table made complete: the normal table and its cores, at most 1024.
+ghost use mathlib.Core.Path.{_≡_};
+ghost use Prim.Native.Nat.{_≤_};
+ghost use lib.ListN.{length};
+ghost use Rattle.tables.specs.Complete.{completeSets, completeOutcome};
+ghost use Rattle.tables.specs.Reading.{setsOf};
+ghost use Rattle.drive_sets.specs.Refusals.{refused};
+use crate::reading::Answer;
+use crate::reading::MAX_SETS;
+use crate::reading::Table;
+use drive_sets::Refusal;
+use hitting_sets::sorting::Order;
+
+pub const MAX_CORES: usize = 1024;
+
+// A normal table with its cores, the first `found` of the array, where it is accepted.
+pub struct CoreTable {
+    pub answer: Answer,
+    pub table: Table,
+    pub found: usize,
+    pub cores: [u64; 1024],
+}
+
+pub fn refused(r: Refusal) -> CoreTable
+    ensures { λ t. ⌜ completeOutcome t ≡ refused r ⌝ }
+{
+    CoreTable {
+        answer: Answer::Refused(r),
+        table: Table {
+            n: 0,
+            count: 0,
+            sets: [0u64; 128],
+        },
+        found: 0,
+        cores: [0u64; 1024],
+    }
+}
+
+// The normal table of at most 128 sets and its cores; 13 where there are more than 1024.
+fn complete_sets(n: u8, sets: &[u64]) -> CoreTable
+    requires { ⌜ length (now sets) ≤ 128 ⌝ }
+    ensures { λ r. ⌜ completeOutcome r ≡ completeSets n (now (sets .entry)) ⌝ }
+{
+    let mut normal = [0u64; 128];
+    let count = hitting_sets::normal_form::normal(sets, &mut normal);
+    let mut cores = [0u64; 1024];
+    let found = hitting_sets::finding::find(Order::BySize, &normal[0..count], &mut cores);
+    let table = Table {
+        n,
+        count,
+        sets: normal,
+    };
+    if MAX_CORES < found {
+        return CoreTable {
+            answer: Answer::Refused(Refusal::TooManyCores),
+            table,
+            found: 0,
+            cores,
+        };
+    }
+    CoreTable {
+        answer: Answer::Accepted,
+        table,
+        found,
+        cores,
+    }
+}
+
+// The same of a table as it was listed.
+pub fn complete(t: Table) -> CoreTable
+    ensures { λ r. ⌜ completeOutcome r ≡ completeSets (t .n) (setsOf t) ⌝ }
+{
+    let n = t.n;
+    let count = t.count;
+    let sets = t.sets;
+    if MAX_SETS < count {
+        return complete_sets(n, &sets);
+    }
+    complete_sets(n, &sets[0..count])
+}
