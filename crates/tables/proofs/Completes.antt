@@ -1,16 +1,20 @@
 -- The normal table and its cores, as the code finds them, are those of the definitions.
 use mathlib.Core.Path.{_≡_, refl, sym, ap, ap₂, _∙_}
-use mathlib.Core.Bool.{Bool}
-use mathlib.Core.List.{List}
-use Prim.Native.Nat.{ℕ, _-_, _≤_, _<_}
-use native.Mathlib.Nat.{sub-zero}
+use mathlib.Core.Bool.{Bool, true, false, not, _&&_}
+use mathlib.Core.List.{List, [], _∷_}
+use Prim.Native.Nat.{ℕ, suc, _+_, _-_, _≤_, _<_}
+use native.Mathlib.Nat.{sub-zero, le-of-lt}
 use native.Mathlib.Omega.{arith}
-use lib.ListN.{length, take, drop}
-use lib.Seq.{take-at, take-all}
+use native.Mathlib.Numerals.{add-one}
+use lib.ListN.{length, getD, take, drop, length-drop, drop-of-length-le}
+use lib.Seq.{take-at, take-all, drop-cons, drop-length}
 use borrow.Author.Tests.{lt-ltb, le-ltb}
-use Rattle.drive_sets.specs.declared.Refusal.the-variants.{TooManyCores}
+use Rattle.drive_sets.specs.declared.Refusal.{Refusal}
+use Rattle.drive_sets.specs.declared.Refusal.the-variants.{WrongMark, FrameSize, BadSet, TooManySets, TrailingBytes, TooManyCores}
 use Rattle.drive_sets.specs.Bools.{cond-true, cond-false}
-use Rattle.drive_sets.specs.Refusals.{Outcome, refused, result, andThen}
+use Rattle.drive_sets.specs.Refusals.{Outcome, refused, result, refuseIf, andThen}
+use Rattle.drive_sets.specs.Lists.{all}
+use Rattle.records.proofs.Parts.{rest-is}
 use Rattle.hitting_sets.specs.declared.sorting.Order.the-variants.{BySize}
 use Rattle.hitting_sets.specs.Hitting.{minimals}
 use Rattle.hitting_sets.specs.Found.{Found}
@@ -18,9 +22,14 @@ use Rattle.hitting_sets.specs.Order.{sort, bySize, precedes, normal, normalWith
 use Rattle.hitting_sets.specs.Order.Sort.{length-sort}
 use Rattle.hitting_sets.specs.Order.Normal.{normalWithin-fits, length-normal}
 use Rattle.tables.specs.declared.reading.Table.{Table}
-use Rattle.tables.specs.Tables.{cores, uncrowded}
-use Rattle.tables.specs.Reading.{setsOf}
-use Rattle.tables.specs.Complete.{withCores, completeSets}
+use Rattle.tables.specs.declared.reading.TableRead.{TableRead}
+use Rattle.tables.specs.declared.reading.Answer.{Answer}
+use Rattle.tables.specs.declared.reading.Answer.the-variants.{Accepted, Refused}
+use Rattle.tables.specs.declared.files.TableFile.{TableFile}
+use Rattle.tables.specs.Tables.{isFrame, isSet, isEmpty, cores, uncrowded, normalTable}
+use Rattle.tables.specs.Files.{ReadTable, readListed}
+use Rattle.tables.specs.Reading.{setsOf, outcomeOf, readOutcome}
+use Rattle.tables.specs.Complete.{Complete, ReadComplete, withCores, completeSets, completeTable, completeOutcome, acceptedWith, readComplete, readWholeComplete, fileOutcome}
 
 -- ---- the normal table
 
@@ -74,3 +83,126 @@ all-taken t e h = sym (take-all (t .count) (t .sets) (omega arith))
 pub first-taken : (t : Table) → take (t .count - 0) (t .sets) ≡ setsOf t
 unfolding setsOf
 first-taken t = ap (λ (k : ℕ). take k (t .sets)) (sub-zero (t .count))
+
+-- ---- a test of every set, one after the other
+
+module _ (p : ℕ → Bool) (s : List ℕ) (i : ℕ) where
+  pub all-step : i < length s → p (getD s i 0) ≡ true → all p (drop (i + 1) s) ≡ all p (drop i s)
+  unfolding all
+  all-step h e =
+      sym (ap (all p) (drop-cons s i 0 h) ∙ (ap (λ (b : Bool). b && all p (drop (suc i) s)) e ∙ ap (λ (k : ℕ). all p (drop k s)) (sym (add-one i))))
+
+  pub all-stop : i < length s → p (getD s i 0) ≡ false → all p (drop i s) ≡ false
+  unfolding all
+  all-stop h e = ap (all p) (drop-cons s i 0 h) ∙ ap (λ (b : Bool). b && all p (drop (suc i) s)) e
+
+  pub all-end : length s ≤ i → all p (drop i s) ≡ true
+  unfolding all
+  all-end h = ap (all p) (drop-of-length-le s h)
+
+-- ---- the refusals of a call given n and sets
+
+no-elements : (l : List ℕ) → length l ≡ 0 → isEmpty l ≡ true
+unfolding isEmpty
+no-elements [] e = refl
+no-elements (x ∷ l) e = absurd (omega arith)
+
+some-elements : (l : List ℕ) → (length l ≡ 0 → ⊥) → isEmpty l ≡ false
+unfolding isEmpty
+some-elements [] ne = absurd (ne refl)
+some-elements (x ∷ l) ne = refl
+
+module _ (n : ℕ) (sets : List ℕ) where
+  abbrev with-cores : Outcome (List ℕ) → Outcome Complete
+  with-cores o = andThen o (λ table. result (withCores n table))
+
+  -- the refusals passed so far, each the next test
+  module _ (t : Bool) (e : t ≡ isFrame n) where
+    pub no-frame : not t ≡ true → refused FrameSize ≡ completeTable n sets
+    unfolding completeTable normalTable
+    no-frame h = sym (ap with-cores (cond-true _ _ (ap not (sym e) ∙ h)))
+
+    module _ (h : not t ≡ false) where
+      pub no-sets : length sets ≡ 0 → refused WrongMark ≡ completeTable n sets
+      unfolding completeTable normalTable
+      no-sets none = sym (ap with-cores (cond-false _ _ (ap not (sym e) ∙ h) ∙ cond-true _ _ (no-elements sets none)))
+
+      module _ (some : length sets ≡ 0 → ⊥) where
+        pub many-sets : 128 < length sets → refused TooManySets ≡ completeTable n sets
+        unfolding completeTable normalTable
+        many-sets m =
+            sym (ap with-cores (cond-false _ _ (ap not (sym e) ∙ h) ∙ (cond-false _ _ (some-elements sets some) ∙ cond-true _ _ (lt-ltb 128 (length sets) m))))
+
+        module _ (few : length sets ≤ 128) (u : Bool) (f : u ≡ all (isSet n) sets) where
+          passed-three : normalTable n sets ≡ refuseIf (not (all (isSet n) sets)) BadSet (uncrowded sets)
+          unfolding normalTable
+          passed-three = cond-false _ _ (ap not (sym e) ∙ h) ∙ (cond-false _ _ (some-elements sets some) ∙ cond-false _ _ (le-ltb 128 (length sets) few))
+
+          pub bad-sets : not u ≡ true → refused BadSet ≡ completeTable n sets
+          unfolding completeTable
+          bad-sets b = sym (ap with-cores (passed-three ∙ cond-true _ _ (ap not (sym f) ∙ b)))
+
+          pub good-sets : not u ≡ false → completeSets n sets ≡ completeTable n sets
+          unfolding completeTable completeSets
+          good-sets g = sym (ap with-cores (passed-three ∙ cond-false _ _ (ap not (sym f) ∙ g)))
+
+-- ---- tables from a file
+
+-- a refused listing stays refused
+pub finish-refused : (l : TableRead) (t : TableFile) (q : Refusal) → l .answer ≡ Refused q → completeOutcome (t .complete) ≡ refused q → (s : List ℕ)
+    → fileOutcome t s ≡ andThen (readOutcome l s) acceptedWith
+unfolding fileOutcome readOutcome
+finish-refused l t q e f s =
+    ap (λ (o : Outcome Complete). andThen o (λ table. result (record { table = table; rest = drop (t .used) s }))) f
+    ∙ sym (ap (λ (a : Answer). andThen (outcomeOf a (record { n = l .table .n; sets = setsOf (l .table); rest = drop (l .used) s })) acceptedWith) e)
+
+pub finish-accepted : (l : TableRead) (t : TableFile) → l .answer ≡ Accepted → t .used ≡ l .used → completeOutcome (t .complete) ≡ completeSets (l .table .n) (setsOf (l .table)) → (s : List ℕ)
+    → fileOutcome t s ≡ andThen (readOutcome l s) acceptedWith
+unfolding fileOutcome readOutcome acceptedWith
+finish-accepted l t e u f s =
+    ap₂ (λ (o : Outcome Complete) (k : ℕ). andThen o (λ table. result (record { table = table; rest = drop k s }))) f u
+    ∙ sym (ap (λ (a : Answer). andThen (outcomeOf a (record { n = l .table .n; sets = setsOf (l .table); rest = drop (l .used) s })) acceptedWith) e)
+
+pub table-finished : (l : TableRead) (t : TableFile) (s : List ℕ) → readOutcome l s ≡ readListed s → fileOutcome t s ≡ andThen (readOutcome l s) acceptedWith
+    → fileOutcome t s ≡ readComplete s
+unfolding readComplete
+table-finished l t s e f = f ∙ ap (λ (o : Outcome ReadTable). andThen o acceptedWith) e
+
+-- nothing behind, or something
+rest-none : (s : List ℕ) (k : ℕ) → length s ≤ k → isEmpty (drop k s) ≡ true
+rest-none s k h = no-elements (drop k s) (omega (arith, length-drop k s))
+
+rest-some : (s : List ℕ) (k : ℕ) → k < length s → isEmpty (drop k s) ≡ false
+rest-some s k h = some-elements (drop k s) (λ e. omega (arith, length-drop k s))
+
+abbrev whole-of : Outcome ReadTable → Outcome ReadComplete
+whole-of o = andThen o (λ t. refuseIf (not (isEmpty (t .rest))) TrailingBytes (acceptedWith t))
+
+module _ (l : TableRead) (t : TableFile) (s : List ℕ) (e : readOutcome l s ≡ readListed s) where
+  whole-answer : (a : Answer) → l .answer ≡ a
+      → whole-of (outcomeOf a (record { n = l .table .n; sets = setsOf (l .table); rest = drop (l .used) s })) ≡ readWholeComplete s
+  unfolding readOutcome readWholeComplete
+  whole-answer a f =
+      ap (λ (b : Answer). whole-of (outcomeOf b (record { n = l .table .n; sets = setsOf (l .table); rest = drop (l .used) s }))) (sym f) ∙ ap whole-of e
+
+  pub whole-refused : (q : Refusal) → l .answer ≡ Refused q → completeOutcome (t .complete) ≡ refused q → fileOutcome t s ≡ readWholeComplete s
+  unfolding fileOutcome
+  whole-refused q f g =
+      ap (λ (o : Outcome Complete). andThen o (λ table. result (record { table = table; rest = drop (t .used) s }))) g ∙ whole-answer (Refused q) f
+
+  module _ (f : l .answer ≡ Accepted) where
+    pub whole-trailing : l .used < length s → completeOutcome (t .complete) ≡ refused TrailingBytes → fileOutcome t s ≡ readWholeComplete s
+    unfolding fileOutcome
+    whole-trailing h g =
+        ap (λ (o : Outcome Complete). andThen o (λ table. result (record { table = table; rest = drop (t .used) s }))) g
+        ∙ (sym (cond-true _ _ (ap not (rest-some s (l .used) h))) ∙ whole-answer Accepted f)
+
+    pub whole-finished : length s ≤ l .used → fileOutcome t s ≡ andThen (readOutcome l s) acceptedWith → fileOutcome t s ≡ readWholeComplete s
+    unfolding readOutcome
+    whole-finished h g =
+        g
+        ∙ (ap (λ (a : Answer). andThen (outcomeOf a (record { n = l .table .n; sets = setsOf (l .table); rest = drop (l .used) s })) acceptedWith) f
+        ∙ (sym (cond-false _ _ (ap not (rest-none s (l .used) h))) ∙ whole-answer Accepted f))
+
+pub past-end : (s : List ℕ) (used : ℕ) → length s < used → take (length s - length s) (drop (length s) s) ≡ drop used s
+past-end s used h = rest-is s (length s) ∙ (drop-length s ∙ sym (drop-of-length-le s (le-of-lt h)))

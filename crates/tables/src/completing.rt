@@ -2,12 +2,16 @@
 ghost use mathlib.Core.Path.{_≡_};
 ghost use Prim.Native.Nat.{_≤_};
 ghost use lib.ListN.{length};
-ghost use Rattle.tables.specs.Complete.{completeSets, completeOutcome};
+ghost use Rattle.tables.specs.Complete.{completeSets, completeTable, completeOutcome};
+ghost use Rattle.tables.specs.Tables.{isSet};
+ghost use Rattle.drive_sets.specs.Lists.{all};
 ghost use Rattle.tables.specs.Reading.{setsOf};
 ghost use Rattle.drive_sets.specs.Refusals.{refused};
 use crate::reading::Answer;
 use crate::reading::MAX_SETS;
 use crate::reading::Table;
+use crate::reading::is_frame;
+use crate::reading::is_set;
 use drive_sets::Refusal;
 use hitting_sets::sorting::Order;
 
@@ -77,4 +81,37 @@ pub fn complete(t: Table) -> CoreTable
         return complete_sets(n, &sets);
     }
     complete_sets(n, &sets[0..count])
+}
+
+// Each is a set of the frame.
+fn all_sets(n: u8, sets: &[u64]) -> bool
+    ensures { λ r. ⌜ r ≡ all (isSet n) (now (sets .entry)) ⌝ }
+{
+    let mut i = 0;
+    while i < sets.len() {
+        if !is_set(n, sets[i]) {
+            return false;
+        }
+        i += 1;
+    }
+    true
+}
+
+// The normal table of n drives and some sets, with its cores: 3, 2, 5, 4, 13.
+pub fn accept(n: u8, sets: &[u64]) -> CoreTable
+    ensures { λ r. ⌜ completeOutcome r ≡ completeTable n (now (sets .entry)) ⌝ }
+{
+    if !is_frame(n) {
+        return refused(Refusal::FrameSize);
+    }
+    if sets.len() == 0 {
+        return refused(Refusal::WrongMark);
+    }
+    if MAX_SETS < sets.len() {
+        return refused(Refusal::TooManySets);
+    }
+    if !all_sets(n, sets) {
+        return refused(Refusal::BadSet);
+    }
+    complete_sets(n, sets)
 }

@@ -149,7 +149,7 @@ fn read_sets(s: &[u8], n: u8) -> TableRead
 }
 
 // A table as it is listed.
-fn read_listed(s: &[u8]) -> TableRead
+pub fn read_listed(s: &[u8]) -> TableRead
     ensures { λ r. ⌜ readOutcome r (now (s .entry)) ≡ readListed (now (s .entry)) ⌝ }
 {
     let head = records::read_head(s, Due::AtFrame);

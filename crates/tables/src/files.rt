@@ -1,0 +1,81 @@
+// Tables from bytes: whole, or with the rest of the caller's slice handed back.
+ghost use mathlib.Core.Path.{_≡_};
+ghost use mathlib.Core.List.{List};
+ghost use Prim.Native.Nat.{ℕ};
+ghost use lib.ListN.{drop};
+ghost use Rattle.drive_sets.specs.Refusals.{refused, andThen};
+ghost use Rattle.tables.specs.Reading.{readOutcome};
+ghost use Rattle.tables.specs.Complete.{completeOutcome, acceptedWith, readComplete, readWholeComplete, fileOutcome};
+use crate::completing;
+use crate::completing::CoreTable;
+use crate::reading;
+use crate::reading::Answer;
+use crate::reading::TableRead;
+use drive_sets::Refusal;
+
+// A table with its cores, where it is accepted, and how many bytes it took.
+pub struct TableFile {
+    pub complete: CoreTable,
+    pub used: usize,
+}
+
+fn refused_file(r: Refusal) -> TableFile
+    ensures { λ t. ⌜ (t .used ≡ 0) × (completeOutcome (t .complete) ≡ refused r) ⌝ }
+{
+    TableFile {
+        complete: completing::refused(r),
+        used: 0,
+    }
+}
+
+// What was listed, made complete.
+fn finish(listed: TableRead) -> TableFile
+    ensures { λ t. ⌜ ((s : List ℕ) → fileOutcome t s ≡ andThen (readOutcome listed s) acceptedWith) ⌝ }
+{
+    let answer = listed.answer;
+    let table = listed.table;
+    let used = listed.used;
+    match answer {
+        Answer::Refused(r) => refused_file(r),
+        Answer::Accepted => TableFile {
+            complete: completing::complete(table),
+            used,
+        },
+    }
+}
+
+// A table with anything behind it.
+pub fn read_table(s: &[u8]) -> TableFile
+    ensures { λ r. ⌜ fileOutcome r (now (s .entry)) ≡ readComplete (now (s .entry)) ⌝ }
+{
+    finish(reading::read_listed(s))
+}
+
+// A table and nothing more: bytes after the end meet 7.
+pub fn read_whole(s: &[u8]) -> TableFile
+    ensures { λ r. ⌜ fileOutcome r (now (s .entry)) ≡ readWholeComplete (now (s .entry)) ⌝ }
+{
+    let listed = reading::read_listed(s);
+    let answer = listed.answer;
+    let used = listed.used;
+    match answer {
+        Answer::Refused(r) => refused_file(r),
+        Answer::Accepted => {
+            if used < s.len() {
+                return refused_file(Refusal::TrailingBytes);
+            }
+            finish(listed)
+        }
+    }
+}
+
+// What stands behind the bytes that were used.
+pub fn rest(s: &[u8], used: usize) -> &[u8]
+    ensures { λ r. ⌜ now r ≡ drop used (now (s .entry)) ⌝ }
+{
+    if s.len() < used {
+        let end = s.len();
+        return &s[end..];
+    }
+    &s[used..]
+}
