@@ -10,6 +10,7 @@ pub mod Distinct
 pub mod Counts
 pub mod Smallest
 pub mod FirstSome
+pub mod Places
 
 -- a, a + 1, .., k of them
 unfoldable pub range : ℕ → ℕ → List ℕ

@@ -10,6 +10,13 @@ use Rattle.drive_sets.specs.declared.Refusal.the-variants.{BlockCount}
 use Rattle.drive_sets.specs.Masks.{full, union, common, outside}
 use Rattle.drive_sets.specs.Refusals.{Outcome, result, refuseIf, andThen}
 use Rattle.tables.specs.Tables.{normalTable}
+pub mod Search
+pub mod Found
+pub mod Intersection
+pub mod Blocks
+pub mod Splits
+pub mod Witness
+pub mod Partition
 
 pub data Verdict : Type 0 where
   yes : Verdict
@@ -37,9 +44,16 @@ unfoldable pub blocksOf : ℕ → ℕ → List ℕ → List ℕ
 blocksOf n taken [] = []
 blocksOf n taken (s ∷ named) = outside n (union s taken) ∷ blocksOf n (union taken (outside n (union s taken))) named
 
+-- the set at a position of the table, from 1, and the sets at a list of positions
+abbrev pub setAt : List ℕ → ℕ → ℕ
+setAt table p = getD table (p - 1) 0
+
+abbrev pub setsAt : List ℕ → List ℕ → List ℕ
+setsAt table ps = map (setAt table) ps
+
 abbrev pub verdictWith : ℕ → List ℕ → Option (List ℕ) → Verdict
 verdictWith n table none = yes
-verdictWith n table (some ps) = no ps (blocksOf n 0 (map (λ p. getD table (p - 1) 0) ps))
+verdictWith n table (some ps) = no ps (blocksOf n 0 (setsAt table ps))
 
 -- the verdict on a normal table
 unfoldable pub verdictOn : ℕ → ℕ → List ℕ → Verdict

@@ -97,6 +97,10 @@ pub full-lt : (n : ℕ) → full n < 2 ^ n
 unfolding full
 full-lt n = omega (arith, ones-lt (min n 64), pow-mono {i = min n 64} {j = n} (omega arith))
 
+pub full-word : (n : ℕ) → full n < 2 ^ 64
+unfolding full
+full-word n = omega (arith, ones-lt (min n 64), pow-mono {i = min n 64} {j = 64} (omega arith))
+
 pub full-is : (n : ℕ) → n ≤ 64 → full n ≡ 2 ^ n - 1
 unfolding full
 full-is n h = ap (λ (k : ℕ). 2 ^ k - 1) cut

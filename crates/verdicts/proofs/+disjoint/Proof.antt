@@ -1,0 +1,126 @@
+-- The search for k positions, by recursion on k: what is found from here on is what the whole gives.
+use native.Mathlib.Omega.{arith}
+use mathlib.Core.Path.{refl}
+use Rattle.drive_sets.specs.Masks.{common}
+use Rattle.verdicts.proofs.Loops.{Searching, search-start, found-one, found-more, found-later, found-end}
+use borrow.Author.Needs.{needs}
+use Prim.Native.Nat.{_-_}
+use lib.ListN.{length}
+use Prim.Native.Nat.{ℕ, _<_}
+use borrow.Fn.Kinds.{In}
+use borrow.Fn.PlainCycle.{Measures, is, falls, and}
+use Rattle.verdicts.proofs.disjoint.Reads as disjoint
+use Rattle.verdicts.proofs.disjoint.Kinds as disjoint-kinds
+use Rattle.verdicts.proofs.+disjoint.Lts-disjoint as disjoint-lts
+use Rattle.verdicts.proofs.first_apart.Reads as first-apart-reads
+use Rattle.verdicts.proofs.+disjoint.{statement}
+use Rattle.verdicts.proofs.+disjoint.Tie.{close}
+
+abbrev μ-disjoint : Measures 1 disjoint-kinds.ps ℕ
+μ-disjoint κs a = a .0
+
+abbrev disjoint-at : ℕ → In 1 disjoint-kinds.ps
+disjoint-at t = and 1 disjoint-kinds.ps (is 1 disjoint-kinds.ps μ-disjoint t) disjoint.Pre
+
+abbrev disjoint-below : ℕ → In 1 disjoint-kinds.ps
+disjoint-below t =
+    and 1 disjoint-kinds.ps (falls 1 disjoint-kinds.ps _<_ μ-disjoint t) disjoint.Pre
+
+abbrev disjoint-Inv-loop : disjoint-lts.InvT-loop
+disjoint-Inv-loop k table from shared i₀ i = Searching k table from shared i
+
+abbrev disjoint-μ-loop : disjoint-lts.MeasureT-loop
+disjoint-μ-loop k table from shared i₀ i = length table - i
+
+abbrev K : ℕ → disjoint-lts.Claims
+K t = (
+  first-apart-reads.Asked,
+  first-apart-reads.Learnt,
+  disjoint-below t,
+  disjoint.Post,
+)
+
+disjoint-first-apart-requires : (t : ℕ) → disjoint-lts.Need-first-apart-requires (K t) (disjoint-at t) disjoint.Post disjoint-Inv-loop disjoint-μ-loop
+disjoint-first-apart-requires t c κs = search needs
+
+disjoint-add-t12 : (t : ℕ) → disjoint-lts.Need-add-t12 (K t) (disjoint-at t) disjoint.Post disjoint-Inv-loop disjoint-μ-loop
+disjoint-add-t12 t c = search needs
+
+disjoint-cast-t13 : (t : ℕ) → disjoint-lts.Need-cast-t13 (K t) (disjoint-at t) disjoint.Post disjoint-Inv-loop disjoint-μ-loop
+disjoint-cast-t13 t c = search needs
+
+disjoint-returns : (t : ℕ) → disjoint-lts.Need-returns (K t) (disjoint-at t) disjoint.Post disjoint-Inv-loop disjoint-μ-loop
+disjoint-returns t c = let a = c .before .before .before .args in (refl, found-one (a .table .now) (a .k) (a .from) (a .shared) _ (c .before .if1 .taken) (c .first-apart .ensures .1))
+
+disjoint-loop-holds : (t : ℕ) → disjoint-lts.Need-loop-holds (K t) (disjoint-at t) disjoint.Post disjoint-Inv-loop disjoint-μ-loop
+disjoint-loop-holds t c = search-start _ _ _ _ (c .before .before .pre .1 .2)
+
+disjoint-sub-disjoint : (t : ℕ) → disjoint-lts.Need-sub-disjoint (K t) (disjoint-at t) disjoint.Post disjoint-Inv-loop disjoint-μ-loop
+disjoint-sub-disjoint t c = search needs
+
+disjoint-mul-disjoint : (t : ℕ) → disjoint-lts.Need-mul-disjoint (K t) (disjoint-at t) disjoint.Post disjoint-Inv-loop disjoint-μ-loop
+disjoint-mul-disjoint t c = search needs
+
+disjoint-shared-slice-read-disjoint : (t : ℕ) → disjoint-lts.Need-shared-slice-read-disjoint (K t) (disjoint-at t) disjoint.Post disjoint-Inv-loop disjoint-μ-loop
+disjoint-shared-slice-read-disjoint t c = search needs
+
+disjoint-disjoint-requires : (t : ℕ) → disjoint-lts.Need-disjoint-requires (K t) (disjoint-at t) disjoint.Post disjoint-Inv-loop disjoint-μ-loop
+disjoint-disjoint-requires t c κs = search needs
+
+disjoint-add-t21 : (t : ℕ) → disjoint-lts.Need-add-t21 (K t) (disjoint-at t) disjoint.Post disjoint-Inv-loop disjoint-μ-loop
+disjoint-add-t21 t c = search needs
+
+disjoint-cast-t22 : (t : ℕ) → disjoint-lts.Need-cast-t22 (K t) (disjoint-at t) disjoint.Post disjoint-Inv-loop disjoint-μ-loop
+disjoint-cast-t22 t c = search needs
+
+disjoint-array-read-t25 : (t : ℕ) → disjoint-lts.Need-array-read-t25 (K t) (disjoint-at t) disjoint.Post disjoint-Inv-loop disjoint-μ-loop
+disjoint-array-read-t25 t c = search needs
+
+disjoint-array-read-t28 : (t : ℕ) → disjoint-lts.Need-array-read-t28 (K t) (disjoint-at t) disjoint.Post disjoint-Inv-loop disjoint-μ-loop
+disjoint-array-read-t28 t c = search needs
+
+disjoint-array-read-t31 : (t : ℕ) → disjoint-lts.Need-array-read-t31 (K t) (disjoint-at t) disjoint.Post disjoint-Inv-loop disjoint-μ-loop
+disjoint-array-read-t31 t c = search needs
+
+disjoint-returns-2 : (t : ℕ) → disjoint-lts.Need-returns-2 (K t) (disjoint-at t) disjoint.Post disjoint-Inv-loop disjoint-μ-loop
+unfolding common
+disjoint-returns-2 t c = let a = c .before .before .before .before .before .before .before .before .args in (refl, found-more (a .k) (a .k - 1) (a .table .now) (a .from) (a .shared) (c .before .before .before .before .before .loop .i) (omega arith) (c .before .before .before .before .before .loop .inv) (c .before .before .disjoint .result) (c .before .before .before .before .loop-test .taken) (c .before .before .disjoint .ensures .1) (omega arith) (omega (arith, c .before .before .disjoint .ensures .0)) (c .before .if2 .taken))
+
+disjoint-add-i : (t : ℕ) → disjoint-lts.Need-add-i (K t) (disjoint-at t) disjoint.Post disjoint-Inv-loop disjoint-μ-loop
+disjoint-add-i t c = search needs
+
+disjoint-loop-less : (t : ℕ) → disjoint-lts.Need-loop-less (K t) (disjoint-at t) disjoint.Post disjoint-Inv-loop disjoint-μ-loop
+disjoint-loop-less t c = search needs
+
+disjoint-loop-again : (t : ℕ) → disjoint-lts.Need-loop-again (K t) (disjoint-at t) disjoint.Post disjoint-Inv-loop disjoint-μ-loop
+unfolding common
+disjoint-loop-again t c = let a = c .before .before .before .before .before .before .before .args in found-later (a .k) (a .k - 1) (a .table .now) (a .from) (a .shared) (c .before .before .before .before .loop .i) (omega arith) (c .before .before .before .before .loop .inv) (c .before .disjoint .result) (c .before .before .before .loop-test .taken) (c .before .disjoint .ensures .1) (c .if2 .left)
+
+disjoint-returns-3 : (t : ℕ) → disjoint-lts.Need-returns-3 (K t) (disjoint-at t) disjoint.Post disjoint-Inv-loop disjoint-μ-loop
+disjoint-returns-3 t c = let a = c .before .before .before .before .args in (refl, found-end (a .k) (a .k - 1) (a .table .now) (a .from) (a .shared) (c .before .loop .i) (omega arith) (c .before .loop .inv) _ refl (c .loop-test .left))
+
+pub +disjoint-spec : {M : Type 1} → statement M
++disjoint-spec = close μ-disjoint λ t. disjoint-lts.spec (K t)
+    (disjoint-at t)
+    disjoint.Post
+    disjoint-Inv-loop
+    disjoint-μ-loop
+    (disjoint-first-apart-requires t)
+    (disjoint-add-t12 t)
+    (disjoint-cast-t13 t)
+    (disjoint-returns t)
+    (disjoint-loop-holds t)
+    (disjoint-sub-disjoint t)
+    (disjoint-mul-disjoint t)
+    (disjoint-shared-slice-read-disjoint t)
+    (disjoint-disjoint-requires t)
+    (disjoint-add-t21 t)
+    (disjoint-cast-t22 t)
+    (disjoint-array-read-t25 t)
+    (disjoint-array-read-t28 t)
+    (disjoint-array-read-t31 t)
+    (disjoint-returns-2 t)
+    (disjoint-add-i t)
+    (disjoint-loop-less t)
+    (disjoint-loop-again t)
+    (disjoint-returns-3 t)

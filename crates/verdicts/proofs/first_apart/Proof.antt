@@ -1,0 +1,55 @@
+-- The first set apart from `shared`: what is found from here on is what the whole gives.
+use borrow.Author.Needs.{needs}
+use Prim.Native.Nat.{_-_}
+use lib.ListN.{length}
+use Rattle.drive_sets.specs.Masks.{common}
+use Rattle.verdicts.proofs.Loops.{Searching, search-start, apart-found, apart-turn, apart-end}
+use Rattle.verdicts.proofs.first_apart.Statement.{statement}
+use Rattle.verdicts.proofs.first_apart.Tie as tie
+
+abbrev Inv-loop : tie.InvT-loop
+Inv-loop table from shared i₀ i = Searching 1 table from shared i
+
+abbrev μ-loop : tie.MeasureT-loop
+μ-loop table from shared i₀ i = length table - i
+
+loop-holds : tie.Need-loop-holds Inv-loop μ-loop
+loop-holds c = search-start 1 _ _ _ (c .pre)
+
+mul-if1 : tie.Need-mul-if1 Inv-loop μ-loop
+mul-if1 c = search needs
+
+shared-slice-read-if1 : tie.Need-shared-slice-read-if1 Inv-loop μ-loop
+shared-slice-read-if1 c = search needs
+
+returns : tie.Need-returns Inv-loop μ-loop
+unfolding common
+returns c = (search needs, apart-found _ _ _ _ (c .before .before .before .loop .inv) (c .before .before .loop-test .taken) (c .if1 .taken))
+
+add-i : tie.Need-add-i Inv-loop μ-loop
+add-i c = search needs
+
+loop-less : tie.Need-loop-less Inv-loop μ-loop
+loop-less c = search needs
+
+loop-again : tie.Need-loop-again Inv-loop μ-loop
+unfolding common
+loop-again c = apart-turn _ _ _ _ (c .before .before .before .loop .inv) (c .before .before .loop-test .taken) (c .if1 .left)
+
+returns-2 : tie.Need-returns-2 Inv-loop μ-loop
+returns-2 c = (search needs, apart-end _ _ _ _ (c .before .loop .inv) (c .loop-test .left))
+
+pub first-apart-spec : {M : Type 1} → statement M
+first-apart-spec =
+    tie.close
+    (tie.spec
+    Inv-loop
+    μ-loop
+    loop-holds
+    mul-if1
+    shared-slice-read-if1
+    returns
+    add-i
+    loop-less
+    loop-again
+    returns-2)

@@ -1,0 +1,88 @@
+-- The blocks, one for each named set.
+use Rattle.drive_sets.specs.Masks.{outside}
+use Prim.Native.Nat.{ℕ}
+use Rattle.verdicts.proofs.Splitting.{Splitting, splitting-start, splitting-turn, splitting-end, count-named, is-named, position-within}
+use borrow.Author.Needs.{needs}
+use Prim.Native.Nat.{_-_}
+use mathlib.Core.Path.{sym, ap, _∙_}
+use lib.ListN.{take}
+use native.Mathlib.Omega.{arith}
+use Rattle.drive_sets.specs.Masks.{union}
+use Rattle.verdicts.specs.Held.{verdictOf}
+use Rattle.verdicts.specs.Verdicts.{no, setsAt}
+use Rattle.verdicts.proofs.no_at.Statement.{statement}
+use Rattle.verdicts.proofs.no_at.Tie as tie
+
+abbrev Inv-loop : tie.InvT-loop
+Inv-loop k n table positions blocks₀ taken₀ i₀ blocks taken i = Splitting n k (setsAt table (take k positions)) blocks taken i
+
+abbrev μ-loop : tie.MeasureT-loop
+μ-loop k n table positions blocks₀ taken₀ i₀ blocks taken i = k - i
+
+loop-holds : tie.Need-loop-holds Inv-loop μ-loop
+loop-holds c = splitting-start _ _ _
+
+array-read-place : tie.Need-array-read-place Inv-loop μ-loop
+array-read-place c = search needs
+
+cast-place : tie.Need-cast-place Inv-loop μ-loop
+cast-place c = search needs
+
+sub-place : tie.Need-sub-place Inv-loop μ-loop
+sub-place c = let a = c .before .before .before .args in position-within (a .table .now) (a .t4) (a .k) (omega arith) (c .before .loop .i) (c .loop-test .taken) (c .before .before .before .pre .2) .0
+
+mul-outside : tie.Need-mul-outside Inv-loop μ-loop
+mul-outside c = let a = c .before .before .before .args in omega (arith, position-within (a .table .now) (a .t4) (a .k) (omega arith) (c .before .loop .i) (c .loop-test .taken) (c .before .before .before .pre .2) .1)
+
+shared-slice-read-outside : tie.Need-shared-slice-read-outside Inv-loop μ-loop
+shared-slice-read-outside c = let a = c .before .before .before .before .args in omega (arith, position-within (a .table .now) (a .t4) (a .k) (omega arith) (c .before .before .loop .i) (c .before .loop-test .taken) (c .before .before .before .before .pre .2))
+
+outside-requires : tie.Need-outside-requires Inv-loop μ-loop
+outside-requires c κs = search needs
+
+mul-blocks : tie.Need-mul-blocks Inv-loop μ-loop
+mul-blocks c = search needs
+
+array-write-blocks : tie.Need-array-write-blocks Inv-loop μ-loop
+array-write-blocks c = search needs
+
+add-i : tie.Need-add-i Inv-loop μ-loop
+add-i c = search needs
+
+loop-less : tie.Need-loop-less Inv-loop μ-loop
+loop-less c = search needs
+
+loop-again : tie.Need-loop-again Inv-loop μ-loop
+unfolding union
+loop-again c =
+    let a = c .before .before .before .before .before .args in
+    let l = c .before .before .before .loop in
+    let h = c .before .before .loop-test .taken in
+    splitting-turn _ _ (setsAt (a .table .now) (take (a .k) (a .t4))) _ _ _ (count-named (a .table .now) (a .t4) (a .k) (omega arith)) (l .inv) (c .before .before .before .before .before .pre .0) h _
+    (c .outside .ensures ∙ ap (λ (s : ℕ). outside (a .n) (union s (l .taken))) (sym (is-named (a .table .now) (a .t4) (a .k) (omega arith) (l .i) h)))
+
+returns : tie.Need-returns Inv-loop μ-loop
+unfolding verdictOf
+returns c =
+    let a = c .before .before .before .args in
+    ap (no (take (a .k) (a .t4))) (splitting-end _ _ _ _ _ _ (count-named (a .table .now) (a .t4) (a .k) (omega arith)) (c .before .loop .inv) (c .loop-test .left))
+
+pub no-at-spec : {M : Type 1} → statement M
+no-at-spec =
+    tie.close
+    (tie.spec
+    Inv-loop
+    μ-loop
+    loop-holds
+    array-read-place
+    cast-place
+    sub-place
+    mul-outside
+    shared-slice-read-outside
+    outside-requires
+    mul-blocks
+    array-write-blocks
+    add-i
+    loop-less
+    loop-again
+    returns)

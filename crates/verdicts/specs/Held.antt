@@ -1,0 +1,30 @@
+-- What the code's values say: an answer as a verdict, what the search found, and the bounds within which the arrays hold a verdict.
+use mathlib.Core.Bool.{Bool, _&&_, cond}
+use mathlib.Core.List.{List, [], _∷_}
+use mathlib.Core.Option.{Option, some, none}
+use Prim.Native.Nat.{ℕ, suc}
+use lib.Dec.{leb, ltb}
+use lib.ListN.{length, take}
+use Rattle.verdicts.specs.declared.Found.{Found}
+use Rattle.verdicts.specs.declared.Verdict.{Verdict as Answer}
+use Rattle.verdicts.specs.Verdicts.{Verdict, yes, no, verdictOn}
+
+-- the verdict on k that an answer holds: yes, or no with the first k positions and blocks
+unfoldable pub verdictOf : Answer → ℕ → Verdict
+verdictOf r k = cond (r .shared) yes (no (take k (r .positions)) (take k (r .blocks)))
+
+-- the k positions found, if any
+unfoldable pub foundOf : Found → ℕ → Option (List ℕ)
+foundOf r k = cond (r .any) (some (take k (r .positions))) none
+
+-- one position, from the place of a set; none where that is past the sets
+unfoldable pub foundAt : ℕ → ℕ → Option (List ℕ)
+foundAt place sets = cond (ltb place sets) (some (suc place ∷ [])) none
+
+-- what the arrays can hold: k 2 to 4, and at most 128 sets
+unfoldable pub fits : ℕ → ℕ → Bool
+fits k sets = leb 2 k && (leb k 4 && leb sets 128)
+
+-- The verdict on a normal table, within these bounds; yes outside them, where the call refuses with 12 or 5.
+unfoldable pub verdictWithin : ℕ → ℕ → List ℕ → Verdict
+verdictWithin k n table = cond (fits k (length table)) (verdictOn k n table) yes

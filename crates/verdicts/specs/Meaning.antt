@@ -1,0 +1,92 @@
+-- What a verdict means: sets that share a drive (k-Intersection), lists of positions and their order, splits of the drives into blocks,
+-- and blocks that hold a core (k-Partition). Verdicts/ has the theorems.
+use mathlib.Core.Path.{_≡_}
+use mathlib.Core.Bool.{Bool, true, false, not, _&&_, _||_}
+use mathlib.Core.Logic.{_⊎_}
+use mathlib.Core.List.{List, [], _∷_, map}
+use Prim.Native.Nat.{ℕ, _≤_, _<_}
+use lib.Dec.{eqb, leb, ltb}
+use lib.ListN.{length, getD, take}
+use Rattle.drive_sets.specs.Lists.{range, keep, any, elem, ordered}
+use Rattle.drive_sets.specs.Masks.{has, full, subset, ofDrives}
+use Rattle.tables.specs.Tables.{cores}
+use Rattle.verdicts.specs.Verdicts.{setsAt}
+
+-- ---- k-Intersection
+
+-- the sets share a drive: one of 1 to n that each of them has
+pub record SharedDrive (n : ℕ) (sets : List ℕ) : Type 0 where
+  pub drive : ℕ
+  pub low : 1 ≤ drive
+  pub high : drive ≤ n
+  pub in-each : (s : ℕ) → elem s sets ≡ true → has drive s ≡ true
+
+-- each of the sets is one of the table's
+abbrev pub AllFrom : List ℕ → List ℕ → Type 0
+AllFrom table sets = (s : ℕ) → elem s sets ≡ true → elem s table ≡ true
+
+-- every k sets of the table, in any order, repeats allowed, share a drive
+abbrev pub Intersection : ℕ → ℕ → List ℕ → Type 0
+Intersection k n table = (sets : List ℕ) → length sets ≡ k → AllFrom table sets → SharedDrive n sets
+
+-- ---- positions
+
+-- k positions of the table, from 1
+pub record Positions (k : ℕ) (table ps : List ℕ) : Type 0 where
+  pub count : length ps ≡ k
+  pub within : (p : ℕ) → elem p ps ≡ true → (1 ≤ p) × (p ≤ length table)
+
+-- no position is below an earlier one
+unfoldable pub notFalling : List ℕ → Bool
+notFalling ps = ordered leb ps
+
+-- compared left to right: at the first place where the two lists differ, the first list has the smaller position
+unfoldable pub precedes : List ℕ → List ℕ → Bool
+precedes [] qs = false
+precedes (p ∷ ps) [] = false
+precedes (p ∷ ps) (q ∷ qs) = ltb p q || (eqb p q && precedes ps qs)
+
+-- k positions, not falling, whose sets share no drive
+pub record NoneShared (k n : ℕ) (table ps : List ℕ) : Type 0 where
+  pub positions : Positions k table ps
+  pub not-falling : notFalling ps ≡ true
+  pub share-none : SharedDrive n (setsAt table ps) → ⊥
+
+-- the first of these
+pub record FirstNoneShared (k n : ℕ) (table ps : List ℕ) : Type 0 where
+  pub none-shared : NoneShared k n table ps
+  pub first : (qs : List ℕ) → NoneShared k n table qs → (ps ≡ qs) ⊎ (precedes ps qs ≡ true)
+
+-- ---- k-Partition
+
+-- a split of the drives 1 to n into k blocks: the number of each drive's block, 1 to k; a block may be empty
+pub record Split (k n : ℕ) (block : ℕ → ℕ) : Type 0 where
+  pub low : (d : ℕ) → 1 ≤ d → d ≤ n → 1 ≤ block d
+  pub high : (d : ℕ) → 1 ≤ d → d ≤ n → block d ≤ k
+
+-- the j-th block of a split, j from 1
+unfoldable pub blockOf : ℕ → (ℕ → ℕ) → ℕ → ℕ
+blockOf n block j = ofDrives (keep (λ d. eqb (block d) j) (range 1 n))
+
+-- a core of the table lies within the block
+unfoldable pub holdsCore : List ℕ → ℕ → Bool
+holdsCore table block = any (λ c. subset c block) (cores table)
+
+-- every split of the drives 1 to n into k blocks has a block that holds a core
+abbrev pub Partition : ℕ → ℕ → List ℕ → Type 0
+Partition k n table = (block : ℕ → ℕ) → Split k n block → (j : ℕ) × (1 ≤ j) × (j ≤ k) × (holdsCore table (blockOf n block j) ≡ true)
+
+-- ---- what comes with a no
+
+pub record NoWitness (k n : ℕ) (table ps blocks : List ℕ) : Type 0 where
+  -- the first k positions whose sets share no drive
+  pub positions : FirstNoneShared k n table ps
+  pub count : length blocks ≡ k
+  -- a block holds the drives outside the named set at its place and in no earlier block
+  pub rule : (i d : ℕ) → i < k → has d (getD blocks i 0) ≡ (has d (full n) && (not (has d (getD (setsAt table ps) i 0)) && not (any (has d) (take i blocks))))
+  -- the blocks are a split: no drive is in two of them, and the drives 1 to n, no others, are in some
+  pub apart : (i j d : ℕ) → has d (getD blocks i 0) ≡ true → has d (getD blocks j 0) ≡ true → i ≡ j
+  pub whole : (d : ℕ) → any (has d) blocks ≡ has d (full n)
+  pub split : (block : ℕ → ℕ) × Split k n block × (blocks ≡ map (blockOf n block) (range 1 k))
+  -- none of them holds a core
+  pub no-core : (b : ℕ) → elem b blocks ≡ true → holdsCore table b ≡ false
