@@ -11,6 +11,7 @@ pub mod Counts
 pub mod Smallest
 pub mod FirstSome
 pub mod Places
+pub mod Times
 
 -- a, a + 1, .., k of them
 unfoldable pub range : ℕ → ℕ → List ℕ
@@ -63,3 +64,11 @@ smallest f (x ∷ l) = some (smaller (f x) (smallest f l))
 unfoldable pub firstSome : (ℕ → Option ℕ) → List ℕ → Option ℕ
 firstSome f [] = none
 firstSome f (x ∷ l) = orElse (f x) (firstSome f l)
+
+-- how often x stands in the list
+unfoldable pub times : ℕ → List ℕ → ℕ
+times x [] = 0
+times x (y ∷ l) =
+    let rest = times x l in
+    let more = suc rest in
+    cond (eqb x y) more rest

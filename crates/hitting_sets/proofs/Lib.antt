@@ -13,3 +13,4 @@ pub mod Halves
 pub mod Keeping
 pub mod Merges
 pub mod Orders
+pub mod Rearranging

@@ -1,6 +1,12 @@
 // The minimal hitting sets of a list of sets of drives: the engine of the cores and of the way back.
 pub mod finding;
+pub mod levels;
 pub mod normal_form;
 pub mod search;
 pub mod slices;
 pub mod sorting;
+
+// The most sets of a table, and the most cores.
+pub const MAX_SETS: usize = 128;
+
+pub const MAX_CORES: usize = 1024;
