@@ -102,12 +102,12 @@ module _ (p : ℕ → Bool) (s : List ℕ) (i : ℕ) where
 
 -- ---- the refusals of a call given n and sets
 
-no-elements : (l : List ℕ) → length l ≡ 0 → isEmpty l ≡ true
+pub no-elements : (l : List ℕ) → length l ≡ 0 → isEmpty l ≡ true
 unfolding isEmpty
 no-elements [] e = refl
 no-elements (x ∷ l) e = absurd (omega arith)
 
-some-elements : (l : List ℕ) → (length l ≡ 0 → ⊥) → isEmpty l ≡ false
+pub some-elements : (l : List ℕ) → (length l ≡ 0 → ⊥) → isEmpty l ≡ false
 unfolding isEmpty
 some-elements [] ne = absurd (ne refl)
 some-elements (x ∷ l) ne = refl

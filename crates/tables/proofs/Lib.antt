@@ -1,4 +1,5 @@
 -- What the functions' proofs share.
+pub mod Accepts
 pub mod Completes
 pub mod Steps
 pub mod Writes

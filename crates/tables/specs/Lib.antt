@@ -3,3 +3,4 @@ pub mod Tables
 pub mod Files
 pub mod Reading
 pub mod Complete
+pub mod Answers

@@ -84,7 +84,7 @@ pub fn complete(t: Table) -> CoreTable
 }
 
 // Each is a set of the frame.
-fn all_sets(n: u8, sets: &[u64]) -> bool
+pub fn all_sets(n: u8, sets: &[u64]) -> bool
     ensures { λ r. ⌜ r ≡ all (isSet n) (now (sets .entry)) ⌝ }
 {
     let mut i = 0;

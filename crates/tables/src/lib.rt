@@ -1,4 +1,5 @@
 // Survivor tables: reading, writing, cores and the way back.
+pub mod calls;
 pub mod completing;
 pub mod files;
 pub mod reading;

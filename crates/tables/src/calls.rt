@@ -1,0 +1,118 @@
+// The calls given n and sets or groups: the chosen core, whether some drives meet every set, Back, and the writer.
+ghost use mathlib.Core.Path.{_≡_};
+ghost use Rattle.drive_sets.specs.Refusals.{refused};
+ghost use Rattle.hitting_sets.specs.Hitting.{hits};
+ghost use Rattle.tables.specs.Tables.{chosenCore, meetsEvery, survivorSets};
+ghost use Rattle.tables.specs.Answers.{chosenOutcome, meetingOutcome, listOutcome};
+use crate::completing;
+use crate::completing::MAX_CORES;
+use crate::completing::all_sets;
+use crate::reading::Answer;
+use crate::reading::MAX_SETS;
+use crate::reading::is_frame;
+use crate::reading::is_set;
+use drive_sets::Refusal;
+use hitting_sets::sorting::Order;
+
+pub enum Chosen {
+    Core(u64),
+    Refused(Refusal),
+}
+
+pub enum Meeting {
+    Meets,
+    Misses,
+    Refused(Refusal),
+}
+
+// Sets found, the first `count` of the array, where the call is accepted.
+pub struct SetList {
+    pub answer: Answer,
+    pub count: usize,
+    pub sets: [u64; 128],
+}
+
+// The chosen core of a table: the first of its cores.
+pub fn chosen_core(n: u8, sets: &[u64]) -> Chosen
+    ensures { λ r. ⌜ chosenOutcome r ≡ chosenCore n (now (sets .entry)) ⌝ }
+{
+    let t = completing::accept(n, sets);
+    let answer = t.answer;
+    let cores = t.cores;
+    match answer {
+        Answer::Refused(r) => Chosen::Refused(r),
+        Answer::Accepted => Chosen::Core(cores[0]),
+    }
+}
+
+// m meets every one of the sets.
+fn meets_all(sets: &[u64], m: u64) -> bool
+    ensures { λ r. ⌜ r ≡ hits (now (sets .entry)) m ⌝ }
+{
+    let mut i = 0;
+    while i < sets.len() {
+        if !drive_sets::meets(sets[i], m) {
+            return false;
+        }
+        i += 1;
+    }
+    true
+}
+
+// Do these drives meet every set? A group that is no set of the frame meets 4, after the table's own refusals.
+pub fn meets_every(n: u8, sets: &[u64], group: u64) -> Meeting
+    ensures { λ r. ⌜ meetingOutcome r ≡ meetsEvery n (now (sets .entry)) group ⌝ }
+{
+    let t = completing::accept(n, sets);
+    let answer = t.answer;
+    match answer {
+        Answer::Refused(r) => Meeting::Refused(r),
+        Answer::Accepted => {
+            if !is_set(n, group) {
+                return Meeting::Refused(Refusal::BadSet);
+            }
+            if meets_all(sets, group) {
+                return Meeting::Meets;
+            }
+            Meeting::Misses
+        }
+    }
+}
+
+fn no_list(r: Refusal) -> SetList
+    ensures { λ t. ⌜ listOutcome t ≡ refused r ⌝ }
+{
+    SetList {
+        answer: Answer::Refused(r),
+        count: 0,
+        sets: [0u64; 128],
+    }
+}
+
+// Back: the smallest groups that meet each of the groups. 3, 13, 4, 5.
+pub fn survivor_sets(n: u8, groups: &[u64]) -> SetList
+    ensures { λ r. ⌜ listOutcome r ≡ survivorSets n (now (groups .entry)) ⌝ }
+{
+    if !is_frame(n) {
+        return no_list(Refusal::FrameSize);
+    }
+    if groups.len() == 0 {
+        return no_list(Refusal::TooManyCores);
+    }
+    if MAX_CORES < groups.len() {
+        return no_list(Refusal::TooManyCores);
+    }
+    if !all_sets(n, groups) {
+        return no_list(Refusal::BadSet);
+    }
+    let mut sets = [0u64; 128];
+    let count = hitting_sets::finding::find(Order::ByMask, groups, &mut sets);
+    if MAX_SETS < count {
+        return no_list(Refusal::TooManySets);
+    }
+    SetList {
+        answer: Answer::Accepted,
+        count,
+        sets,
+    }
+}
