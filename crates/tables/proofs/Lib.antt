@@ -2,4 +2,5 @@
 pub mod Accepts
 pub mod Completes
 pub mod Steps
+pub mod WriteCalls
 pub mod Writes

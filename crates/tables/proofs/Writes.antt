@@ -80,7 +80,7 @@ module _ (old sets part : List ℕ) (at i : ℕ) (w : Writing old sets part at i
 -- ---- the table
 
 module _ (n : ℕ) (sets : List ℕ) where
-  length-table : length (tableBytes n sets) ≡ 6 + 10 * length sets
+  pub length-table : length (tableBytes n sets) ≡ 6 + 10 * length sets
   unfolding tableBytes
   length-table =
       length-append (recordBytes (mark Frame) 1 n) (setRecords sets ++ recordBytes (mark End) 1 (length sets))

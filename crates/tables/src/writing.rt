@@ -1,7 +1,14 @@
 // The table writer: FR, SV.., EN into the part of the lent buffer from the cursor on.
 ghost use mathlib.Core.Path.{_≡_};
+ghost use Prim.Native.Nat.{_≤_};
+ghost use lib.ListN.{length};
+ghost use Rattle.tables.specs.Answers.{Wrote, wroteSize, wroteBytes, writeSize};
 ghost use Rattle.records.specs.Fields.{written};
-ghost use Rattle.tables.specs.Files.{setRecords, tableBytes};
+ghost use Rattle.tables.specs.Files.{setRecords, tableBytes, writeTable};
+use crate::completing;
+use crate::reading::Answer;
+use crate::reading::MAX_SETS;
+use drive_sets::Refusal;
 use records::END;
 use records::FRAME;
 use records::SURVIVOR;
@@ -36,4 +43,47 @@ pub fn put_table(part: &mut [u8], n: u8, sets: &[u64])
     records::put_record(part, FRAME, 1, n as u64);
     put_sets(&mut part[3..], sets);
     records::put_record(&mut part[end..], END, 1, sets.len() as u64);
+}
+
+// How many bytes were written, from the starting place on.
+pub enum Writing {
+    Wrote(usize),
+    Refused(Refusal),
+}
+
+// A normal table from the starting place on, and nothing where it does not fit.
+fn write_sets(n: u8, sets: &[u64], buf: &mut [u8], start: usize) -> Writing
+    requires { ⌜ length (now sets) ≤ 128 ⌝ }
+    ensures { λ r. ⌜ Wrote (wroteSize n start (now (buf .entry)) (now (sets .entry))) (wroteBytes n start (now (buf .entry)) (now (sets .entry))) (now (buf .entry)) (now (buf .exit)) r ⌝ }
+{
+    let size = 6 + 10 * sets.len();
+    if buf.len() < start {
+        return Writing::Refused(Refusal::NoRoom);
+    }
+    if buf.len() - start < size {
+        return Writing::Refused(Refusal::NoRoom);
+    }
+    put_table(&mut buf[start..], n, sets);
+    Writing::Wrote(size)
+}
+
+// The writer: the normal table of n drives and some sets into the lent buffer, from the starting place on, touching only its own bytes.
+// The table's refusals, then 14; on a refusal the buffer stays as it was.
+pub fn write_table(n: u8, sets: &[u64], buf: &mut [u8], start: usize) -> Writing
+    ensures { λ r. ⌜ Wrote (writeSize n (now (sets .entry)) start (now (buf .entry))) (writeTable n (now (sets .entry)) start (now (buf .entry))) (now (buf .entry)) (now (buf .exit)) r ⌝ }
+{
+    let t = completing::accept(n, sets);
+    let answer = t.answer;
+    let table = t.table;
+    let normal = table.sets;
+    let count = table.count;
+    match answer {
+        Answer::Refused(r) => Writing::Refused(r),
+        Answer::Accepted => {
+            if MAX_SETS < count {
+                return write_sets(n, &normal, buf, start);
+            }
+            write_sets(n, &normal[0..count], buf, start)
+        }
+    }
 }
