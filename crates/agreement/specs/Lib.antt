@@ -1,2 +1,9 @@
--- The rounds of SyncCrash, and the proof that they reach agreement.
+-- The rounds of SyncCrash and the proof that they reach agreement; a scenario as an instance of them, and one that needs round f + 1; the states
+-- of a run as functions of the rounds, and that every run follows them; the canonical order of calls; and the theorems of demand 3.
 pub mod Rounds
+pub mod Instance
+pub mod Tight
+pub mod States
+pub mod Refinement
+pub mod CanonicalRun
+pub mod Theorems

@@ -81,6 +81,22 @@ or-and-not true b = refl
 or-and-not false true = refl
 or-and-not false false = refl
 
+-- a disjunction fails where both tests do, a conjunction where one does
+pub or-neither : {a b : Bool} → a ≡ false → b ≡ false → (a || b) ≡ false
+or-neither {a} {b} p q = ap (λ (x : Bool). x || b) p ∙ q
+
+pub and-fails-left : {a : Bool} (b : Bool) → a ≡ false → (a && b) ≡ false
+and-fails-left b p = ap (λ (x : Bool). x && b) p
+
+pub and-fails-right : (a : Bool) {b : Bool} → b ≡ false → (a && b) ≡ false
+and-fails-right true p = p
+and-fails-right false p = refl
+
+-- what is asked where a test is true holds where it follows from the test
+pub unless : (a : Bool) {b : Bool} → (a ≡ true → b ≡ true) → (not a || b) ≡ true
+unless true f = f refl
+unless false f = refl
+
 pub or-false-left : (a b : Bool) → (a || b) ≡ false → a ≡ false
 or-false-left true b h = absurd (true≢false h)
 or-false-left false b h = refl

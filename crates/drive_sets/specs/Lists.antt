@@ -12,6 +12,7 @@ pub mod Smallest
 pub mod FirstSome
 pub mod Places
 pub mod Times
+pub mod Takes
 
 -- a, a + 1, .., k of them
 unfoldable pub range : ℕ → ℕ → List ℕ

@@ -12,6 +12,8 @@ pub mod Laws
 pub mod Outside
 pub mod Sizes
 pub mod OneDrive
+pub mod Frames
+pub mod Tests
 
 -- drive d is in m
 unfoldable pub has : ℕ → ℕ → Bool

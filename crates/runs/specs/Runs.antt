@@ -16,6 +16,7 @@ use Rattle.exchange.specs.Calls.{sending}
 use Rattle.runs.specs.World.{Call, opens, sends, delivers, closes, driveOf, Slot, unopened, opened, World, nothingOpen, apply, applyAll, refusedIn, active}
 use Rattle.runs.specs.Scenario.{Scenario, frame, coreOf, goneBefore, goneBy, sendsNone, reach}
 pub mod Laws
+pub mod Books
 
 -- the two lists are equal
 unfoldable pub sameList : List ℕ → List ℕ → Bool

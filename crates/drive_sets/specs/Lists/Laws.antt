@@ -6,7 +6,7 @@ use mathlib.Core.List.{List, [], _∷_, _++_}
 use Prim.Native.Nat.{ℕ, zero, suc, _+_, _≤_, _<_, zero-le, suc-le-suc}
 use native.Mathlib.Omega.{arith}
 use lib.Dec.{eqb, ltb}
-use lib.ListN.{length}
+use lib.ListN.{length, getD}
 use borrow.Author.Tests.{eqb-true, eqb-false, eq-eqb, lt-ltb}
 use Rattle.drive_sets.specs.Bools.{clash, by-test, false-of, same-test, and-intro, and-left, and-right, and-not, or-left, or-right, or-cases, or-false, cond-true, cond-false}
 use Rattle.drive_sets.specs.Lists.{range, keep, all, any, elem, ordered}
@@ -143,6 +143,15 @@ keep-true p x l h = cond-true _ _ h
 pub keep-false : (p : ℕ → Bool) (x : ℕ) (l : List ℕ) → p x ≡ false → keep p (x ∷ l) ≡ keep p l
 unfolding keep
 keep-false p x l h = cond-false _ _ h
+
+-- the first that is kept passes the test
+pub first-kept : (p : ℕ → Bool) (l : List ℕ) → any p l ≡ true → p (getD (keep p l) 0 0) ≡ true
+unfolding any
+first-kept p [] h = absurd (clash h refl)
+first-kept p (x ∷ l) h =
+    by-test (p x)
+    (λ e. ap (λ (m : List ℕ). p (getD m 0 0)) (keep-true p x l e) ∙ e)
+    (λ e. ap (λ (m : List ℕ). p (getD m 0 0)) (keep-false p x l e) ∙ first-kept p l (sym (any-false p x l e) ∙ h))
 
 kept-first : (a e c : Bool) → (a ≡ true → c ≡ true) → (a || (e && c)) ≡ ((a || e) && c)
 kept-first true e c f = sym (f refl)

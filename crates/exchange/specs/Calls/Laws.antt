@@ -1,14 +1,18 @@
--- Calls that are not refused: what the call gives where each condition fails, in document 01's order.
-use mathlib.Core.Path.{_≡_, sym, ap, _∙_}
+-- Calls that are not refused: what the call gives where each condition fails, in document 01's order; and a send with too little room.
+use mathlib.Core.Path.{_≡_, refl, sym, ap, _∙_}
 use mathlib.Core.Bool.{true, false, not}
-use mathlib.Core.List.{List}
-use Prim.Native.Nat.{ℕ, _+_, _≤_}
+use mathlib.Core.List.{List, [], _∷_, map}
+use Prim.Native.Nat.{ℕ, _+_, _≤_, _<_}
 use native.Mathlib.Nat.{le-of-eq}
+use lib.Dec.{eqb}
 use lib.ListN.{length}
-use borrow.Author.Tests.{le-ltb, le-leb, eq-eqb}
-use Rattle.drive_sets.specs.Bools.{cond-false}
+use borrow.Author.Tests.{le-ltb, le-leb, lt-leb, eq-eqb}
+use Rattle.drive_sets.specs.declared.Refusal.the-variants.{NoRoom}
+use Rattle.drive_sets.specs.Bools.{by-test, and-fails-left, and-fails-right, or-neither, cond-true, cond-false}
+use Rattle.drive_sets.specs.Lists.{elem}
+use Rattle.drive_sets.specs.Lists.Laws.{elem-head, elem-tail}
 use Rattle.drive_sets.specs.Masks.{has}
-use Rattle.drive_sets.specs.Refusals.{result}
+use Rattle.drive_sets.specs.Refusals.{refused, result}
 use Rattle.records.specs.declared.Due.the-variants.{AtMessage}
 use Rattle.records.specs.declared.Head.{Head}
 use Rattle.records.specs.declared.Head.the-variants.{Record}
@@ -17,14 +21,27 @@ use Rattle.records.specs.Marks.{headOf}
 use Rattle.tables.specs.Tables.{chosen, normalTable}
 use Rattle.tables.specs.Files.{atRecord}
 use Rattle.exchange.specs.declared.Exchange.{Exchange}
-use Rattle.exchange.specs.State.{isDrive, inCore, broken}
+use Rattle.exchange.specs.State.{isDrive, inCore, numberOf, broken}
 use Rattle.exchange.specs.Messages.{senderOf, roundOf, lengthOf}
-use Rattle.exchange.specs.Calls.{initial, opening, outgoing, sending, wrongMask, outsideCore, differs, accept, receivingOf, receiving, next, closing}
+use Rattle.exchange.specs.Messages.Laws.{entryOf}
+use Rattle.exchange.specs.Calls.{initial, opening, outgoing, sending, wrongMask, outsideCore, anyDiffers, differs, accept, receivingOf, receiving, next, closing}
 
 pub opening-accepted : (n : ℕ) (sets table : List ℕ) (own number : ℕ) → normalTable n sets ≡ result table → isDrive n own ≡ true
     → opening n sets own number ≡ result (initial n (chosen table) own number)
 unfolding opening
 opening-accepted n sets table own number accepted drive = rw (accepted, drive)
+
+-- entries that agree with what is known do not meet 25
+pub none-differs : (x : Exchange) (number : ℕ → ℕ) (ds : List ℕ) → ((d : ℕ) → elem d ds ≡ true → has d (x .known) ≡ true → numberOf x d ≡ number d)
+    → anyDiffers x (map (entryOf number) ds) ≡ false
+unfolding anyDiffers
+none-differs x number [] same = refl
+none-differs x number (d ∷ ds) same =
+    or-neither
+    (by-test (has d (x .known))
+    (λ h. and-fails-right (has d (x .known)) (ap not (eq-eqb (numberOf x d) (number d) (same d (elem-head d ds) h))))
+    (λ h. and-fails-left (not (eqb (numberOf x d) (number d))) h))
+    (none-differs x number ds (λ y e. same y (elem-tail y d ds e)))
 
 -- a message of this kind that meets no refusal
 pub record Acceptable (x : Exchange) (kind : Kind) (s : List ℕ) : Type 0 where
@@ -59,6 +76,15 @@ module _ (x : Exchange) (sound : broken x ≡ false) (running : x .halted ≡ fa
       ∙ (cond-false _ _ running
       ∙ (cond-false _ _ (ap not core)
       ∙ cond-false _ _ (ap not (le-leb (start + length (outgoing x (x .decision))) room fits))))
+
+  -- where the sent bytes do not fit, 14 is the refusal
+  pub sending-crowded : (room start : ℕ) → inCore x ≡ true → room < start + length (outgoing x (x .decision)) → sending x room start ≡ refused NoRoom
+  unfolding sending
+  sending-crowded room start core crowded =
+      cond-false _ _ sound
+      ∙ (cond-false _ _ running
+      ∙ (cond-false _ _ (ap not core)
+      ∙ cond-true _ _ (ap not (lt-leb (start + length (outgoing x (x .decision))) room crowded))))
 
   pub closing-accepted : closing x ≡ result (next x)
   unfolding closing

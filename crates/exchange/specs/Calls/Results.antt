@@ -1,12 +1,14 @@
 -- What holds of the state that a call gives, whenever it is not refused: an opened drive is undecided, a message changes no decision, and a
 -- decided drive stays decided.
-use mathlib.Core.Path.{_≡_, refl}
+use mathlib.Core.Path.{_≡_, refl, sym, ap, _∙_}
 use mathlib.Core.Bool.{Bool, true, false, not, cond, false≢true}
 use mathlib.Core.List.{List}
+use mathlib.Core.Option.{Option, none, some}
 use Prim.Native.Nat.{ℕ}
 use lib.Dec.{eqb, ltb}
 use lib.ListN.{length}
 use Rattle.drive_sets.specs.declared.Refusal.{Refusal}
+use Rattle.drive_sets.specs.Options.{isSome}
 use Rattle.drive_sets.specs.Masks.{has}
 use Rattle.drive_sets.specs.Refusals.{Outcome, refused, result, refuseIf, andThen}
 use Rattle.records.specs.declared.Due.the-variants.{AtMessage}
@@ -22,7 +24,37 @@ use Rattle.exchange.specs.declared.Decision.{Decision}
 use Rattle.exchange.specs.declared.Decision.the-variants.{Undecided, Decided}
 use Rattle.exchange.specs.State.{isDrive, isDecided, broken}
 use Rattle.exchange.specs.Messages.{isKnown, senderOf, roundOf, lengthOf}
-use Rattle.exchange.specs.Calls.{initial, opening, wrongMask, outsideCore, differs, acceptKnown, acceptDecide, accept, receivingOf, receiving, decide, decisionAfter, next, closing}
+use Rattle.exchange.specs.Calls.{initial, opening, wrongMask, outsideCore, differs, acceptKnown, acceptDecide, accept, receivingOf, receiving, decisionOn, decide, decisionAfter, next, closing}
+
+-- ---- decisions as optional numbers
+
+pub decided-on : (o : Option ℕ) → isDecided (decisionOn o) ≡ isSome o
+unfolding isDecided decisionOn
+decided-on none = refl
+decided-on (some v) = refl
+
+chosenNumber : Decision → Option ℕ
+chosenNumber Undecided = none
+chosenNumber (Decided v) = some (v .0)
+
+number-on : (o : Option ℕ) → chosenNumber (decisionOn o) ≡ o
+unfolding chosenNumber decisionOn
+number-on none = refl
+number-on (some v) = refl
+
+pub undecided-none : {o : Option ℕ} → decisionOn o ≡ Undecided → o ≡ none
+unfolding chosenNumber
+undecided-none {o} h = sym (number-on o) ∙ ap chosenNumber h
+
+pub decided-some : {o : Option ℕ} {v : ℕ} → decisionOn o ≡ Decided (record { 0 = v }) → o ≡ some v
+unfolding chosenNumber
+decided-some {o} h = sym (number-on o) ∙ ap chosenNumber h
+
+pub undecided-decided : {v : ℕ} → Undecided ≡ Decided (record { 0 = v }) → ⊥
+unfolding isDecided
+undecided-decided h = false≢true (ap isDecided h)
+
+-- ---- what a call gives
 
 -- P holds of the result, if there is one
 module _ (P : Exchange → Type 0) where

@@ -1,7 +1,7 @@
 -- Reading a message that was written gives back what was written: its kind, its fields, its entries and its length.
 use mathlib.Core.Path.{_≡_, refl, sym, ap, ap₂, _∙_}
-use mathlib.Core.Bool.{true}
-use mathlib.Core.List.{List, [], _∷_, map}
+use mathlib.Core.Bool.{true, false}
+use mathlib.Core.List.{List, [], _∷_, _++_, map}
 use Prim.Native.Nat.{ℕ, _+_, _*_, _^_, _<_}
 use native.Mathlib.Omega.{arith}
 use lib.ListN.{length, length-append}
@@ -24,6 +24,22 @@ unfolding numberBytes
 length-numbers number [] = refl
 length-numbers number (d ∷ ds) =
     length-append (toBytes 2 (number d)) (numberBytes number ds) ∙ omega (arith, length-toBytes 2 (number d), length-numbers number ds)
+
+-- they depend on the numbers of the drives listed alone
+pub numbers-same : (f g : ℕ → ℕ) (ds : List ℕ) → ((d : ℕ) → elem d ds ≡ true → f d ≡ g d) → numberBytes f ds ≡ numberBytes g ds
+unfolding numberBytes
+numbers-same f g [] same = refl
+numbers-same f g (d ∷ ds) same =
+    ap₂ (λ (v : ℕ) (bytes : List ℕ). toBytes 2 v ++ bytes) (same d (elem-head d ds)) (numbers-same f g ds (λ x e. same x (elem-tail x d ds e)))
+
+-- the kind of a message
+pub is-known : isKnown Known ≡ true
+unfolding isKnown mark markText ascii fromBytes
+is-known = refl
+
+pub not-known : isKnown Decide ≡ false
+unfolding isKnown mark markText ascii fromBytes
+not-known = refl
 
 -- the entry of a drive
 abbrev pub entryOf : (ℕ → ℕ) → ℕ → Entry
@@ -72,6 +88,14 @@ module _ (sender round mask : ℕ) (number : ℕ → ℕ) where
   pub known-whole : mask < 2 ^ 64 → lengthOf Known (knownBytes sender round mask number) ≡ length (knownBytes sender round mask number)
   unfolding lengthOf isKnown mark markText ascii fromBytes
   known-whole h = ap (λ (m : ℕ). 12 + 2 * size m) (known-mask h) ∙ sym length-known
+
+-- a KN depends on the numbers of its mask's drives alone
+pub known-same : (sender round mask : ℕ) (f g : ℕ → ℕ) → mask < 2 ^ 64 → ((d : ℕ) → has d mask ≡ true → f d ≡ g d)
+    → knownBytes sender round mask f ≡ knownBytes sender round mask g
+unfolding knownBytes
+known-same sender round mask f g h same =
+    ap (λ (bytes : List ℕ). toBytes 2 (mark Known) ++ (toBytes 1 sender ++ (toBytes 1 round ++ (toBytes 8 mask ++ bytes))))
+    (numbers-same f g (drives mask) (λ d e. same d (sym (elem-drives d mask h) ∙ e)))
 
 -- ---- DC
 

@@ -1,15 +1,17 @@
--- Laws of worlds: a call touches the drive that it names alone, a refused one touches none, and lists of calls one after the other.
+-- Laws of worlds: a call touches the drive that it names alone, a refused one touches none, a drive that has halted takes no message in, and
+-- lists of calls one after the other.
 use mathlib.Core.Path.{_≡_, refl, sym, ap, _∙_, subst}
 use mathlib.Core.Bool.{true, false, false≢true}
 use mathlib.Core.List.{List, [], _∷_, _++_}
 use Prim.Native.Nat.{ℕ}
 use lib.Dec.{eqb}
-use borrow.Author.Tests.{eqb-true, eq-eqb}
+use borrow.Author.Tests.{eqb-true, eq-eqb, not-false}
 use Rattle.drive_sets.specs.Bools.{by-test, cond-true, cond-false}
 use Rattle.drive_sets.specs.Refusals.{Outcome, refused, result}
 use Rattle.exchange.specs.declared.Exchange.{Exchange}
+use Rattle.exchange.specs.State.{broken}
 use Rattle.exchange.specs.Calls.{opening, receiving, closing}
-use Rattle.runs.specs.World.{Call, opens, sends, delivers, closes, driveOf, Slot, unopened, opened, World, put, afterCall, onState, apply, applyAll, isRefused, refusedBy, refusedIn}
+use Rattle.runs.specs.World.{Call, opens, sends, delivers, closes, driveOf, Slot, unopened, opened, World, put, afterCall, onState, apply, applyAll, isRefused, refusedBy, refusedIn, active}
 
 pub applyAll-append : (w : World) (a b : List Call) → applyAll w (a ++ b) ≡ applyAll (applyAll w a) b
 unfolding applyAll
@@ -67,3 +69,15 @@ refused-keeps w (opens d n sets own number) h e = put-back w d _ (refused-after 
 refused-keeps w (sends d room start) h e = refl
 refused-keeps w (delivers d bytes) h e = put-back w d _ (message-refused d bytes (w d) h) e
 refused-keeps w (closes d) h e = put-back w d _ (close-refused d (w d) h) e
+
+-- ---- a drive that has halted
+
+halted-refuses : (x : Exchange) (bytes : List ℕ) → x .halted ≡ true → isRefused (receiving x bytes) ≡ true
+unfolding isRefused receiving
+halted-refuses x bytes h = by-test (broken x) (λ e. rw e refl) (λ e. rw (e, h) refl)
+
+-- a drive that is not active takes no message in
+pub idle-message : (slot : Slot) (bytes : List ℕ) → active slot ≡ false → onState (λ x. receiving x bytes) slot ≡ slot
+unfolding onState active
+idle-message unopened bytes h = refl
+idle-message (opened x) bytes h = refused-after (opened x) (receiving x bytes) (halted-refuses x bytes (not-false (x .halted) h))

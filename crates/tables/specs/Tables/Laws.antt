@@ -8,12 +8,13 @@ use native.Mathlib.Nat.{lt-of-lt-of-le}
 use native.Mathlib.Omega.{arith}
 use lib.Pow.{pow-mono}
 use lib.Dec.{eqb, leb, ltb}
-use lib.ListN.{length, getD}
+use lib.ListN.{length}
 use borrow.Author.Tests.{leb-true, le-leb, ltb-false, le-ltb, eqb-false, not-true, not-false}
 use Rattle.drive_sets.specs.declared.Refusal.the-variants.{WrongMark, FrameSize, BadSet, TooManySets, TooManyCores}
 use Rattle.drive_sets.specs.Bools.{clash, same-test, and-intro, and-left, and-right, cond-false}
 use Rattle.drive_sets.specs.Lists.{all, elem, ordered}
-use Rattle.drive_sets.specs.Lists.Laws.{elem-head, elem-some, all-elem, all-intro, ordered-unique}
+use Rattle.drive_sets.specs.Lists.Laws.{elem-some, all-elem, all-intro, ordered-unique}
+use Rattle.drive_sets.specs.Lists.Takes.{elem-getD}
 use Rattle.drive_sets.specs.Masks.{has, single, full, common, subset, meets}
 use Rattle.drive_sets.specs.Masks.Laws.{full-lt, full-has, full-subset, has-some, has-bounds, has-meets}
 use Rattle.drive_sets.specs.Refusals.{result}
@@ -174,10 +175,6 @@ some-core n sets a =
         let b = has-bounds n (d .0) s lt (d .1) in
         has-meets (d .0) s (full n) (d .1) (full-has (d .0) n (a .high) (b .0) (b .1))
 
-first-elem : (l : List ℕ) → 1 ≤ length l → elem (getD l 0 0) l ≡ true
-first-elem [] h = absurd (omega arith)
-first-elem (x ∷ l) h = elem-head x l
-
 -- what the exchange rests on: the chosen core of an accepted table lies within the frame, meets every listed set, and each of its
 -- drives is alone in it in some listed set
 pub record ChosenCore (n : ℕ) (sets : List ℕ) (core : ℕ) : Type 0 where
@@ -202,7 +199,7 @@ chosen-core n sets a = record {
     minimal : Minimal sets core
     minimal =
         minimal-same-hits (normal sets) sets core (hits-normal sets (sets-word n sets a))
-        (core-minimal (normal sets) below core (first-elem (cores (normal sets)) (some-core n (normal sets) (accepted-normal n sets a))))
+        (core-minimal (normal sets) below core (elem-getD (cores (normal sets)) 0 0 (some-core n (normal sets) (accepted-normal n sets a))))
 
     lt : core < 2 ^ n
     lt = minimal-lt n sets core (a .high) (sets-below n sets a) minimal
