@@ -1,21 +1,20 @@
 -- The loop of the search: from the place i on it finds what it finds from the start on, since no set before i is the first.
 use mathlib.Core.Path.{_≡_, refl, sym, ap, ap₂, _∙_, subst}
-use mathlib.Core.Bool.{true, false, cond}
+use mathlib.Core.Bool.{true, false}
 use mathlib.Core.List.{List, [], _∷_}
-use mathlib.Core.Option.{none, some}
+use mathlib.Core.Option.{Option, none, some}
 use Prim.Native.Nat.{ℕ, suc, _+_, _≤_, _<_}
-use native.Mathlib.Omega.{arith}
 use native.Mathlib.Numerals.{add-one}
-use lib.Dec.{ltb}
-use lib.ListN.{length, getD, take, drop, drop-of-length-le}
-use lib.Seq.{drop-cons, take-take}
+use lib.ListN.{length, getD, drop, drop-of-length-le}
+use lib.Seq.{drop-cons}
 use borrow.Author.Tests.{eq-eqb, ne-eqb, lt-ltb, le-ltb}
-use Rattle.drive_sets.specs.Bools.{cond-true, cond-false}
+use Rattle.drive_sets.specs.Bools.{clash, cond-true, cond-false}
 use Rattle.drive_sets.specs.Masks.{common}
 use Rattle.verdicts.specs.Verdicts.{firstWith, disjoint}
 use Rattle.verdicts.specs.Verdicts.Search.{first-here, first-later}
 use Rattle.verdicts.specs.declared.Found.{Found}
-use Rattle.verdicts.specs.Held.{foundAt, foundOf}
+use Rattle.verdicts.specs.Held.{foundAt, foundIn, inFour}
+use Rattle.verdicts.proofs.Fours.{in-front}
 
 pub record Searching (k : ℕ) (table : List ℕ) (from m i : ℕ) : Type 0 where
   pub within : i ≤ length table
@@ -70,51 +69,62 @@ module _ (table : List ℕ) (from m i : ℕ) (w : Searching 1 table from m i) wh
   unfolding foundAt
   apart-end h = cond-false (some (suc i ∷ [])) none (le-ltb i (length table) h) ∙ search-end 0 table from m i w h
 
+-- ---- what was found
+
+pub found-none : (r : Found) (o : Option (List ℕ)) → r ≡ foundIn o → r .any ≡ false → o ≡ none
+unfolding foundIn
+found-none r none e a = refl
+found-none r (some ps) e a = absurd (clash (ap (λ (x : Found). x .any) e) a)
+
+-- the list found, and its positions in the array
+pub found-some : (r : Found) (o : Option (List ℕ)) → r ≡ foundIn o → r .any ≡ true → (ps : List ℕ) × (o ≡ some ps) × (r .positions ≡ inFour ps)
+unfolding foundIn
+found-some r none e a = absurd (clash a (ap (λ (x : Found). x .any) e))
+found-some r (some ps) e a = (ps, refl, ap (λ (x : Found). x .positions) e)
+
+-- ---- two sets
+
+module _ (table : List ℕ) (from m i place : ℕ) (w : Searching 2 table from m i) (h : i < length table)
+    (e : foundAt place (length table) ≡ disjoint 1 (suc i) (drop i table) (common m (getD table i 0))) where
+  pub pair-found : place < length table
+      → record { any = true; positions = (i + 1) ∷ (place + 1) ∷ 0 ∷ 0 ∷ [] } ≡ foundIn (disjoint 2 (suc from) (drop from table) m)
+  unfolding foundIn inFour foundAt
+  pair-found lt =
+      ap₂ (λ (p q : ℕ). foundIn (some (p ∷ q ∷ []))) (add-one i) (add-one place)
+      ∙ ap foundIn (search-found 1 table from m i w (suc place ∷ []) h (sym e ∙ cond-true (some (suc place ∷ [])) none (lt-ltb place (length table) lt)))
+
+  pub pair-later : length table ≤ place → Searching 2 table from m (i + 1)
+  unfolding foundAt
+  pair-later ge = search-turn 1 table from m i w h (sym e ∙ cond-false (some (suc place ∷ [])) none (le-ltb place (length table) ge))
+
+pub pair-end : (table : List ℕ) (from m i : ℕ) → Searching 2 table from m i → length table ≤ i → foundIn none ≡ foundIn (disjoint 2 (suc from) (drop from table) m)
+pair-end table from m i w h = ap foundIn (search-end 1 table from m i w h)
+
 -- ---- k sets, where the rest of the positions are those found for one set fewer
 
-pub found-none : (r : Found) (k : ℕ) → r .any ≡ false → foundOf r k ≡ none
-unfolding foundOf
-found-none r k e = cond-false _ _ e
-
-pub found-some : (r : Found) (k : ℕ) → r .any ≡ true → foundOf r k ≡ some (take k (r .positions))
-unfolding foundOf
-found-some r k e = cond-true _ _ e
-
--- the last set's position
-pub found-one : (table : List ℕ) (k from m place : ℕ) → k ≡ 1 → foundAt place (length table) ≡ disjoint 1 (suc from) (drop from table) m
-    → foundOf (record { any = ltb place (length table); positions = (place + 1) ∷ 0 ∷ 0 ∷ 0 ∷ [] }) k ≡ disjoint k (suc from) (drop from table) m
-unfolding foundOf foundAt
-found-one table k from m place e h =
-    subst (λ (j : ℕ). cond (ltb place (length table)) (some (take j ((place + 1) ∷ 0 ∷ 0 ∷ 0 ∷ []))) none ≡ disjoint j (suc from) (drop from table) m) (sym e)
-    (ap (λ (p : ℕ). cond (ltb place (length table)) (some (p ∷ [])) none) (add-one place) ∙ h)
-
--- a position in front of those of an array, of which the last has no room
-in-front : (j : ℕ) (l : List ℕ) → j ≤ 3 → 3 ≤ length l → take j (getD l 0 0 ∷ getD l 1 0 ∷ getD l 2 0 ∷ []) ≡ take j l
-in-front j l h room = ap (take j) (sym three) ∙ take-take j 3 l h
-  where
-    three : take 3 l ≡ getD l 0 0 ∷ getD l 1 0 ∷ getD l 2 0 ∷ []
-    three = ap (take 3) (drop-cons l 0 0 (omega arith) ∙ ap (λ (t : List ℕ). getD l 0 0 ∷ t) (drop-cons l 1 0 (omega arith) ∙ ap (λ (t : List ℕ). getD l 1 0 ∷ t) (drop-cons l 2 0 (omega arith))))
+pub pair-is : (table : List ℕ) (k from m : ℕ) (r : Found) → k ≡ 2 → r ≡ foundIn (disjoint 2 (suc from) (drop from table) m)
+    → r ≡ foundIn (disjoint k (suc from) (drop from table) m)
+pair-is table k from m r e h = h ∙ ap (λ (j : ℕ). foundIn (disjoint j (suc from) (drop from table) m)) (sym e)
 
 module _ (k j : ℕ) (table : List ℕ) (from m i : ℕ) (e : k ≡ suc j) (w : Searching k table from m i) where
   here : Searching (suc j) table from m i
   here = subst (λ (x : ℕ). Searching x table from m i) e w
 
-  module _ (rest : Found) (h : i < length table) (q : foundOf rest j ≡ disjoint j (suc i) (drop i table) (common m (getD table i 0))) where
-    pub found-more : j ≤ 3 → 3 ≤ length (rest .positions) → rest .any ≡ true
-        → foundOf (record { any = true; positions = (i + 1) ∷ getD (rest .positions) 0 0 ∷ getD (rest .positions) 1 0 ∷ getD (rest .positions) 2 0 ∷ [] }) k
-        ≡ disjoint k (suc from) (drop from table) m
-    unfolding foundOf
-    found-more few room a =
-        ap (λ (x : ℕ). some (take x ((i + 1) ∷ later))) e
-        ∙ (ap₂ (λ (p : ℕ) (l : List ℕ). some (p ∷ l)) (add-one i) (in-front j (rest .positions) few room)
-        ∙ (search-found j table from m i here (take j (rest .positions)) h (sym q ∙ found-some rest j a)
-        ∙ ap (λ (x : ℕ). disjoint x (suc from) (drop from table) m) (sym e)))
-      where
-        later : List ℕ
-        later = getD (rest .positions) 0 0 ∷ getD (rest .positions) 1 0 ∷ getD (rest .positions) 2 0 ∷ []
+  for-k : {o : Option (List ℕ)} → o ≡ disjoint (suc j) (suc from) (drop from table) m → foundIn o ≡ foundIn (disjoint k (suc from) (drop from table) m)
+  for-k h = ap foundIn (h ∙ ap (λ (x : ℕ). disjoint x (suc from) (drop from table) m) (sym e))
+
+  module _ (rest : Found) (h : i < length table) (q : rest ≡ foundIn (disjoint j (suc i) (drop i table) (common m (getD table i 0)))) where
+    pub found-more : rest .any ≡ true
+        → record { any = true; positions = (i + 1) ∷ getD (rest .positions) 0 0 ∷ getD (rest .positions) 1 0 ∷ getD (rest .positions) 2 0 ∷ [] }
+        ≡ foundIn (disjoint k (suc from) (drop from table) m)
+    unfolding foundIn
+    found-more a =
+        let f = found-some rest (disjoint j (suc i) (drop i table) (common m (getD table i 0))) q a in
+        ap (λ (l : List ℕ). record { any = true; positions = l }) (in-front (i + 1) (f .0) (rest .positions) (f .2))
+        ∙ (ap (λ (p : ℕ). foundIn (some (p ∷ f .0))) (add-one i) ∙ for-k (search-found j table from m i here (f .0) h (f .1)))
 
     pub found-later : rest .any ≡ false → Searching k table from m (i + 1)
-    found-later a = subst (λ (x : ℕ). Searching x table from m (i + 1)) (sym e) (search-turn j table from m i here h (sym q ∙ found-none rest j a))
+    found-later a = subst (λ (x : ℕ). Searching x table from m (i + 1)) (sym e) (search-turn j table from m i here h (found-none rest _ q a))
 
-  pub found-end : (r : Found) → r .any ≡ false → length table ≤ i → foundOf r k ≡ disjoint k (suc from) (drop from table) m
-  found-end r a h = found-none r k a ∙ (search-end j table from m i here h ∙ ap (λ (x : ℕ). disjoint x (suc from) (drop from table) m) (sym e))
+  pub found-end : length table ≤ i → foundIn none ≡ foundIn (disjoint k (suc from) (drop from table) m)
+  found-end h = for-k (search-end j table from m i here h)

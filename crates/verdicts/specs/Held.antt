@@ -1,6 +1,7 @@
--- What the code's values say: an answer as a verdict, what the search found, and the bounds within which the arrays hold a verdict.
-use mathlib.Core.Bool.{Bool, _&&_, cond}
-use mathlib.Core.List.{List, [], _∷_}
+-- What the code's values say: a verdict in the arrays of an answer and back, what the search found, and the bounds within which the
+-- arrays hold a verdict.
+use mathlib.Core.Bool.{Bool, true, false, _&&_, cond}
+use mathlib.Core.List.{List, [], _∷_, _++_}
 use mathlib.Core.Option.{Option, some, none}
 use Prim.Native.Nat.{ℕ, suc}
 use lib.Dec.{leb, ltb}
@@ -13,9 +14,23 @@ use Rattle.verdicts.specs.Verdicts.{Verdict, yes, no, verdictOn}
 unfoldable pub verdictOf : Answer → ℕ → Verdict
 verdictOf r k = cond (r .shared) yes (no (take k (r .positions)) (take k (r .blocks)))
 
--- the k positions found, if any
-unfoldable pub foundOf : Found → ℕ → Option (List ℕ)
-foundOf r k = cond (r .any) (some (take k (r .positions))) none
+-- a list in an array of four, with zeros behind it
+unfoldable pub inFour : List ℕ → List ℕ
+inFour l = take 4 (l ++ (0 ∷ 0 ∷ 0 ∷ 0 ∷ []))
+
+-- a no with these positions and blocks
+unfoldable pub withBlocks : List ℕ → List ℕ → Answer
+withBlocks positions blocks = record { shared = false; positions = positions; blocks = inFour blocks }
+
+-- the answer that holds a verdict
+unfoldable pub answerOf : Verdict → Answer
+answerOf yes = record { shared = true; positions = inFour []; blocks = inFour [] }
+answerOf (no positions blocks) = withBlocks (inFour positions) blocks
+
+-- the positions found, if any
+unfoldable pub foundIn : Option (List ℕ) → Found
+foundIn none = record { any = false; positions = inFour [] }
+foundIn (some ps) = record { any = true; positions = inFour ps }
 
 -- one position, from the place of a set; none where that is past the sets
 unfoldable pub foundAt : ℕ → ℕ → Option (List ℕ)

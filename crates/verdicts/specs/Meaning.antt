@@ -8,7 +8,7 @@ use Prim.Native.Nat.{ℕ, _≤_, _<_}
 use lib.Dec.{eqb, leb, ltb}
 use lib.ListN.{length, getD, take}
 use Rattle.drive_sets.specs.Lists.{range, keep, any, elem, ordered}
-use Rattle.drive_sets.specs.Masks.{has, full, subset, ofDrives}
+use Rattle.drive_sets.specs.Masks.{has, full, common, subset, ofDrives}
 use Rattle.tables.specs.Tables.{cores}
 use Rattle.verdicts.specs.Verdicts.{setsAt}
 
@@ -20,6 +20,11 @@ pub record SharedDrive (n : ℕ) (sets : List ℕ) : Type 0 where
   pub low : 1 ≤ drive
   pub high : drive ≤ n
   pub in-each : (s : ℕ) → elem s sets ≡ true → has drive s ≡ true
+
+-- the drives of m that each of the sets has: the common part
+unfoldable pub inEvery : ℕ → List ℕ → ℕ
+inEvery m [] = m
+inEvery m (s ∷ sets) = inEvery (common m s) sets
 
 -- each of the sets is one of the table's
 abbrev pub AllFrom : List ℕ → List ℕ → Type 0

@@ -17,6 +17,8 @@ pub mod Blocks
 pub mod Splits
 pub mod Witness
 pub mod Partition
+pub mod CommonPart
+pub mod Call
 
 pub data Verdict : Type 0 where
   yes : Verdict

@@ -2,14 +2,21 @@
 // whose sets share none, with the blocks of a split of which none holds a core.
 ghost use mathlib.Core.Path.{_≡_};
 ghost use mathlib.Core.Bool.{true};
+ghost use mathlib.Core.Option.{none};
 ghost use Prim.Native.Nat.{ℕ, suc, _≤_};
 ghost use lib.ListN.{length, take, drop};
 ghost use Rattle.drive_sets.specs.Lists.{elem};
-ghost use Rattle.verdicts.specs.Verdicts.{no, setsAt, disjoint, blocksOf};
-ghost use Rattle.verdicts.specs.Held.{verdictOf, foundOf, foundAt, fits, verdictWithin};
+ghost use Rattle.verdicts.specs.Verdicts.{setsAt, disjoint, blocksOf};
+ghost use Rattle.verdicts.specs.Meaning.{inEvery};
+ghost use Rattle.verdicts.specs.Held.{verdictOf, answerOf, withBlocks, foundIn, foundAt, fits, verdictWithin};
 use tables::reading::MAX_SETS;
 
-// Yes: `shared`, and zeros. No: the first k positions of sets that share no drive, and the first k blocks.
+// k, the number of blocks.
+pub const MIN_BLOCKS: u8 = 2;
+
+pub const MAX_BLOCKS: u8 = 4;
+
+// Yes: `shared`, and zeros. No: the first k positions of sets that share no drive, and the k blocks, with zeros behind them.
 pub struct Verdict {
     pub shared: bool,
     pub positions: [u8; 4],
@@ -38,19 +45,42 @@ fn first_apart(table: &[u64], from: usize, shared: u64) -> usize
     i
 }
 
-// The first k positions from the place `from` on, not falling, whose sets have no drive of `shared` in common. The innermost loop is
-// `first_apart`, one `and` and one test a set; a common part that is empty already ends every loop at its first set.
-fn disjoint(k: u8, table: &[u64], from: usize, shared: u64) -> Found
-    requires { ⌜ (1 ≤ k) × (k ≤ 4) × (from ≤ length (now table)) × (length (now table) ≤ 128) ⌝ }
-    ensures room { λ r. ⌜ length (r .positions) ≡ 4 ⌝ }
-    ensures first { λ r. ⌜ foundOf r k ≡ disjoint k (suc from) (drop from (now (table .entry))) shared ⌝ }
+fn nothing() -> Found
+    ensures { λ r. ⌜ r ≡ foundIn none ⌝ }
 {
-    if k == 1 {
-        let place = first_apart(table, from, shared);
-        return Found {
-            any: place < table.len(),
-            positions: [(place + 1) as u8, 0, 0, 0],
-        };
+    Found {
+        any: false,
+        positions: [0u8; 4],
+    }
+}
+
+// The first two positions from the place `from` on, not falling, whose sets have no drive of `shared` in common.
+fn first_pair(table: &[u64], from: usize, shared: u64) -> Found
+    requires { ⌜ (from ≤ length (now table)) × (length (now table) ≤ 128) ⌝ }
+    ensures { λ r. ⌜ r ≡ foundIn (disjoint 2 (suc from) (drop from (now (table .entry))) shared) ⌝ }
+{
+    let mut i = from;
+    while i < table.len() {
+        let place = first_apart(table, i, shared & table[i]);
+        if place < table.len() {
+            return Found {
+                any: true,
+                positions: [(i + 1) as u8, (place + 1) as u8, 0, 0],
+            };
+        }
+        i += 1;
+    }
+    nothing()
+}
+
+// The first k positions from the place `from` on, not falling, whose sets have no drive of `shared` in common. The two innermost loops
+// are those of `first_pair`, one `and` and one test a set. Where the common part is empty already, each loop ends at its first set.
+fn disjoint(k: u8, table: &[u64], from: usize, shared: u64) -> Found
+    requires { ⌜ (2 ≤ k) × (from ≤ length (now table)) × (length (now table) ≤ 128) ⌝ }
+    ensures { λ r. ⌜ r ≡ foundIn (disjoint k (suc from) (drop from (now (table .entry))) shared) ⌝ }
+{
+    if k == 2 {
+        return first_pair(table, from, shared);
     }
     let mut i = from;
     while i < table.len() {
@@ -64,16 +94,13 @@ fn disjoint(k: u8, table: &[u64], from: usize, shared: u64) -> Found
         }
         i += 1;
     }
-    Found {
-        any: false,
-        positions: [0u8; 4],
-    }
+    nothing()
 }
 
 // A no with these positions: block i holds the drives outside the i-th named set and in no earlier block.
 fn no_at(k: u8, n: u8, table: &[u64], positions: [u8; 4]) -> Verdict
     requires { ⌜ (k ≤ 4) × (length positions ≡ 4) × ((p : ℕ) → elem p (take k positions) ≡ true → (1 ≤ p) × (p ≤ length (now table))) ⌝ }
-    ensures { λ r. ⌜ verdictOf r k ≡ no (take k positions) (blocksOf n 0 (setsAt (now (table .entry)) (take k positions))) ⌝ }
+    ensures { λ r. ⌜ r ≡ withBlocks positions (blocksOf n 0 (setsAt (now (table .entry)) (take k positions))) ⌝ }
 {
     let mut blocks = [0u64; 4];
     let mut taken = 0;
@@ -92,28 +119,46 @@ fn no_at(k: u8, n: u8, table: &[u64], positions: [u8; 4]) -> Verdict
     }
 }
 
+// The drives of `shared` that every set has.
+fn in_every(table: &[u64], shared: u64) -> u64
+    ensures { λ r. ⌜ r ≡ inEvery shared (now (table .entry)) ⌝ }
+{
+    let mut common = shared;
+    let mut i = 0;
+    while i < table.len() {
+        common = common & table[i];
+        i += 1;
+    }
+    common
+}
+
 // What the arrays can hold: k 2 to 4, and a table's most sets.
 fn fits(k: u8, sets: usize) -> bool
     ensures { λ r. ⌜ r ≡ fits k sets ⌝ }
 {
-    if k < 2 {
+    if k < MIN_BLOCKS {
         return false;
     }
-    if 4 < k {
+    if MAX_BLOCKS < k {
         return false;
     }
     sets <= MAX_SETS
 }
 
-// The verdict on a normal table.
+// The verdict on a normal table. A drive that every set has is in any k of them, so there is nothing to search for.
+// The call that is given n and sets, with its refusals 12, 3, 2, 5, 4 and 13, is to stand on this one.
 pub fn verdict_on(k: u8, n: u8, table: &[u64]) -> Verdict
-    ensures { λ r. ⌜ verdictOf r k ≡ verdictWithin k n (now (table .entry)) ⌝ }
+    ensures says { λ r. ⌜ verdictOf r k ≡ verdictWithin k n (now (table .entry)) ⌝ }
+    ensures whole { λ r. ⌜ r ≡ answerOf (verdictWithin k n (now (table .entry))) ⌝ }
 {
     if fits(k, table.len()) {
-        let found = disjoint(k, table, 0, drive_sets::full(n));
-        if found.any {
-            let positions = found.positions;
-            return no_at(k, n, table, positions);
+        let frame = drive_sets::full(n);
+        if in_every(table, frame) == 0 {
+            let found = disjoint(k, table, 0, frame);
+            if found.any {
+                let positions = found.positions;
+                return no_at(k, n, table, positions);
+            }
         }
     }
     Verdict {

@@ -16,7 +16,8 @@ use Rattle.drive_sets.specs.Options.{by-option}
 use Rattle.drive_sets.specs.Lists.{elem}
 use Rattle.drive_sets.specs.Lists.Laws.{elem-none, keep-same}
 use Rattle.drive_sets.specs.Lists.Distinct.{ordered-distinct}
-use Rattle.drive_sets.specs.Lists.Takes.{elem-take, elem-getD}
+use Rattle.drive_sets.specs.Lists.Takes.{elem-take}
+use Rattle.drive_sets.specs.Lists.Places.{getD-elem}
 use Rattle.drive_sets.specs.Masks.{has, size, drives}
 use Rattle.drive_sets.specs.Masks.Laws.{has-single, has-common, has-bounds}
 use Rattle.drive_sets.specs.Refusals.{result}
@@ -109,7 +110,7 @@ module _ (n : ℕ) (sets : List ℕ) (accepted : normalTable n sets ≡ result (
   unfolding coreOf goneBy reach cut
   lost k h = record {
     drive = d;
-    in-core = crashing-core core p fits pc f few d (elem-getD crash k 0 within);
+    in-core = crashing-core core p fits pc f few d (getD-elem crash k within);
     up = ap (λ (c : Crash). not (goneBy c k)) at ∙ ap not (lt-leb (suc k) k (le-refl (suc k)));
     gone = ap (λ (c : Crash). not (goneBy c (suc k))) at ∙ ap not (le-leb (suc k) (suc k) (le-refl (suc k)));
     unheard = λ e. ap (λ (c : Crash). elem e (cut c (suc k) (listOf scenario d))) at

@@ -14,7 +14,8 @@ use Rattle.drive_sets.specs.Bools.{clash, by-test, false-of, same-test, and-int
 use Rattle.drive_sets.specs.Lists.{keep, elem, distinct, ordered}
 use Rattle.drive_sets.specs.Lists.Laws.{elem-head, elem-tail, elem-cases, elem-none, elem-keep, ordered-keep}
 use Rattle.drive_sets.specs.Lists.Distinct.{distinct-head, distinct-tail}
-use Rattle.drive_sets.specs.Lists.Takes.{elem-take, ordered-take, elem-getD}
+use Rattle.drive_sets.specs.Lists.Takes.{elem-take, ordered-take}
+use Rattle.drive_sets.specs.Lists.Places.{getD-elem}
 use Rattle.drive_sets.specs.Masks.{has, single, minus, size, drives}
 use Rattle.drive_sets.specs.Masks.Laws.{has-minus, has-single, has-bounds, minus-lt}
 use Rattle.drive_sets.specs.Masks.Sizes.{size-remove, elem-drives, drives-rising, length-drives, rising-unique}
@@ -81,7 +82,7 @@ turn-at r [] k o h = absurd (omega arith)
 turn-at r (x ∷ l) zero o h = turn-now r l x x refl ∙ ap (λ (q : ℕ). crashes q 0) (omega arith)
 turn-at r (x ∷ l) (suc k) o h =
     turn-later r l x (getD l k 0) (ne-eqb (getD l k 0) x (λ e.
-    clash (subst (λ (z : ℕ). elem z l ≡ true) e (elem-getD l k 0 (omega arith))) (distinct-head x l o)))
+    clash (subst (λ (z : ℕ). elem z l ≡ true) e (getD-elem l k (omega arith))) (distinct-head x l o)))
     ∙ (turn-at (suc r) l k (distinct-tail x l o) (omega arith) ∙ ap (λ (q : ℕ). crashes q 0) (omega arith))
 
 -- ---- a core and its drives other than p

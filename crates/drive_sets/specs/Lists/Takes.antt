@@ -5,9 +5,8 @@ use mathlib.Core.Bool.{Bool, true, false, _&&_}
 use mathlib.Core.Logic.{⊎-elim}
 use mathlib.Core.List.{List, [], _∷_, _++_}
 use Prim.Native.Nat.{ℕ, zero, suc, _<_}
-use native.Mathlib.Omega.{arith}
 use lib.Dec.{ltb}
-use lib.ListN.{length, take, getD}
+use lib.ListN.{take, getD}
 use borrow.Author.Tests.{ltb-true}
 use Rattle.drive_sets.specs.Bools.{clash, by-test, false-of, and-intro, and-left, and-right}
 use Rattle.drive_sets.specs.Lists.{keep, all, elem, ordered, distinct}
@@ -60,12 +59,6 @@ distinct-take zero l h = distinct-none
 distinct-take (suc m) [] h = h
 distinct-take (suc m) (x ∷ l) h =
     distinct-cons x (take m l) (false-of (elem x (take m l)) (λ e. clash (elem-take x m l e) (distinct-head x l h))) (distinct-take m l (distinct-tail x l h))
-
--- what stands at a place of the list is in it
-pub elem-getD : (l : List ℕ) (k o : ℕ) → k < length l → elem (getD l k o) l ≡ true
-elem-getD [] k o h = absurd (omega arith)
-elem-getD (x ∷ l) zero o h = elem-head x l
-elem-getD (x ∷ l) (suc k) o h = elem-tail (getD l k o) x l (elem-getD l k o (omega arith))
 
 -- of a rising list, the first that passes is the one before which none does
 pub first-kept : (p : ℕ → Bool) (l : List ℕ) (a : ℕ) → ordered ltb l ≡ true → elem a l ≡ true → p a ≡ true

@@ -14,7 +14,7 @@ use Rattle.drive_sets.specs.declared.Refusal.the-variants.{WrongMark, FrameSize
 use Rattle.drive_sets.specs.Bools.{clash, same-test, and-intro, and-left, and-right, cond-false}
 use Rattle.drive_sets.specs.Lists.{all, elem, ordered}
 use Rattle.drive_sets.specs.Lists.Laws.{elem-some, all-elem, all-intro, ordered-unique}
-use Rattle.drive_sets.specs.Lists.Takes.{elem-getD}
+use Rattle.drive_sets.specs.Lists.Places.{getD-elem}
 use Rattle.drive_sets.specs.Masks.{has, single, full, common, subset, meets}
 use Rattle.drive_sets.specs.Masks.Laws.{full-lt, full-has, full-subset, has-some, has-bounds, has-meets}
 use Rattle.drive_sets.specs.Refusals.{result}
@@ -199,7 +199,7 @@ chosen-core n sets a = record {
     minimal : Minimal sets core
     minimal =
         minimal-same-hits (normal sets) sets core (hits-normal sets (sets-word n sets a))
-        (core-minimal (normal sets) below core (elem-getD (cores (normal sets)) 0 0 (some-core n (normal sets) (accepted-normal n sets a))))
+        (core-minimal (normal sets) below core (getD-elem (cores (normal sets)) 0 (some-core n (normal sets) (accepted-normal n sets a))))
 
     lt : core < 2 ^ n
     lt = minimal-lt n sets core (a .high) (sets-below n sets a) minimal

@@ -1,18 +1,18 @@
 -- The search for k positions, by recursion on k: what is found from here on is what the whole gives.
-use native.Mathlib.Omega.{arith}
-use mathlib.Core.Path.{refl}
-use Rattle.drive_sets.specs.Masks.{common}
-use Rattle.verdicts.proofs.Loops.{Searching, search-start, found-one, found-more, found-later, found-end}
 use borrow.Author.Needs.{needs}
-use Prim.Native.Nat.{_-_}
 use lib.ListN.{length}
-use Prim.Native.Nat.{ℕ, _<_}
+use native.Mathlib.Omega.{arith}
+use mathlib.Core.Path.{_∙_}
+use Rattle.drive_sets.specs.Masks.{common}
+use Rattle.verdicts.proofs.Loops.{Searching, search-start, pair-is, found-more, found-later, found-end}
+use Prim.Native.Nat.{ℕ, _-_, _<_}
 use borrow.Fn.Kinds.{In}
 use borrow.Fn.PlainCycle.{Measures, is, falls, and}
 use Rattle.verdicts.proofs.disjoint.Reads as disjoint
 use Rattle.verdicts.proofs.disjoint.Kinds as disjoint-kinds
 use Rattle.verdicts.proofs.+disjoint.Lts-disjoint as disjoint-lts
-use Rattle.verdicts.proofs.first_apart.Reads as first-apart-reads
+use Rattle.verdicts.proofs.first_pair.Reads as first-pair-reads
+use Rattle.verdicts.proofs.nothing.Reads as nothing-reads
 use Rattle.verdicts.proofs.+disjoint.{statement}
 use Rattle.verdicts.proofs.+disjoint.Tie.{close}
 
@@ -34,26 +34,22 @@ disjoint-μ-loop k table from shared i₀ i = length table - i
 
 abbrev K : ℕ → disjoint-lts.Claims
 K t = (
-  first-apart-reads.Asked,
-  first-apart-reads.Learnt,
+  first-pair-reads.Asked,
+  first-pair-reads.Learnt,
   disjoint-below t,
   disjoint.Post,
+  nothing-reads.Asked,
+  nothing-reads.Learnt,
 )
 
-disjoint-first-apart-requires : (t : ℕ) → disjoint-lts.Need-first-apart-requires (K t) (disjoint-at t) disjoint.Post disjoint-Inv-loop disjoint-μ-loop
-disjoint-first-apart-requires t c κs = search needs
-
-disjoint-add-t12 : (t : ℕ) → disjoint-lts.Need-add-t12 (K t) (disjoint-at t) disjoint.Post disjoint-Inv-loop disjoint-μ-loop
-disjoint-add-t12 t c = search needs
-
-disjoint-cast-t13 : (t : ℕ) → disjoint-lts.Need-cast-t13 (K t) (disjoint-at t) disjoint.Post disjoint-Inv-loop disjoint-μ-loop
-disjoint-cast-t13 t c = search needs
+disjoint-first-pair-requires : (t : ℕ) → disjoint-lts.Need-first-pair-requires (K t) (disjoint-at t) disjoint.Post disjoint-Inv-loop disjoint-μ-loop
+disjoint-first-pair-requires t c κs = search needs
 
 disjoint-returns : (t : ℕ) → disjoint-lts.Need-returns (K t) (disjoint-at t) disjoint.Post disjoint-Inv-loop disjoint-μ-loop
-disjoint-returns t c = let a = c .before .before .before .args in (refl, found-one (a .table .now) (a .k) (a .from) (a .shared) _ (c .before .if1 .taken) (c .first-apart .ensures .1))
+disjoint-returns t c = let a = c .before .before .before .args in pair-is (a .table .now) (a .k) (a .from) (a .shared) _ (c .before .if1 .taken) (c .first-pair .ensures)
 
 disjoint-loop-holds : (t : ℕ) → disjoint-lts.Need-loop-holds (K t) (disjoint-at t) disjoint.Post disjoint-Inv-loop disjoint-μ-loop
-disjoint-loop-holds t c = search-start _ _ _ _ (c .before .before .pre .1 .2)
+disjoint-loop-holds t c = search-start _ _ _ _ (c .before .before .pre .1 .1)
 
 disjoint-sub-disjoint : (t : ℕ) → disjoint-lts.Need-sub-disjoint (K t) (disjoint-at t) disjoint.Post disjoint-Inv-loop disjoint-μ-loop
 disjoint-sub-disjoint t c = search needs
@@ -67,24 +63,24 @@ disjoint-shared-slice-read-disjoint t c = search needs
 disjoint-disjoint-requires : (t : ℕ) → disjoint-lts.Need-disjoint-requires (K t) (disjoint-at t) disjoint.Post disjoint-Inv-loop disjoint-μ-loop
 disjoint-disjoint-requires t c κs = search needs
 
-disjoint-add-t21 : (t : ℕ) → disjoint-lts.Need-add-t21 (K t) (disjoint-at t) disjoint.Post disjoint-Inv-loop disjoint-μ-loop
-disjoint-add-t21 t c = search needs
+disjoint-add-t15 : (t : ℕ) → disjoint-lts.Need-add-t15 (K t) (disjoint-at t) disjoint.Post disjoint-Inv-loop disjoint-μ-loop
+disjoint-add-t15 t c = search needs
 
-disjoint-cast-t22 : (t : ℕ) → disjoint-lts.Need-cast-t22 (K t) (disjoint-at t) disjoint.Post disjoint-Inv-loop disjoint-μ-loop
-disjoint-cast-t22 t c = search needs
+disjoint-cast-t16 : (t : ℕ) → disjoint-lts.Need-cast-t16 (K t) (disjoint-at t) disjoint.Post disjoint-Inv-loop disjoint-μ-loop
+disjoint-cast-t16 t c = search needs
+
+disjoint-array-read-t19 : (t : ℕ) → disjoint-lts.Need-array-read-t19 (K t) (disjoint-at t) disjoint.Post disjoint-Inv-loop disjoint-μ-loop
+disjoint-array-read-t19 t c = search needs
+
+disjoint-array-read-t22 : (t : ℕ) → disjoint-lts.Need-array-read-t22 (K t) (disjoint-at t) disjoint.Post disjoint-Inv-loop disjoint-μ-loop
+disjoint-array-read-t22 t c = search needs
 
 disjoint-array-read-t25 : (t : ℕ) → disjoint-lts.Need-array-read-t25 (K t) (disjoint-at t) disjoint.Post disjoint-Inv-loop disjoint-μ-loop
 disjoint-array-read-t25 t c = search needs
 
-disjoint-array-read-t28 : (t : ℕ) → disjoint-lts.Need-array-read-t28 (K t) (disjoint-at t) disjoint.Post disjoint-Inv-loop disjoint-μ-loop
-disjoint-array-read-t28 t c = search needs
-
-disjoint-array-read-t31 : (t : ℕ) → disjoint-lts.Need-array-read-t31 (K t) (disjoint-at t) disjoint.Post disjoint-Inv-loop disjoint-μ-loop
-disjoint-array-read-t31 t c = search needs
-
 disjoint-returns-2 : (t : ℕ) → disjoint-lts.Need-returns-2 (K t) (disjoint-at t) disjoint.Post disjoint-Inv-loop disjoint-μ-loop
 unfolding common
-disjoint-returns-2 t c = let a = c .before .before .before .before .before .before .before .before .args in (refl, found-more (a .k) (a .k - 1) (a .table .now) (a .from) (a .shared) (c .before .before .before .before .before .loop .i) (omega arith) (c .before .before .before .before .before .loop .inv) (c .before .before .disjoint .result) (c .before .before .before .before .loop-test .taken) (c .before .before .disjoint .ensures .1) (omega arith) (omega (arith, c .before .before .disjoint .ensures .0)) (c .before .if2 .taken))
+disjoint-returns-2 t c = let a = c .before .before .before .before .before .before .before .before .args in found-more (a .k) (a .k - 1) (a .table .now) (a .from) (a .shared) (c .before .before .before .before .before .loop .i) (omega arith) (c .before .before .before .before .before .loop .inv) (c .before .before .disjoint .result) (c .before .before .before .before .loop-test .taken) (c .before .before .disjoint .ensures) (c .before .if2 .taken)
 
 disjoint-add-i : (t : ℕ) → disjoint-lts.Need-add-i (K t) (disjoint-at t) disjoint.Post disjoint-Inv-loop disjoint-μ-loop
 disjoint-add-i t c = search needs
@@ -94,10 +90,13 @@ disjoint-loop-less t c = search needs
 
 disjoint-loop-again : (t : ℕ) → disjoint-lts.Need-loop-again (K t) (disjoint-at t) disjoint.Post disjoint-Inv-loop disjoint-μ-loop
 unfolding common
-disjoint-loop-again t c = let a = c .before .before .before .before .before .before .before .args in found-later (a .k) (a .k - 1) (a .table .now) (a .from) (a .shared) (c .before .before .before .before .loop .i) (omega arith) (c .before .before .before .before .loop .inv) (c .before .disjoint .result) (c .before .before .before .loop-test .taken) (c .before .disjoint .ensures .1) (c .if2 .left)
+disjoint-loop-again t c = let a = c .before .before .before .before .before .before .before .args in found-later (a .k) (a .k - 1) (a .table .now) (a .from) (a .shared) (c .before .before .before .before .loop .i) (omega arith) (c .before .before .before .before .loop .inv) (c .before .disjoint .result) (c .before .before .before .loop-test .taken) (c .before .disjoint .ensures) (c .if2 .left)
+
+disjoint-nothing-requires : (t : ℕ) → disjoint-lts.Need-nothing-requires (K t) (disjoint-at t) disjoint.Post disjoint-Inv-loop disjoint-μ-loop
+disjoint-nothing-requires t c κs = search needs
 
 disjoint-returns-3 : (t : ℕ) → disjoint-lts.Need-returns-3 (K t) (disjoint-at t) disjoint.Post disjoint-Inv-loop disjoint-μ-loop
-disjoint-returns-3 t c = let a = c .before .before .before .before .args in (refl, found-end (a .k) (a .k - 1) (a .table .now) (a .from) (a .shared) (c .before .loop .i) (omega arith) (c .before .loop .inv) _ refl (c .loop-test .left))
+disjoint-returns-3 t c = let a = c .before .before .before .before .before .args in c .nothing .ensures ∙ found-end (a .k) (a .k - 1) (a .table .now) (a .from) (a .shared) (c .before .before .loop .i) (omega arith) (c .before .before .loop .inv) (c .before .loop-test .left)
 
 pub +disjoint-spec : {M : Type 1} → statement M
 +disjoint-spec = close μ-disjoint λ t. disjoint-lts.spec (K t)
@@ -105,22 +104,21 @@ pub +disjoint-spec : {M : Type 1} → statement M
     disjoint.Post
     disjoint-Inv-loop
     disjoint-μ-loop
-    (disjoint-first-apart-requires t)
-    (disjoint-add-t12 t)
-    (disjoint-cast-t13 t)
+    (disjoint-first-pair-requires t)
     (disjoint-returns t)
     (disjoint-loop-holds t)
     (disjoint-sub-disjoint t)
     (disjoint-mul-disjoint t)
     (disjoint-shared-slice-read-disjoint t)
     (disjoint-disjoint-requires t)
-    (disjoint-add-t21 t)
-    (disjoint-cast-t22 t)
+    (disjoint-add-t15 t)
+    (disjoint-cast-t16 t)
+    (disjoint-array-read-t19 t)
+    (disjoint-array-read-t22 t)
     (disjoint-array-read-t25 t)
-    (disjoint-array-read-t28 t)
-    (disjoint-array-read-t31 t)
     (disjoint-returns-2 t)
     (disjoint-add-i t)
     (disjoint-loop-less t)
     (disjoint-loop-again t)
+    (disjoint-nothing-requires t)
     (disjoint-returns-3 t)

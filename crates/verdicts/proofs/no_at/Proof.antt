@@ -1,15 +1,15 @@
 -- The blocks, one for each named set.
-use Rattle.drive_sets.specs.Masks.{outside}
-use Prim.Native.Nat.{ℕ}
-use Rattle.verdicts.proofs.Splitting.{Splitting, splitting-start, splitting-turn, splitting-end, count-named, is-named, position-within}
 use borrow.Author.Needs.{needs}
-use Prim.Native.Nat.{_-_}
+use Prim.Native.Nat.{ℕ, _-_}
+use mathlib.Core.Bool.{false}
+use mathlib.Core.List.{List}
 use mathlib.Core.Path.{sym, ap, _∙_}
 use lib.ListN.{take}
 use native.Mathlib.Omega.{arith}
-use Rattle.drive_sets.specs.Masks.{union}
-use Rattle.verdicts.specs.Held.{verdictOf}
-use Rattle.verdicts.specs.Verdicts.{no, setsAt}
+use Rattle.drive_sets.specs.Masks.{union, outside}
+use Rattle.verdicts.specs.Held.{withBlocks}
+use Rattle.verdicts.specs.Verdicts.{setsAt}
+use Rattle.verdicts.proofs.Splitting.{Splitting, splitting-start, splitting-turn, splitting-end, count-named, is-named, position-within}
 use Rattle.verdicts.proofs.no_at.Statement.{statement}
 use Rattle.verdicts.proofs.no_at.Tie as tie
 
@@ -62,10 +62,11 @@ loop-again c =
     (c .outside .ensures ∙ ap (λ (s : ℕ). outside (a .n) (union s (l .taken))) (sym (is-named (a .table .now) (a .t4) (a .k) (omega arith) (l .i) h)))
 
 returns : tie.Need-returns Inv-loop μ-loop
-unfolding verdictOf
+unfolding withBlocks
 returns c =
     let a = c .before .before .before .args in
-    ap (no (take (a .k) (a .t4))) (splitting-end _ _ _ _ _ _ (count-named (a .table .now) (a .t4) (a .k) (omega arith)) (c .before .loop .inv) (c .loop-test .left))
+    ap (λ (l : List ℕ). record { shared = false; positions = a .t4; blocks = l })
+    (splitting-end _ _ _ _ _ _ (count-named (a .table .now) (a .t4) (a .k) (omega arith)) (c .before .loop .inv) (c .before .before .before .pre .0) (c .loop-test .left))
 
 pub no-at-spec : {M : Type 1} → statement M
 no-at-spec =

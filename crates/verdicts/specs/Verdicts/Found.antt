@@ -21,7 +21,7 @@ use Rattle.verdicts.specs.Verdicts.Search.{Shared, shared-more, shared-f
 use Rattle.verdicts.specs.Meaning.{AllFrom, notFalling, precedes}
 
 -- the set at position q of the sets that start at position p
-abbrev setFrom : ℕ → List ℕ → ℕ → ℕ
+abbrev pub setFrom : ℕ → List ℕ → ℕ → ℕ
 setFrom p sets q = getD sets (q - p) 0
 
 -- k positions from p on, not falling, whose sets have no drive of m in common
@@ -35,7 +35,7 @@ pub record First (k p : ℕ) (sets : List ℕ) (m : ℕ) (ps : List ℕ) : Type 
   pub names : Names k p sets m ps
   pub first : (qs : List ℕ) → Names k p sets m qs → (ps ≡ qs) ⊎ (precedes ps qs ≡ true)
 
-named-from : (k p : ℕ) (sets : List ℕ) (m : ℕ) (ps : List ℕ) → Names k p sets m ps → AllFrom sets (map (setFrom p sets) ps)
+pub named-from : (k p : ℕ) (sets : List ℕ) (m : ℕ) (ps : List ℕ) → Names k p sets m ps → AllFrom sets (map (setFrom p sets) ps)
 named-from k p sets m ps w s i =
     let q = map-elem (setFrom p sets) s ps i in
     let b = w .within (q .0) (q .1) in
