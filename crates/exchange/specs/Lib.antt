@@ -2,4 +2,5 @@
 pub mod State
 pub mod Messages
 pub mod Calls
+pub mod Replies
 pub mod Samples

@@ -1,0 +1,5 @@
+-- What the functions' proofs share.
+pub mod Closes
+pub mod Least
+pub mod Opens
+pub mod Rules

@@ -1,0 +1,78 @@
+-- The rules of 28, one after the other as the code asks them.
+use mathlib.Core.Path.{_≡_, refl, sym, ap, _∙_}
+use mathlib.Core.Bool.{Bool, true, false, not, _&&_, _||_}
+use Rattle.drive_sets.specs.Bools.{clash}
+
+-- three tests of a core drive that must know its own number
+pub no-core : (a b c t : Bool) → t ≡ a → not t ≡ true → false ≡ (a && not (b && c))
+no-core true b c t e h = absurd (clash (ap not (sym e) ∙ h) refl)
+no-core false b c t e h = refl
+
+pub not-now : (a b c t u : Bool) → t ≡ a → not t ≡ false → u ≡ b → not u ≡ true → true ≡ (a && not (b && c))
+not-now false b c t u e h f g = absurd (clash refl (ap not (sym e) ∙ h))
+not-now true true c t u e h f g = absurd (clash (ap not (sym f) ∙ g) refl)
+not-now true false c t u e h f g = refl
+
+pub at-start : (a b c t u v : Bool) → t ≡ a → not t ≡ false → u ≡ b → not u ≡ false → v ≡ c → not v ≡ (a && not (b && c))
+at-start false b c t u v e h f g k = absurd (clash refl (ap not (sym e) ∙ h))
+at-start true false c t u v e h f g k = absurd (clash refl (ap not (sym f) ∙ g))
+at-start true true c t u v e h f g k = ap not k
+
+-- four tests that must all hold
+pub fails-first : (a b c d t : Bool) → t ≡ a → not t ≡ true → false ≡ (a && b && c && d)
+fails-first true b c d t e h = absurd (clash (ap not (sym e) ∙ h) refl)
+fails-first false b c d t e h = refl
+
+pub fails-second : (a b c d t : Bool) → t ≡ b → not t ≡ true → false ≡ (a && b && c && d)
+fails-second false b c d t e h = refl
+fails-second true true c d t e h = absurd (clash (ap not (sym e) ∙ h) refl)
+fails-second true false c d t e h = refl
+
+pub fails-third : (a b c d t : Bool) → t ≡ c → not t ≡ true → false ≡ (a && b && c && d)
+fails-third false b c d t e h = refl
+fails-third true false c d t e h = refl
+fails-third true true true d t e h = absurd (clash (ap not (sym e) ∙ h) refl)
+fails-third true true false d t e h = refl
+
+pub last-left : (a b c d t u v w : Bool) → t ≡ a → not t ≡ false → u ≡ b → not u ≡ false → v ≡ c → not v ≡ false → w ≡ d → w ≡ (a && b && c && d)
+last-left false b c d t u v w e h f g k l m = absurd (clash refl (ap not (sym e) ∙ h))
+last-left true false c d t u v w e h f g k l m = absurd (clash refl (ap not (sym f) ∙ g))
+last-left true true false d t u v w e h f g k l m = absurd (clash refl (ap not (sym k) ∙ l))
+last-left true true true d t u v w e h f g k l m = m
+
+-- the state by its rules: frame, core, own number forgotten, drive, round, sets
+abbrev pub rules : Bool → Bool → Bool → Bool → Bool → Bool → Bool
+rules a b c d e f = not a || not b || c || not d || not e || not f
+
+pub frame-broken : (a b c d e f t : Bool) → t ≡ a → not t ≡ true → true ≡ rules a b c d e f
+frame-broken true b c d e f t p h = absurd (clash (ap not (sym p) ∙ h) refl)
+frame-broken false b c d e f t p h = refl
+
+pub core-broken : (a b c d e f t : Bool) → t ≡ b → not t ≡ true → true ≡ rules a b c d e f
+core-broken false b c d e f t p h = refl
+core-broken true true c d e f t p h = absurd (clash (ap not (sym p) ∙ h) refl)
+core-broken true false c d e f t p h = refl
+
+pub own-broken : (a b c d e f t : Bool) → t ≡ c → t ≡ true → true ≡ rules a b c d e f
+own-broken false b c d e f t p h = refl
+own-broken true false c d e f t p h = refl
+own-broken true true true d e f t p h = refl
+own-broken true true false d e f t p h = absurd (clash h p)
+
+pub drive-broken : (a b c d e f t : Bool) → t ≡ d → not t ≡ true → true ≡ rules a b c d e f
+drive-broken false b c d e f t p h = refl
+drive-broken true false c d e f t p h = refl
+drive-broken true true true d e f t p h = refl
+drive-broken true true false true e f t p h = absurd (clash (ap not (sym p) ∙ h) refl)
+drive-broken true true false false e f t p h = refl
+
+pub round-broken : (a b c d e f t : Bool) → t ≡ e → not t ≡ true → true ≡ rules a b c d e f
+round-broken false b c d e f t p h = refl
+round-broken true false c d e f t p h = refl
+round-broken true true true d e f t p h = refl
+round-broken true true false false e f t p h = refl
+round-broken true true false true true f t p h = absurd (clash (ap not (sym p) ∙ h) refl)
+round-broken true true false true false f t p h = refl
+
+pub sets-asked : (a b c d e f : Bool) → not a ≡ false → not b ≡ false → c ≡ false → not d ≡ false → not e ≡ false → (t : Bool) → t ≡ f → not t ≡ rules a b c d e f
+sets-asked a b c d e f p q r s u t v = ap not v ∙ sym (rw (p, q, r, s, u))

@@ -1,0 +1,21 @@
+-- A round of the exchange, two tests.
+use Rattle.drive_sets.specs.Bools.{and-first, and-second}
+use Rattle.drive_sets.specs.Masks.{size}
+use lib.Dec.{leb}
+use borrow.Author.Tests.{le-leb, lt-leb}
+use mathlib.Core.Path.{ap, _∙_}
+use borrow.Author.Needs.{needs}
+use Rattle.exchange.proofs.is_round.Statement.{statement}
+use Rattle.exchange.proofs.is_round.Tie as tie
+
+size-requires : tie.Need-size-requires
+size-requires c κs = search needs
+
+returns : tie.Need-returns
+returns c = let a = c .before .before .args in ap (leb (a .round)) (c .before .size .ensures) ∙ and-second (leb 1 (a .round)) (leb (a .round) (size (a .core))) (le-leb 1 (a .round) (c .if1 .taken))
+
+returns-2 : tie.Need-returns-2
+returns-2 c = let a = c .before .before .args in and-first (leb 1 (a .round)) (leb (a .round) (size (a .core))) (lt-leb 1 (a .round) (c .if1 .left))
+
+pub is-round-spec : {M : Type 1} → statement M
+is-round-spec = tie.close (tie.spec size-requires returns returns-2)
