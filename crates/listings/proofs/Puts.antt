@@ -1,5 +1,6 @@
 -- Text put into a buffer: one byte, a list of bytes, a number in a base.
-use mathlib.Core.Path.{_≡_, refl, sym, ap, _∙_}
+use mathlib.Core.Bool.{true, false}
+use mathlib.Core.Path.{_≡_, refl, sym, ap, _∙_, subst}
 use mathlib.Core.List.{List, [], _∷_, _++_, append-nil, append-assoc}
 use Prim.Native.Nat.{ℕ, zero, suc, _+_, _-_, _/_, _%_, _≤_, _<_}
 use native.Mathlib.Nat.{mod-lt}
@@ -7,13 +8,18 @@ use native.Mathlib.Omega.{arith}
 use native.Mathlib.Numerals.{add-one}
 use lib.ListN.{length, getD, take}
 use lib.Seq.{take-suc, take-all}
-use borrow.Author.Tests.{lt-ltb, le-ltb}
-use Rattle.drive_sets.specs.Bools.{cond-true, cond-false}
+use borrow.Author.Tests.{lt-ltb, le-ltb, le-leb}
+use Rattle.drive_sets.specs.Bools.{cond-true, cond-false, and-intro}
 use Rattle.drive_sets.specs.Filled.{Filled}
 use Rattle.drive_sets.specs.Filled.Laws.{filled-none, filled-then, filled-le, filled-same}
 use Rattle.records.specs.Marks.{ascii}
-use Rattle.listings.specs.Text.{digit, inBase}
-use Rattle.listings.specs.TableListing.{fields, line, lines}
+use Rattle.verdicts.specs.declared.Verdict.{Verdict as Answer}
+use Rattle.tables.specs.Tables.{cores, chosen}
+use Rattle.verdicts.specs.Verdicts.{verdictOn}
+use Rattle.verdicts.specs.Held.{verdictOf, verdictWithin, fits}
+use Rattle.listings.specs.Text.{digit, inBase, decimal, hexadecimal}
+use Rattle.listings.specs.TableListing.{fields, line, lines, verdictLine, listing}
+use Rattle.listings.specs.Parts.{verdictHead, placesPart, blocksPart, drivesLine, groupsPart, verdictsPart}
 
 -- ---- items one after the other
 
@@ -113,3 +119,74 @@ base-more base (suc most) x b ne h e =
     let less : suc most - 1 ≡ most = omega arith in
     cond-false _ _ (le-ltb x base h)
     ∙ (ap (λ (y : ℕ). inBase base most (x / base) ++ (y ∷ [])) (sym e) ∙ ap (λ (k : ℕ). inBase base k (x / base) ++ (b ∷ [])) (sym less))
+
+-- ---- the line of a verdict
+
+number-field : (k : ℕ) → fields decimal (k ∷ []) ≡ 32 ∷ inBase 10 20 k
+unfolding fields decimal ascii
+number-field k = ap (λ (r : List ℕ). 32 ∷ r) (append-nil (inBase 10 20 k))
+
+pub verdict-yes : (v : Answer) (k : ℕ) → v .shared ≡ true → verdictLine k (verdictOf v k) ≡ verdictHead k ++ ascii " yes\n"
+unfolding verdictLine verdictOf line ascii verdictHead
+verdict-yes v k e = ap (verdictLine k) (cond-true _ _ e) ∙ ap (λ (r : List ℕ). 107 ∷ r) tail
+  where
+    tail : (fields decimal (k ∷ []) ++ ascii " yes") ++ ascii "\n" ≡ (32 ∷ inBase 10 20 k) ++ ascii " yes\n"
+    tail =
+        ap (λ (r : List ℕ). (r ++ ascii " yes") ++ ascii "\n") (number-field k) ∙ append-assoc (32 ∷ inBase 10 20 k) (ascii " yes") (ascii "\n")
+
+pub verdict-no : (v : Answer) (k : ℕ) → v .shared ≡ false
+    → verdictLine k (verdictOf v k) ≡ (verdictHead k ++ placesPart (take k (v .positions))) ++ blocksPart (take k (v .blocks))
+unfolding verdictLine verdictOf line decimal hexadecimal ascii verdictHead placesPart blocksPart
+verdict-no v k e = ap (verdictLine k) (cond-false _ _ e) ∙ ap (λ (r : List ℕ). 107 ∷ r) tail
+  where
+    ps : List ℕ
+    ps = fields (inBase 10 20) (take k (v .positions))
+
+    bs : List ℕ
+    bs = ascii " blocks" ++ fields (inBase 16 16) (take k (v .blocks))
+
+    parts : (x s p b n : List ℕ) → (x ++ (s ++ (p ++ b))) ++ n ≡ (x ++ (s ++ p)) ++ (b ++ n)
+    parts x s p b n =
+        ap (λ (r : List ℕ). r ++ n) (ap (λ (r : List ℕ). x ++ r) (sym (append-assoc s p b)) ∙ sym (append-assoc x (s ++ p) b)) ∙ append-assoc (x ++ (s ++ p)) b n
+
+    tail : (fields (inBase 10 20) (k ∷ []) ++ (ascii " no sets" ++ (ps ++ bs))) ++ ascii "\n" ≡ ((32 ∷ inBase 10 20 k) ++ (ascii " no sets" ++ ps)) ++ (bs ++ ascii "\n")
+    tail =
+        ap (λ (r : List ℕ). (r ++ (ascii " no sets" ++ (ps ++ bs))) ++ ascii "\n") (number-field k)
+        ∙ parts (32 ∷ inBase 10 20 k) (ascii " no sets") ps bs (ascii "\n")
+
+-- the verdict within the bounds is the verdict
+pub verdict-within : (k n : ℕ) (sets : List ℕ) → 2 ≤ k → k ≤ 4 → length sets ≤ 128 → verdictWithin k n sets ≡ verdictOn k n sets
+unfolding verdictWithin fits
+verdict-within k n sets low high few = cond-true _ _ (and-intro (le-leb 2 k low) (and-intro (le-leb k 4 high) (le-leb (length sets) 128 few)))
+
+-- ---- the listing
+
+pub listing-parts : (n : ℕ) (sets cs : List ℕ) → cs ≡ cores sets → listing n sets ≡ (drivesLine n ++ groupsPart sets cs) ++ verdictsPart n sets
+unfolding listing drivesLine groupsPart verdictsPart decimal hexadecimal chosen
+listing-parts n sets cs e = subst (λ (l : List ℕ). listing n sets ≡ (drivesLine n ++ groupsPart sets l) ++ verdictsPart n sets) (sym e)
+    (parts (drivesLine n) (lines (ascii "set") hexadecimal sets) (lines (ascii "core") hexadecimal (cores sets))
+    (line (ascii "chosen") (fields hexadecimal (chosen sets ∷ []))) (verdictLine 2 (verdictOn 2 n sets)) (verdictLine 3 (verdictOn 3 n sets)) (verdictLine 4 (verdictOn 4 n sets)))
+  where
+    parts : (d s c h x y z : List ℕ) → d ++ (s ++ (c ++ (h ++ (x ++ (y ++ z))))) ≡ (d ++ ((s ++ c) ++ h)) ++ ((x ++ y) ++ z)
+    parts d s c h x y z =
+        ap (λ (r : List ℕ). d ++ r)
+        (sym (append-assoc s c (h ++ (x ++ (y ++ z)))) ∙ (sym (append-assoc (s ++ c) h (x ++ (y ++ z))) ∙ ap (λ (r : List ℕ). ((s ++ c) ++ h) ++ r) (sym (append-assoc x y z))))
+        ∙ sym (append-assoc d ((s ++ c) ++ h) ((x ++ y) ++ z))
+
+-- the first of none
+pub no-first : (l : List ℕ) → length l ≡ 0 → 0 ≡ getD l 0 0
+no-first [] e = refl
+no-first (x ∷ l) e = absurd (omega arith)
+
+-- the chosen line, of the first core
+pub chosen-line : (l : List ℕ) (x : ℕ) → x ≡ getD l 0 0
+    → line (ascii "chosen") (fields (inBase 16 16) (getD l 0 0 ∷ [])) ≡ line (ascii "chosen") (fields (inBase 16 16) (x ∷ []))
+chosen-line l x e = ap (λ (y : ℕ). line (ascii "chosen") (fields (inBase 16 16) (y ∷ []))) (sym e)
+
+-- the same where the parts of the arrays are cut from place 0 on
+pub verdict-no-cut : (v : Answer) (k : ℕ) → v .shared ≡ false
+    → verdictLine k (verdictOf v k) ≡ (verdictHead k ++ placesPart (take (k - 0) (v .positions))) ++ blocksPart (take (k - 0) (v .blocks))
+verdict-no-cut v k e =
+    let same : k ≡ k - 0 = omega arith in
+    subst (λ (j : ℕ). verdictLine k (verdictOf v k) ≡ (verdictHead k ++ placesPart (take j (v .positions))) ++ blocksPart (take j (v .blocks))) same
+    (verdict-no v k e)

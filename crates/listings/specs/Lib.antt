@@ -1,4 +1,5 @@
--- Text, the listing of the table program, and the marked cases.
+-- Text, the listing of the table program and its parts, and the marked cases.
 pub mod Text
 pub mod TableListing
+pub mod Parts
 pub mod MarkedCases

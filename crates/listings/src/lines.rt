@@ -10,7 +10,7 @@ use crate::text::put_all;
 use crate::text::put_in_base;
 
 // One field: a space and a number.
-fn put_value(buf: &mut [u8], at: usize, base: u64, most: u8, x: u64) -> usize
+pub fn put_value(buf: &mut [u8], at: usize, base: u64, most: u8, x: u64) -> usize
     requires { ⌜ (at ≤ length (now buf) + 1) × (length (now buf) ≤ 65536) × (2 ≤ base) × (base ≤ 16) ⌝ }
     ensures { λ r. ⌜ Filled (now (buf .entry)) (now (buf .exit)) at r (32 ∷ inBase base most x) ⌝ }
 {

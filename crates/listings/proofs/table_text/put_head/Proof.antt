@@ -1,0 +1,28 @@
+-- The letter, then the number.
+use Rattle.listings.specs.Parts.{verdictHead}
+use Rattle.records.specs.Marks.{ascii}
+use Rattle.drive_sets.specs.Filled.Laws.{filled-then}
+use borrow.Author.Needs.{needs}
+use Rattle.listings.proofs.table_text.put_head.Statement.{statement}
+use Rattle.listings.proofs.table_text.put_head.Tie as tie
+
+slice-aggregate-put-all : tie.Need-slice-aggregate-put-all
+slice-aggregate-put-all c = search needs
+
+put-all-requires : tie.Need-put-all-requires
+put-all-requires c κs = search needs
+
+put-position-requires : tie.Need-put-position-requires
+put-position-requires c κs = search needs
+
+same-length : tie.Need-same-length
+same-length c = search needs
+
+returns : tie.Need-returns
+unfolding verdictHead ascii
+returns c = filled-then _ _ _ _ _ _ _ _ (search needs) (c .before .before .before .before .before .before .put-all .ensures) (c .before .before .put-position .ensures)
+
+pub put-head-spec : {M : Type 1} → statement M
+put-head-spec =
+    tie.close
+    (tie.spec slice-aggregate-put-all put-all-requires put-position-requires same-length returns)
