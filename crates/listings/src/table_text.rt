@@ -4,17 +4,19 @@ ghost use mathlib.Core.List.{_∷_};
 ghost use Prim.Native.Nat.{_+_, _≤_};
 ghost use lib.ListN.{length, getD};
 ghost use Rattle.drive_sets.specs.Filled.{Filled};
+ghost use Rattle.drive_sets.specs.Refusals.{number};
 ghost use Rattle.tables.specs.Tables.{cores};
 ghost use Rattle.verdicts.specs.Verdicts.{verdictOn};
 ghost use Rattle.verdicts.specs.Held.{verdictOf};
 ghost use Rattle.listings.specs.Text.{inBase, decimal};
-ghost use Rattle.listings.specs.TableListing.{fields, verdictLine, listing};
+ghost use Rattle.listings.specs.TableListing.{fields, verdictLine, refusalLine, listing};
 ghost use Rattle.listings.specs.Parts.{verdictHead, placesPart, blocksPart, drivesLine, groupsPart, verdictsPart};
 use crate::lines::put_fields;
 use crate::lines::put_line;
 use crate::lines::put_lines;
 use crate::lines::put_value;
 use crate::text::put_all;
+use drive_sets::Refusal;
 use verdicts::Verdict;
 
 // One position.
@@ -137,4 +139,13 @@ pub fn put_listing(buf: &mut [u8], at: usize, n: u8, sets: &[u64], groups: &[u64
     let counted = put_drives(buf, at, n);
     let grouped = put_groups(buf, counted, sets, groups);
     put_verdicts(buf, grouped, n, sets)
+}
+
+// The line of a refusal.
+pub fn put_refused(buf: &mut [u8], at: usize, r: Refusal) -> usize
+    requires { ⌜ (at ≤ length (now buf) + 1) × (length (now buf) ≤ 65536) ⌝ }
+    ensures { λ end. ⌜ Filled (now (buf .entry)) (now (buf .exit)) at end (refusalLine (number r)) ⌝ }
+{
+    let k = r.number();
+    put_line(buf, at, b"refused", 10, 20, k as u64)
 }
