@@ -1,0 +1,161 @@
+"""Run files and the simulated exchange.
+
+A scenario is the pattern number each drive proposes and the crashes. The
+simulation makes the calls of a run in one fixed order: in each round all
+sends, then the messages, then the closes.
+"""
+
+from dataclasses import dataclass
+from typing import Optional, Sequence
+
+from .exchange import Exchange, check_drive, close, message, opening, send
+from .masks import all_drives, bit, drives, mask_of, size
+from .records import CRASH, END, PATTERN_WIDTH, PROPOSAL, Reader, number
+from .refusals import Refusal
+from .tables import chosen_core
+
+
+@dataclass(frozen=True)
+class Crash:
+    """The drive acts normally before the round, makes so many sends of the
+    round's list and is gone before the round closes."""
+
+    drive: int
+    round: int
+    sends: int
+
+
+@dataclass(frozen=True)
+class Scenario:
+    """What a run file says."""
+
+    proposals: list[int]
+    crashes: list[Crash]
+
+
+@dataclass(frozen=True)
+class Outcome:
+    """What a run gives: for each drive its number and round, or None if it
+    has a CR; the core; and f, the number of core drives with a CR."""
+
+    decisions: list[Optional[tuple[int, int]]]
+    core: int
+    stops: int
+
+
+# Refusals of stops
+
+def _check_crash(n: int, core: int, crash: Crash, last: int) -> None:
+    """8, 9, 10."""
+    check_drive(n, crash.drive)
+    if crash.drive <= last:
+        raise Refusal(8)
+    if not 1 <= crash.round <= size(core):
+        raise Refusal(9)
+    if crash.sends > (n - 1 if core & bit(crash.drive) else 0):
+        raise Refusal(10)
+
+
+def _check_untouched(sets: Sequence[int], crashes: Sequence[Crash]) -> None:
+    """11: every survivor set has a drive with a CR."""
+    stopped = mask_of(crash.drive for crash in crashes)
+    if all(mask & stopped for mask in sets):
+        raise Refusal(11)
+
+
+# Run file
+
+def read_run(data: bytes, n: int, sets: Sequence[int]) -> Scenario:
+    """The scenario in a run file for this table; first the table's refusals."""
+    core = chosen_core(n, sets)
+    reader = Reader(data)
+    proposals = [_read_proposal(reader, drive) for drive in range(1, n + 1)]
+    crashes = _read_crashes(reader, n, core)
+    if number(reader.take(1)) != len(crashes):
+        raise Refusal(6)
+    reader.end()
+    _check_untouched(sets, crashes)
+    return Scenario(proposals, crashes)
+
+
+def _read_proposal(reader: Reader, due: int) -> int:
+    reader.mark(PROPOSAL)
+    rest = reader.take(1 + PATTERN_WIDTH)
+    if rest[0] != due:
+        raise Refusal(8)
+    return number(rest[1:])
+
+
+def _read_crashes(reader: Reader, n: int, core: int) -> list[Crash]:
+    """The CR records; stops behind EN's mark."""
+    crashes: list[Crash] = []
+    last = 0
+    while reader.mark(CRASH, END) == CRASH:
+        crash = Crash(*reader.take(3))
+        _check_crash(n, core, crash, last)
+        crashes.append(crash)
+        last = crash.drive
+    return crashes
+
+
+# Simulated exchange
+
+def simulate(n: int, sets: Sequence[int], proposals: Sequence[int],
+             stops: Sequence[Crash]) -> Outcome:
+    """The outcome of a run; the table's refusals, then 8, 9, 10 for each stop
+    in order, then 11. `proposals` holds one number for each drive."""
+    core = chosen_core(n, sets)
+    last = 0
+    for crash in stops:
+        _check_crash(n, core, crash, last)
+        last = crash.drive
+    _check_untouched(sets, stops)
+    decisions = _play(n, core, _open_all(n, sets, proposals), stops)
+    stopped = mask_of(crash.drive for crash in stops)
+    shown = [None if bit(drive) & stopped else decisions[drive]
+             for drive in range(1, n + 1)]
+    return Outcome(shown, core, size(core & stopped))
+
+
+def _open_all(n: int, sets: Sequence[int], proposals: Sequence[int]) -> dict[int, Exchange]:
+    if len(proposals) != n:
+        raise ValueError("a run has one proposal for each drive")
+    return {drive: opening(n, sets, drive, proposals[drive - 1])
+            for drive in range(1, n + 1)}
+
+
+def _play(n: int, core: int, states: dict[int, Exchange],
+          stops: Sequence[Crash]) -> dict[int, tuple[int, int]]:
+    """Number and round of each drive that decides."""
+    crashes = {crash.drive: crash for crash in stops}
+    decisions: dict[int, tuple[int, int]] = {}
+    for round_number in range(1, size(core) + 1):
+        active = [drive for drive, state in states.items() if not state.halted]
+        gone = [drive for drive in active
+                if drive in crashes and crashes[drive].round == round_number]
+        closing = set(active).difference(gone)
+        for sender in [drive for drive in active if bit(drive) & core]:
+            receivers = send_order(n, core, sender)
+            if sender in gone:
+                receivers = receivers[:crashes[sender].sends]
+            _deliver(states, sender, [r for r in receivers if r in closing])
+        for drive in closing:
+            states[drive] = close(states[drive])
+            if states[drive].decision is not None and drive not in decisions:
+                decisions[drive] = (states[drive].decision, round_number)
+        for drive in gone:
+            del states[drive]
+    return decisions
+
+
+def send_order(n: int, core: int, sender: int) -> list[int]:
+    """The other core drives, rising, then the listeners, rising."""
+    others = [drive for drive in drives(core) if drive != sender]
+    return others + list(drives(all_drives(n) & ~core))
+
+
+def _deliver(states: dict[int, Exchange], sender: int, receivers: list[int]) -> None:
+    """One send, and one message call to each receiver."""
+    data = send(states[sender])
+    for receiver in receivers:
+        states[receiver] = message(states[receiver], data)

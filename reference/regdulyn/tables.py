@@ -1,0 +1,156 @@
+"""Survivor tables: the normal table, cores, the way back, reader and writer.
+
+A call given n and sets meets 3, 2, 5, then 4 set by set, then 13. A file is
+judged left to right, so the same table with two faults may meet another
+number as a file.
+"""
+
+from dataclasses import dataclass
+from functools import lru_cache
+from typing import Sequence
+
+from .hitting import minimal_hitting_sets
+from .masks import MAX_DRIVES, all_drives, is_part, size, smallest
+from .records import END, FRAME, MASK_WIDTH, SURVIVOR, Reader, field, fill, number
+from .refusals import Refusal
+
+MAX_SETS = 128
+MAX_CORES = 1024
+
+
+# What a table means
+
+def core_order(core: int) -> tuple[int, int]:
+    """Cores are ordered by size, then by mask."""
+    return size(core), core
+
+
+@dataclass(frozen=True)
+class Table:
+    """The normal table of an accepted list of sets, and its cores in order."""
+
+    normal: tuple[int, ...]
+    cores: tuple[int, ...]
+
+
+@lru_cache(maxsize=64)
+def derive(sets: tuple[int, ...]) -> Table:
+    """Normal table and cores of sets that meet no earlier refusal; 13."""
+    normal = tuple(smallest(sets))
+    found = minimal_hitting_sets(normal, MAX_CORES)
+    if len(found) > MAX_CORES:
+        raise Refusal(13)
+    return Table(normal, tuple(sorted(found, key=core_order)))
+
+
+# Refusals of calls
+
+def check_drives(n: int) -> None:
+    """3: n outside 1 to 64."""
+    if not 1 <= n <= MAX_DRIVES:
+        raise Refusal(3)
+
+
+def check_mask(n: int, mask: int) -> None:
+    """4: a set or group that is zero or has a bit above n."""
+    if mask == 0 or not is_part(mask, all_drives(n)):
+        raise Refusal(4)
+
+
+def accept(n: int, sets: Sequence[int]) -> Table:
+    """The table of a call given n and sets: 3, 2, 5, 4 set by set, 13."""
+    check_drives(n)
+    if not sets:
+        raise Refusal(2)
+    if len(sets) > MAX_SETS:
+        raise Refusal(5)
+    for mask in sets:
+        check_mask(n, mask)
+    return derive(tuple(sets))
+
+
+# Calls
+
+def normal_table(n: int, sets: Sequence[int]) -> list[int]:
+    """The sets without repeats and without those that hold another, by mask."""
+    return list(accept(n, sets).normal)
+
+
+def cores(n: int, sets: Sequence[int]) -> list[int]:
+    """The smallest groups that meet every survivor set, in core order."""
+    return list(accept(n, sets).cores)
+
+
+def chosen_core(n: int, sets: Sequence[int]) -> int:
+    """The first core."""
+    return accept(n, sets).cores[0]
+
+
+def meets_all(n: int, sets: Sequence[int], group: int) -> bool:
+    """Whether the group meets every survivor set."""
+    table = accept(n, sets)
+    check_mask(n, group)
+    return all(mask & group for mask in table.normal)
+
+
+def back(n: int, groups: Sequence[int]) -> list[int]:
+    """The smallest groups that meet each of the groups handed in, by mask."""
+    check_drives(n)
+    if not 1 <= len(groups) <= MAX_CORES:
+        raise Refusal(13)
+    for mask in groups:
+        check_mask(n, mask)
+    found = minimal_hitting_sets(smallest(groups), MAX_SETS)
+    if len(found) > MAX_SETS:
+        raise Refusal(5)
+    return sorted(found)
+
+
+# Files
+
+def write_table(n: int, sets: Sequence[int]) -> bytes:
+    """The normal table as a file."""
+    normal = normal_table(n, sets)
+    records = [SURVIVOR + field(mask, MASK_WIDTH) for mask in normal]
+    return FRAME + field(n, 1) + b"".join(records) + END + field(len(normal), 1)
+
+
+def write_table_into(buffer: bytearray, start: int, n: int, sets: Sequence[int]) -> int:
+    """Writes the file from `start` on; returns the place after it."""
+    return fill(buffer, start, write_table(n, sets))
+
+
+def read_table(data: bytes) -> tuple[int, list[int]]:
+    """n and the normal table of a file that holds nothing else."""
+    reader = Reader(data)
+    n, listed = _read_records(reader)
+    reader.end()
+    return n, list(derive(tuple(listed)).normal)
+
+
+def read_table_with_rest(data: bytes) -> tuple[int, list[int], bytes]:
+    """n, the normal table, and the bytes after EN."""
+    reader = Reader(data)
+    n, listed = _read_records(reader)
+    return n, list(derive(tuple(listed)).normal), reader.rest
+
+
+def _read_records(reader: Reader) -> tuple[int, list[int]]:
+    """n and the sets as listed; stops behind EN."""
+    reader.mark(FRAME)
+    n = number(reader.take(1))
+    check_drives(n)
+    listed: list[int] = []
+    while True:
+        # EN straight after FR is a known mark in the wrong place.
+        due = (SURVIVOR, END) if listed else (SURVIVOR,)
+        if reader.mark(*due) == END:
+            break
+        mask = number(reader.take(MASK_WIDTH))
+        if len(listed) == MAX_SETS:
+            raise Refusal(5)
+        check_mask(n, mask)
+        listed.append(mask)
+    if number(reader.take(1)) != len(listed):
+        raise Refusal(6)
+    return n, listed

@@ -1,0 +1,79 @@
+"""Verdicts on k: whether any k survivor sets share a drive (k-Intersection),
+and where not, the witness and the split into k blocks (k-Partition).
+"""
+
+from dataclasses import dataclass
+from typing import Sequence
+
+from .masks import all_drives, bits
+from .refusals import Refusal
+from .tables import accept
+
+K_LOW, K_HIGH = 2, 4
+
+
+@dataclass(frozen=True)
+class Verdict:
+    """Yes has no positions and no blocks; no has k of each."""
+
+    k: int
+    positions: tuple[int, ...] = ()
+    blocks: tuple[int, ...] = ()
+
+    @property
+    def yes(self) -> bool:
+        return not self.positions
+
+
+def verdict(k: int, n: int, sets: Sequence[int]) -> Verdict:
+    """The verdict on k for the normal table of the sets."""
+    if not K_LOW <= k <= K_HIGH:
+        raise Refusal(12)
+    normal = accept(n, sets).normal
+    places = _first_sharing_none(normal, k, all_drives(n), 0)
+    if places is None:
+        return Verdict(k)
+    named = [normal[place] for place in places]
+    positions = tuple(place + 1 for place in places)
+    return Verdict(k, positions, _blocks(n, named))
+
+
+def _blocks(n: int, named: list[int]) -> tuple[int, ...]:
+    """Block i holds the drives outside the i-th named set and in no earlier
+    block."""
+    left = all_drives(n)
+    blocks = []
+    for mask in named:
+        blocks.append(left & ~mask)
+        left &= mask
+    return tuple(blocks)
+
+
+def _first_sharing_none(normal: Sequence[int], count: int, shared: int,
+                        start: int) -> list[int] | None:
+    """The first `count` places, not falling and from `start` on, whose sets
+    have no drive of `shared` in common."""
+    if not _some_share_none(normal[start:], count, shared):
+        return None
+    if count == 0:
+        return []
+    for place in range(start, len(normal)):
+        tail = _first_sharing_none(normal, count - 1, shared & normal[place], place)
+        if tail is not None:
+            return [place] + tail
+    return None
+
+
+def _some_share_none(normal: Sequence[int], count: int, shared: int) -> bool:
+    """Whether at most `count` of the sets have no drive of `shared` in
+    common. Some set must lack each shared drive, so it is enough to try the
+    sets that lack one of them, and best the drive that the fewest lack."""
+    if shared == 0:
+        return True
+    if count == 0:
+        return False
+    if count == 1:
+        return any(not mask & shared for mask in normal)
+    rarest = min(([mask for mask in normal if not mask & drive]
+                  for drive in bits(shared)), key=len)
+    return any(_some_share_none(normal, count - 1, shared & mask) for mask in rarest)

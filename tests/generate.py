@@ -1,0 +1,204 @@
+"""Seeded inputs for the two programs: accepted ones and damaged ones.
+
+`table_inputs` and `run_inputs` yield bytes. Both start with a fixed list that
+covers every refusal number, every cut of a file and the limits, and go on at
+random. The same seed gives the same inputs. Somewhat more than half are
+accepted.
+"""
+
+from itertools import chain, combinations, islice, product
+from random import Random
+from typing import Iterator
+
+from inputs.damage import RUN_DAMAGE, TABLE_DAMAGE, damaged
+from inputs.frames import Frame, accepted_table, crowded_table, full
+from inputs.records import (MARKS, UNKNOWN_MARKS, Crash, Records, crash, frame,
+                            proposal, run, run_records, survivor, table, table_records)
+from inputs.scenarios import accepted_run, spoil_crash, touch_every_set
+
+
+# Table inputs
+
+EXAMPLE = (6, [1, 2, 0x3C])
+
+
+def fixed_frames() -> Iterator[Frame]:
+    """Marked cases and limits that are accepted."""
+    yield EXAMPLE
+    yield 4, [7, 0xB, 0xC]
+    yield 64, [full(64)]
+    yield 1, [1]
+    yield 2, [1, 2]
+    yield 64, [1 << 63]
+    yield 64, [1, 1 << 63]
+    yield 3, [1]
+    yield 5, [0x1F, 0x1F, 1, 3, 1]
+    yield 6, [0x3C, 2, 1] * 42 + [0x3C, 2]
+    yield 45, [full(45) & ~(1 << place) for place in range(45)]
+    yield 20, [3 << 2 * pair for pair in range(10)]
+    yield 14, [sum(1 << 2 * i + b for i, b in enumerate(taken))
+               for taken in product((0, 1), repeat=7)]
+    yield 64, [1 << place for place in range(64)]
+    yield 9, [sum(1 << i for i in taken) for taken in combinations(range(9), 4)]
+
+
+def fixed_refused() -> Iterator[bytes]:
+    """One or two faults each, placed by hand."""
+    n, sets = EXAMPLE
+    whole = table(n, sets)
+    yield from (whole[:length] for length in range(len(whole)))
+    yield from (table(wrong, sets) for wrong in (0, 65, 128, 255))
+    yield from (frame(6) + mark + bytes(1) for mark in MARKS + UNKNOWN_MARKS)
+    yield from (mark + whole[2:] for mark in MARKS + UNKNOWN_MARKS)
+    yield from (frame(6) + survivor(1) + mark + b"\1" for mark in MARKS + UNKNOWN_MARKS)
+    yield from (frame(6) + b"EN", frame(6) + b"E", frame(6) + b"X", frame(65) + b"X")
+    yield from (table(6, [mask]) for mask in (0, 0x40, 0x41, full(64)))
+    yield from (table(6, [1, 0, 0x40]), table(63, [1 << 63]), table(1, [2]))
+    yield from (whole[:-1] + bytes([count]) for count in (0, 1, 2, 4, 255))
+    yield from (whole + more for more in (b"\0", b"E", b"EN\3", whole))
+    yield whole[:-1] + b"\4\0"
+
+
+def fixed_limits() -> Iterator[bytes]:
+    """Around 128 sets and 1024 cores."""
+    many = [1] * 128
+    yield table(3, many)
+    yield table(3, many + [1])
+    yield table(3, many + [0])
+    yield table(3, [0] + many)
+    yield table(3, many[:127] + [8, 1])
+    yield frame(3) + b"".join(map(survivor, many)) + survivor(1)[:9]
+    yield frame(3) + b"".join(map(survivor, many)) + b"S"
+    yield frame(3) + b"".join(map(survivor, many)) + b"EN\0"
+    yield frame(3) + b"".join(map(survivor, many)) + b"XX"
+    yield table(1, [1] * 256)
+    pairs = [3 << 2 * pair for pair in range(11)]
+    yield from (table(22, pairs), table(22, pairs) + b"\0", table(22, pairs)[:-1] + b"\0")
+    yield table(21, pairs[:-1] + [1 << 20])
+    yield table(46, [full(46) & ~(1 << place) for place in range(46)])
+    yield table(64, [3 << 2 * pair for pair in range(32)] + [0b101010])
+
+
+def random_tables(rng: Random) -> Iterator[bytes]:
+    while True:
+        chance = rng.random()
+        if chance < 0.72:
+            yield table(*accepted_table(rng))
+        elif chance < 0.75:
+            yield table(*crowded_table(rng))
+        elif chance < 0.76:
+            yield rng.randbytes(rng.randint(0, 40))
+        else:
+            found = crowded_table(rng) if chance < 0.78 else accepted_table(rng)
+            yield damaged(rng, table_records(*found), TABLE_DAMAGE)
+
+
+def table_inputs(seed: int, count: int) -> Iterator[bytes]:
+    """So many inputs of the table program."""
+    fixed = chain((table(*found) for found in fixed_frames()), fixed_limits(),
+                  fixed_refused())
+    return islice(chain(fixed, random_tables(Random(seed))), count)
+
+
+# Run inputs
+
+MARKED_PATTERNS = [7, 5, 9, 1, 1, 1]
+
+
+def marked_crashes() -> Iterator[list[Crash]]:
+    """Cases B, D, E, F, G, and their neighbours."""
+    for sends in range(6):
+        yield [Crash(2, 1, sends)]
+    yield [Crash(1, 1, 0), Crash(2, 2, 0)]
+    yield [Crash(1, 1, 0), Crash(2, 1, 0), Crash(3, 1, 0)]
+    yield [Crash(1, 3, 5), Crash(2, 2, 4), Crash(3, 1, 1)]
+    yield []
+    yield [Crash(2, 3, 5)]
+    yield [Crash(4, 1, 0), Crash(5, 2, 0), Crash(6, 3, 0)]
+
+
+def fixed_runs() -> Iterator[bytes]:
+    """Marked cases, limits, and the largest frames."""
+    first = table(*EXAMPLE)
+    for crashes in marked_crashes():
+        yield first + run(MARKED_PATTERNS, crashes)
+    yield table(1, [1]) + run([65535], [])
+    yield table(1, [1]) + run([0], [])
+    yield table(2, [1, 2]) + run([4, 4], [Crash(1, 1, 0)])
+    yield table(64, [full(64)]) + run(list(range(64)), [])
+    yield table(64, [full(64)]) + run(list(range(64)), [Crash(1, 1, 0)])
+    singles = table(64, [1 << place for place in range(64)])
+    falling = list(range(1000, 936, -1))
+    yield singles + run(falling, [Crash(drive, 1, drive % 64) for drive in range(1, 64)])
+    yield singles + run(falling, [Crash(drive, drive, 0) for drive in range(1, 4)])
+    yield singles + run(falling, [Crash(drive, 64, 63) for drive in range(2, 65)])
+    yield table(64, [1]) + run(falling, [Crash(drive, 1, 0) for drive in range(2, 65)])
+    yield table(22, [3 << 2 * pair for pair in range(11)]) + run([1], [])
+    yield table(22, [3 << 2 * pair for pair in range(11)])
+
+
+def fixed_run_refusals() -> Iterator[bytes]:
+    """Faults placed by hand; several are two faults at once."""
+    first, good = table(*EXAMPLE), MARKED_PATTERNS
+    whole = first + run(good, [Crash(2, 1, 1), Crash(4, 2, 0)])
+    yield from (whole[:length] for length in range(len(whole)))
+    yield from (whole + more for more in (b"\0", b"PR", whole))
+    yield from (whole[:-1] + bytes([count]) for count in (0, 1, 3, 255))
+    head = b"".join(proposal(d, p) for d, p in enumerate(good, start=1))
+    for tail in (crash(0, 1, 0), crash(7, 1, 0), crash(7, 0, 9), crash(1, 0, 0),
+                 crash(1, 4, 0), crash(1, 4, 9), crash(1, 3, 6), crash(4, 1, 1),
+                 crash(4, 1, 0) + crash(4, 1, 0), crash(4, 1, 0) + crash(3, 9, 9),
+                 crash(255, 255, 255), proposal(7, 1), proposal(1, 1), b"PR", b"SV",
+                 b"C", b"E", b"EN", b"EN\1", b"EN\0\0", b"KN", b"XX", b"FR"):
+        yield first + head + tail + b"EN\1"
+        yield first + head + tail
+    for short in (head[:-5], head[:20], b""):
+        yield from (first + short + tail for tail in
+                    (b"EN\0", crash(1, 1, 0), proposal(6, 1), proposal(0, 1), b"P", b"EN"))
+    touched = first + head + crash(1, 1, 0) + crash(2, 1, 0) + crash(3, 1, 0)
+    yield from (touched + tail for tail in (b"EN\3", b"EN\2", b"EN\3\0", b"EN", crash(4, 1, 0)))
+    yield first + proposal(2, 1) + head
+    yield first + head[:5] + head
+    yield first[:-1] + b"\4" + head + b"EN\0"
+    yield first + first
+    yield table(64, [full(64)]) + head + b"EN\0"
+    for wrong in (table(0, [1]), table(65, [1]), table(6, [0]), table(6, [0x40]),
+                  table(6, [1] * 129), frame(6), frame(6)[:2], b"PR"):
+        yield wrong + head + b"EN\0"
+
+
+def random_run_records(rng: Random) -> tuple[Records, Records]:
+    """A table's records and a run file's, accepted."""
+    n, sets, proposals, crashes, _ = accepted_run(rng)
+    return table_records(n, sets), run_records(proposals, crashes)
+
+
+def random_runs(rng: Random) -> Iterator[bytes]:
+    while True:
+        chance = rng.random()
+        head, tail = random_run_records(rng)
+        if chance < 0.74:
+            yield b"".join(head + tail)
+        elif chance < 0.80:
+            n, sets, proposals, _, core = accepted_run(rng)
+            stops = touch_every_set(rng, n, sets, core)
+            records = run_records(proposals, stops)
+            yield table(n, sets) + (b"".join(records) if rng.random() < 0.7
+                                    else damaged(rng, records, RUN_DAMAGE))
+        elif chance < 0.84:
+            n, sets, proposals, crashes, core = accepted_run(rng)
+            yield table(n, sets) + run(proposals, spoil_crash(rng, n, core, crashes))
+        elif chance < 0.94:
+            yield b"".join(head) + damaged(rng, tail, RUN_DAMAGE)
+        elif chance < 0.97:
+            yield damaged(rng, head, TABLE_DAMAGE) + b"".join(tail)
+        elif chance < 0.98:
+            yield table(*crowded_table(rng)) + damaged(rng, tail, RUN_DAMAGE)
+        else:
+            yield damaged(rng, head + tail, TABLE_DAMAGE + RUN_DAMAGE)
+
+
+def run_inputs(seed: int, count: int) -> Iterator[bytes]:
+    """So many inputs of the run program."""
+    fixed = chain(fixed_runs(), fixed_run_refusals())
+    return islice(chain(fixed, random_runs(Random(seed))), count)

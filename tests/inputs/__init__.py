@@ -1,0 +1,1 @@
+"""Parts of the generator of inputs for the two programs."""

@@ -1,0 +1,161 @@
+"""Faults put into good files: in their bytes, records and fields."""
+
+from random import Random
+from typing import Callable
+
+from .frames import full
+from .records import (MARKS, UNKNOWN_MARKS, Records, crash, end, frame, proposal,
+                      survivor)
+
+
+def set_byte(rng: Random, data: bytes) -> bytes:
+    if not data:
+        return data
+    place = rng.randrange(len(data))
+    value = rng.choice((0, 1, 255, data[place] ^ 1 << rng.randrange(8), rng.randrange(256)))
+    return data[:place] + bytes([value]) + data[place + 1:]
+
+
+def cut(rng: Random, data: bytes) -> bytes:
+    return data[:rng.randint(0, max(0, len(data) - 1))]
+
+
+def add_behind(rng: Random, data: bytes) -> bytes:
+    more = (b"\0", b"E", b"EN\0", b"SV", rng.randbytes(rng.randint(1, 12)), data)
+    return data + rng.choice(more)
+
+
+def drop_byte(rng: Random, data: bytes) -> bytes:
+    place = rng.randrange(max(1, len(data)))
+    return data[:place] + data[place + 1:]
+
+
+def insert_byte(rng: Random, data: bytes) -> bytes:
+    place = rng.randint(0, len(data))
+    return data[:place] + rng.randbytes(1) + data[place:]
+
+
+BYTE_DAMAGE = (set_byte, set_byte, cut, cut, add_behind, drop_byte, insert_byte)
+
+
+def change_mark(rng: Random, records: Records) -> Records:
+    place = rng.randrange(len(records))
+    mark = rng.choice(MARKS + UNKNOWN_MARKS)
+    return records[:place] + [mark + records[place][2:]] + records[place + 1:]
+
+
+def move_record(rng: Random, records: Records) -> Records:
+    records = list(records)
+    taken = records.pop(rng.randrange(len(records)))
+    records.insert(rng.randint(0, len(records)), taken)
+    return records
+
+
+def drop_record(rng: Random, records: Records) -> Records:
+    place = rng.randrange(len(records))
+    return records[:place] + records[place + 1:]
+
+
+def repeat_record(rng: Random, records: Records) -> Records:
+    place = rng.randrange(len(records))
+    return records[:place + 1] + records[place:]
+
+
+def insert_record(rng: Random, records: Records) -> Records:
+    foreign = rng.choice((frame(3), survivor(1), proposal(1, 7), crash(1, 1, 0), end(0),
+                          end(1), b"KN\1\1" + bytes(10), b"DC\1\1\0\0", b"XX"))
+    place = rng.randint(0, len(records))
+    return records[:place] + [foreign] + records[place:]
+
+
+def change_count(rng: Random, records: Records) -> Records:
+    count = records[-1][-1] if records[-1] else 0
+    return records[:-1] + [end(rng.choice((count + 1, count - 1, 0, 255, 128, 129)))]
+
+
+RECORD_DAMAGE = (change_mark, move_record, drop_record, repeat_record, insert_record,
+                 change_count)
+
+
+def replace_at(records: Records, kind: bytes, rng: Random,
+               make: Callable[[bytes], bytes]) -> Records:
+    """One record of the kind replaced by what `make` gives for it."""
+    found = [place for place, record in enumerate(records) if record[:2] == kind]
+    if not found:
+        return records
+    place = rng.choice(found)
+    return records[:place] + [make(records[place])] + records[place + 1:]
+
+
+def bad_frame(rng: Random, records: Records) -> Records:
+    return replace_at(records, b"FR", rng, lambda _: frame(rng.choice((0, 65, 66, 128, 255))))
+
+
+def bad_mask(rng: Random, records: Records) -> Records:
+    n = records[0][2] if len(records[0]) == 3 else 1
+    above = 1 << min(n, 63)
+    masks = (0, above, above | 1, full(64), 1 << 63)
+    return replace_at(records, b"SV", rng, lambda _: survivor(rng.choice(masks)))
+
+
+def too_many_sets(rng: Random, records: Records) -> Records:
+    """Repeats of the sets beyond 128, at times with a bad mask or a cut."""
+    sets = [record for record in records if record[:2] == b"SV"]
+    if not sets:
+        return records
+    total = rng.choice((128, 129, 129, 130, 255, 256, 257))
+    longer = (sets * (total // len(sets) + 1))[:total]
+    if rng.random() < 0.3:
+        longer[rng.choice((0, 127, total - 1))] = survivor(0)
+    if rng.random() < 0.2:
+        return records[:1] + longer[:-1] + [longer[-1][:rng.randint(1, 9)]]
+    return records[:1] + longer + [end(total)]
+
+
+TABLE_DAMAGE = RECORD_DAMAGE + (bad_frame, bad_mask, bad_mask, too_many_sets, too_many_sets)
+
+
+def damaged(rng: Random, records: Records, kinds: tuple) -> bytes:
+    """One or two faults."""
+    for _ in range(rng.choice((0, 1, 1, 1, 2))):
+        if records:
+            records = rng.choice(kinds)(rng, records)
+    data = b"".join(records)
+    for _ in range(rng.choice((0, 0, 1, 2))):
+        data = rng.choice(BYTE_DAMAGE)(rng, data)
+    return data
+
+
+# Run files
+
+def wrong_proposal(rng: Random, records: Records) -> Records:
+    return replace_at(records, b"PR", rng, lambda record:
+                      b"PR" + bytes([rng.choice((0, 1, 64, 65, 255, record[2] ^ 1))]) + record[3:])
+
+
+def wrong_crash(rng: Random, records: Records) -> Records:
+    """Another value in a field of a CR."""
+    def change(record: bytes) -> bytes:
+        place = rng.choice((2, 3, 4))
+        values = (0, 1, record[place] + 1, record[place] - 1, 64, 65, 255, rng.randrange(256))
+        return record[:place] + bytes([rng.choice(values) % 256]) + record[place + 1:]
+    return replace_at(records, b"CR", rng, change)
+
+
+def more_crashes(rng: Random, records: Records) -> Records:
+    """A CR in front of EN, of any drive and with any fields."""
+    new = crash(rng.randint(0, 66), rng.randint(0, 6), rng.choice((0, 0, 1, 3, 64)))
+    return records[:-1] + [new, end(records[-1][-1] + 1)]
+
+
+def proposal_behind(rng: Random, records: Records) -> Records:
+    """A PR after drive n's, whole or cut."""
+    last = max((place for place, r in enumerate(records) if r[:2] == b"PR"), default=-1)
+    extra = proposal(rng.choice((1, last + 2)) % 256, 5)
+    if rng.random() < 0.3:
+        return records[:last + 1] + [extra[:rng.randint(1, 4)]]
+    return records[:last + 1] + [extra] + records[last + 1:]
+
+
+RUN_DAMAGE = RECORD_DAMAGE + (wrong_proposal, wrong_crash, wrong_crash, more_crashes,
+                              more_crashes, proposal_behind)

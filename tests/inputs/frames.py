@@ -1,0 +1,196 @@
+"""Families of tables: random, thresholds, clusters, products, chains.
+
+All but `crowded_table` stay within the limits, with few exceptions.
+"""
+
+from itertools import combinations, product
+from math import comb, prod
+from random import Random
+
+MAX_DRIVES = 64
+MAX_SETS = 128
+MAX_CORES = 1024
+
+Frame = tuple[int, list[int]]
+
+
+def group(rng: Random, n: int, size: int) -> int:
+    """A group of so many drives of a frame."""
+    return sum(1 << place for place in rng.sample(range(n), size))
+
+
+def full(n: int) -> int:
+    return (1 << n) - 1
+
+
+def small(rng: Random) -> Frame:
+    n = rng.randint(1, 7)
+    return n, [rng.randint(1, full(n)) for _ in range(rng.randint(1, 9))]
+
+
+def medium(rng: Random) -> Frame:
+    n = rng.randint(6, 12)
+    size = rng.randint(1, n)
+    return n, [group(rng, n, rng.randint(1, size)) for _ in range(rng.randint(1, 20))]
+
+
+def few_large(rng: Random) -> Frame:
+    """Few sets of any size, so that the number of cores stays low."""
+    n = rng.randint(8, MAX_DRIVES)
+    sets, ways = [], 1
+    while len(sets) < 6:
+        size = rng.randint(1, min(n, 24))
+        if ways * size > MAX_CORES:
+            break
+        ways *= size
+        sets.append(group(rng, n, size))
+    return n, sets
+
+
+def threshold(rng: Random) -> Frame:
+    """All groups of n - t drives."""
+    fitting = [(n, t) for n in range(1, MAX_DRIVES + 1) for t in range(n)
+               if comb(n, t) <= MAX_SETS and comb(n, t + 1) <= MAX_CORES]
+    n, t = rng.choice(fitting)
+    return n, [full(n) & ~sum(1 << i for i in out) for out in combinations(range(n), t)]
+
+
+def without_few(rng: Random) -> Frame:
+    """The frame without a few drives, in many ways."""
+    n = rng.randint(4, 18)
+    most = rng.randint(1, min(3, n - 1))
+    return n, [full(n) & ~group(rng, n, rng.randint(1, most))
+               for _ in range(rng.randint(1, 40))]
+
+
+def cluster_masks(rng: Random, most: int) -> list[int]:
+    """Disjoint clusters of which one drive each can be taken in at most
+    `most` ways."""
+    clusters: list[int] = []
+    place, ways = 0, 1
+    for _ in range(rng.randint(1, 16)):
+        size = rng.randint(1, 5)
+        if place + size > MAX_DRIVES or ways * size > most:
+            break
+        clusters.append(full(size) << place)
+        place, ways = place + size, ways * size
+    return clusters
+
+
+def places(mask: int) -> list[int]:
+    return [place for place in range(MAX_DRIVES) if mask >> place & 1]
+
+
+def span(sets: list[int]) -> int:
+    return max(mask.bit_length() for mask in sets)
+
+
+def clusters(rng: Random) -> Frame:
+    """One survivor set for each cluster."""
+    sets = cluster_masks(rng, MAX_CORES)
+    return span(sets), sets
+
+
+def cluster_choices(rng: Random) -> Frame:
+    """One drive of each cluster, in every way: the cores are the clusters."""
+    sets = [sum(1 << place for place in taken)
+            for taken in product(*map(places, cluster_masks(rng, MAX_SETS)))]
+    return span(sets), sets
+
+
+def overlapping_choices(rng: Random) -> Frame:
+    """One drive of each of some overlapping groups, in every way."""
+    n = rng.randint(3, MAX_DRIVES)
+    groups: list[list[int]] = []
+    for _ in range(rng.randint(1, 7)):
+        new = places(group(rng, n, rng.randint(1, min(n, 5))))
+        if prod(map(len, groups)) * len(new) <= MAX_SETS:
+            groups.append(new)
+    sets = {sum(1 << place for place in set(taken)) for taken in product(*groups)}
+    return n, sorted(sets)
+
+
+def joined_clusters(rng: Random) -> Frame:
+    """Each of some masters with each cluster."""
+    masters = rng.randint(1, 3)
+    parts = [part << masters for part in cluster_masks(rng, 200)]
+    return span(parts), [1 << master | part for master in range(masters) for part in parts]
+
+
+def chain_of_pairs(rng: Random) -> Frame:
+    """Neighbours on a line or a ring."""
+    n = rng.randint(2, 20)
+    sets = [3 << place for place in range(n - 1)]
+    return n, sets + ([1 | 1 << n - 1] if rng.random() < 0.5 else [])
+
+
+def nested_chain(rng: Random) -> Frame:
+    """Each set holds the one before."""
+    n = rng.randint(1, MAX_DRIVES)
+    return n, [full(place + 1) for place in range(n)]
+
+
+def single_drives(rng: Random) -> Frame:
+    """Sets of one drive: the core holds them all."""
+    n = rng.randint(1, MAX_DRIVES)
+    return n, [1 << place for place in range(rng.randint(1, n))]
+
+
+def separate_products(rng: Random) -> Frame:
+    """Pairs across the two sides of each of some separate groups."""
+    sets, place = [], 0
+    for _ in range(rng.randint(1, 6)):
+        left, right = rng.randint(1, 3), rng.randint(1, 3)
+        sets += [1 << place + a | 1 << place + left + b
+                 for a in range(left) for b in range(right)]
+        place += left + right
+    return place, sets
+
+
+FAMILIES = (small, small, medium, few_large, threshold, without_few, clusters,
+            cluster_choices, overlapping_choices, joined_clusters, chain_of_pairs,
+            nested_chain, single_drives, separate_products)
+
+
+def scatter(rng: Random, found: Frame) -> Frame:
+    """Drives renamed, in a frame that may have drives in no set."""
+    n, sets = found
+    wider = rng.randint(n, MAX_DRIVES) if rng.random() < 0.3 else n
+    names = rng.sample(range(wider), n)
+    return wider, [sum(1 << names[place] for place in places(mask)) for mask in sets]
+
+
+def pad(rng: Random, found: Frame) -> Frame:
+    """Repeats and supersets added."""
+    n, sets = found
+    most = rng.choice((len(sets) + 3, MAX_SETS))
+    extra = [rng.choice(sets) | (rng.randint(0, full(n)) if rng.random() < 0.7 else 0)
+             for _ in range(rng.randint(1, max(1, most - len(sets))))]
+    return n, (sets + extra)[:max(len(sets), MAX_SETS)]
+
+
+def accepted_table(rng: Random) -> Frame:
+    """A table that, with few exceptions, meets no refusal."""
+    found = rng.choice(FAMILIES)(rng)
+    if rng.random() < 0.6:
+        found = scatter(rng, found)
+    if rng.random() < 0.4:
+        found = pad(rng, found)
+    n, sets = found
+    if rng.random() < 0.7:
+        rng.shuffle(sets)
+    return n, sets
+
+
+def crowded_table(rng: Random) -> Frame:
+    """A table that meets 13."""
+    pairs = rng.randint(11, 32)
+    sets = [3 << 2 * pair for pair in range(pairs)]
+    found = rng.choice((
+        (2 * pairs, sets),
+        (2 * pairs, sets + [0b101010]),
+        (46, [full(46) & ~(1 << place) for place in range(46)]),
+        (30, [3 << place for place in range(29)]),
+        (24, [group(rng, 24, 8) for _ in range(60)]),
+    ))
+    return scatter(rng, found)

@@ -1,0 +1,109 @@
+"""Document 01's definitions written out over all subsets and all lists.
+
+Slow and short: each is the sentence itself, so that the reference's searches
+and calls can be checked against it for small frames.
+"""
+
+from itertools import combinations_with_replacement, product
+from typing import Optional
+
+
+def meets(group: int, sets: list[int]) -> bool:
+    return all(group & mask for mask in sets)
+
+
+def smallest_meeting(n: int, sets: list[int]) -> list[int]:
+    """The groups that meet every set and of which no smaller part does."""
+    meeting = [group for group in range(1 << n) if meets(group, sets)]
+    return [group for group in meeting
+            if not any(part != group and part & group == part for part in meeting)]
+
+
+def set_by_set(sets: list[int], most: int) -> Optional[list[int]]:
+    """The same by Berge's method: the smallest groups for the sets so far,
+    one set more at a time. None where a list grows beyond `most`."""
+    groups = [0]
+    for mask in sets:
+        meeting = [group for group in groups if group & mask]
+        longer = {group | 1 << place for group in groups if not group & mask
+                  for place in range(mask.bit_length()) if mask >> place & 1}
+        groups = meeting + [new for new in longer
+                            if not any(old & ~new == 0 for old in meeting)]
+        if len(groups) > most:
+            return None
+    return groups
+
+
+def normal(sets: list[int]) -> list[int]:
+    """Without repeats and without each set that holds another, by mask."""
+    return sorted({mask for mask in sets
+                   if not any(other != mask and other & mask == other for other in sets)})
+
+
+def cores(n: int, sets: list[int]) -> list[int]:
+    """By size, then by mask."""
+    return sorted(smallest_meeting(n, sets), key=lambda core: (bin(core).count("1"), core))
+
+
+def first_sharing_none(sets: list[int], k: int) -> Optional[tuple[int, ...]]:
+    """The first k positions, from 1 and not falling, whose sets share no
+    drive."""
+    for positions in combinations_with_replacement(range(1, len(sets) + 1), k):
+        shared = -1
+        for position in positions:
+            shared &= sets[position - 1]
+        if shared == 0:
+            return positions
+    return None
+
+
+def every_split_has_a_core(n: int, k: int, all_cores: list[int]) -> bool:
+    """Whether every split of the frame into k blocks has one with a core."""
+    for owners in product(range(k), repeat=n):
+        blocks = [sum(1 << i for i in range(n) if owners[i] == b) for b in range(k)]
+        if not any(core & ~block == 0 for core in all_cores for block in blocks):
+            return False
+    return True
+
+
+def send_list(n: int, core: set[int], sender: int) -> list[int]:
+    return (sorted(core - {sender}) +
+            [drive for drive in range(1, n + 1) if drive not in core])
+
+
+def outcome(n: int, core: set[int], proposals: list[int],
+            stops: dict[int, tuple[int, int]]) -> dict[int, tuple[int, int]]:
+    """Number and round of each drive that decides before it is gone, from
+    the rules of the exchange with sets and dictionaries and no messages."""
+    known = {d: {d: proposals[d - 1]} if d in core else {} for d in range(1, n + 1)}
+    before = {d: core for d in range(1, n + 1)}
+    decided: dict[int, tuple[int, int]] = {}
+    halted: set[int] = set()
+    for round_number in range(1, len(core) + 1):
+        up = {d for d in known if stops.get(d, (99, 0))[0] >= round_number} - halted
+        closing = {d for d in up if stops.get(d, (99, 0))[0] > round_number}
+        old_known = {d: dict(known[d]) for d in known}
+        old_decided = dict(decided)
+        heard = {d: {d} & core for d in closing}
+        told: dict[int, dict[int, int]] = {d: {} for d in closing}
+        for sender in up & core:
+            receivers = send_list(n, core, sender)
+            if sender not in closing:
+                receivers = receivers[:stops[sender][1]]
+            for receiver in closing.intersection(receivers):
+                heard[receiver].add(sender)
+                if sender in old_decided:
+                    told[receiver][sender] = old_decided[sender][0]
+                else:
+                    known[receiver].update(old_known[sender])
+        for d in closing:
+            if d in old_decided:
+                halted.add(d)
+            elif told[d]:
+                decided[d] = (told[d][min(told[d])], round_number)
+            elif heard[d] and heard[d] == before[d]:
+                decided[d] = (min(known[d].values()), round_number)
+            if d in decided and d not in core:
+                halted.add(d)
+            before[d] = heard[d]
+    return decided

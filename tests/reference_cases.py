@@ -1,0 +1,44 @@
+#!/usr/bin/env python3
+"""Checks of the reference: document 01's marked cases through the two
+scripts, the order of refusals, and everything else against the plain
+definitions on small frames.
+
+Prints the number of cases and of failures; exit status 1 if any failed.
+"""
+
+import sys
+from pathlib import Path
+
+ROOT = Path(__file__).resolve().parent.parent
+sys.path[:0] = [str(ROOT / "reference"), str(ROOT / "tests")]
+
+from cases import (calls, definitions, drives, exchanges, files, generated,  # noqa: E402
+                   marked)
+
+GROUPS = (
+    marked.marked_cases,
+    files.table_refusals, files.rest_cases, files.run_refusals,
+    calls.call_refusals, calls.simulate_refusals, calls.back_refusals, calls.writer_cases,
+    definitions.table_definitions, definitions.verdict_definitions, definitions.wide_tables,
+    definitions.large_tables,
+    drives.opening_cases, drives.state_refusals, drives.send_cases, drives.message_refusals,
+    drives.message_cases, drives.close_cases,
+    exchanges.exchange_definitions,
+    generated.generator_cases,
+)
+
+
+def main() -> int:
+    count = failed = 0
+    for cases in GROUPS:
+        for name, found, expected in cases():
+            count += 1
+            if found != expected:
+                failed += 1
+                print(f"{cases.__name__}: {name}: found {found!r}, expected {expected!r}")
+    print(f"{count} cases, {failed} failed")
+    return 1 if failed else 0
+
+
+if __name__ == "__main__":
+    sys.exit(main())
