@@ -1,3 +1,4 @@
+-- A field of a part of the bytes: past the end, up to the end, or within.
 use Rattle.records.proofs.Parts.{field-past, field-to-end, field-within}
 use mathlib.Core.Path.{_∙_}
 use borrow.Author.Needs.{needs}

@@ -1,3 +1,4 @@
+-- Whether a kind is the end record's: one arm for each kind.
 use mathlib.Core.Path.{sym, ap}
 use lib.Dec.{eqb}
 use Rattle.records.specs.declared.Kind.{Kind}
