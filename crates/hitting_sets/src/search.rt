@@ -53,9 +53,9 @@ fn in_all_private(sets: &[u64], m: u64) -> ByDrive
     while 0 < i {
         i -= 1;
         let s = sets[i];
-        let shared = s & m;
-        if drive_sets::size(shared) == 1 {
-            let k = place(drive_sets::lowest(shared));
+        let met = s & m;
+        if drive_sets::size(met) == 1 {
+            let k = place(drive_sets::lowest(met));
             of[k] = s & of[k];
         }
     }
