@@ -1,3 +1,5 @@
 -- What the functions' proofs share.
 pub mod Puts
-pub mod Programs
+pub mod Lengths
+pub mod Prints
+pub mod ProgramTexts

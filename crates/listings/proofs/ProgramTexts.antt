@@ -2,7 +2,13 @@
 use mathlib.Core.Bool.{Bool, true, false, not}
 use mathlib.Core.Path.{_≡_, refl, sym, ap, _∙_, subst}
 use mathlib.Core.List.{List, [], _∷_}
-use Prim.Native.Nat.{ℕ}
+use Prim.Native.Nat.{ℕ, _-_, _≤_, min}
+use native.Mathlib.Omega.{arith}
+use lib.Dec.{leb}
+use lib.ListN.{length, take, drop, length-take}
+use lib.Seq.{take-all}
+use borrow.Author.Tests.{leb-true, leb-false}
+use Rattle.drive_sets.specs.Bools.{by-test}
 use Rattle.drive_sets.specs.Refusals.{Outcome, refused, result, refuseIf, andThen, number}
 use Rattle.drive_sets.specs.Refusals.Laws.{first-result, passed, same-result}
 use Rattle.drive_sets.specs.declared.Refusal.{Refusal}
@@ -11,7 +17,12 @@ use Rattle.listings.specs.Text.{inBase, decimal}
 use Rattle.drive_sets.specs.declared.Refusal.the-variants.{TrailingBytes}
 use Rattle.tables.specs.Tables.{isEmpty, cores, uncrowded}
 use Rattle.tables.specs.Files.{ReadTable, readListed, accepted, readWhole}
-use Rattle.tables.specs.Complete.{Complete, ReadComplete, withCores, completeSets, acceptedWith, readWholeComplete}
+use Rattle.tables.specs.Complete.{Complete, ReadComplete, withCores, completeSets, completeOutcome, acceptedWith, readWholeComplete, fileOutcome}
+use Rattle.tables.specs.Reading.{setsOf, outcomeOf}
+use Rattle.tables.specs.declared.completing.CoreTable.{CoreTable}
+use Rattle.tables.specs.declared.files.TableFile.{TableFile}
+use Rattle.tables.specs.declared.reading.Answer.{Answer}
+use Rattle.tables.specs.declared.reading.Answer.the-variants as answers
 use Rattle.listings.specs.TableListing.{fields, line, refusalLine, listing, listingOf, tableProgram}
 
 -- what was read, without the cores
@@ -68,3 +79,54 @@ program-cores s t e =
     let whole = first-result (uncrowded (u .sets)) (λ table. result (withCores (u .n) table)) (made .1) in
     let same : record { table = withCores (u .n) (whole .0); rest = u .rest } ≡ t = ap (λ (c : Complete). record { table = c; rest = u .rest }) (same-result (whole .2)) ∙ same-result (made .2) in
     subst (λ (x : ReadComplete). x .table .cores ≡ cores (x .table .sets)) same refl
+
+-- ---- the answer of the reader
+
+-- the first k of a list that is as long as there is room
+taken-most : (l : List ℕ) (k most j : ℕ) → length l ≡ most → j ≡ min k most → take (j - 0) l ≡ take k l
+taken-most l k most j e f =
+    by-test (leb k most)
+    (λ h. let few = leb-true k most h in let same : j - 0 ≡ k = omega arith in ap (λ (i : ℕ). take i l) same)
+    (λ h. let many = leb-false k most h in
+    let same : j - 0 ≡ most = omega arith in
+    ap (λ (i : ℕ). take i l) same ∙ (take-all most l (omega arith) ∙ sym (take-all k l (omega arith))))
+
+-- the parts of the arrays that hold the sets and the cores
+pub record Parted (t : CoreTable) (count found : ℕ) : Type 0 where
+  pub sets : take (count - 0) (t .table .sets) ≡ setsOf (t .table)
+  pub few : length (take (count - 0) (t .table .sets)) ≤ 128
+  pub groups : take (found - 0) (t .cores) ≡ cores (take (count - 0) (t .table .sets))
+
+pub parts-of : (t : CoreTable) (count found : ℕ) → length (t .table .sets) ≡ 128 → length (t .cores) ≡ 1024 → count ≡ min (t .table .count) 128
+    → found ≡ min (t .found) 1024 → take (t .found) (t .cores) ≡ cores (setsOf (t .table)) → Parted t count found
+unfolding setsOf
+parts-of t count found long wide e f is = record {
+  sets = sets;
+  few = omega (arith, length-take (count - 0) (t .table .sets));
+  groups = taken-most (t .cores) (t .found) 1024 found wide f ∙ (is ∙ sym (ap cores sets));
+}
+  where
+    sets : take (count - 0) (t .table .sets) ≡ take (t .table .count) (t .table .sets)
+    sets = taken-most (t .table .sets) (t .table .count) 128 count long e
+
+module _ (file : TableFile) (s : List ℕ) (e : fileOutcome file s ≡ readWholeComplete s) where
+  abbrev table : Complete
+  table = record { n = file .complete .table .n; sets = setsOf (file .complete .table); cores = take (file .complete .found) (file .complete .cores) }
+
+  abbrev read : Answer → Outcome ReadComplete
+  read answer = andThen (outcomeOf answer table) (λ t. result (record { table = t; rest = drop (file .used) s }))
+
+  pub file-refused : (q : Refusal) → file .complete .answer ≡ answers.Refused q → tableProgram s ≡ refusalLine (number q)
+  unfolding fileOutcome completeOutcome
+  file-refused q f = program-refused s q (sym e ∙ ap read f)
+
+  module _ (f : file .complete .answer ≡ answers.Accepted) where
+    whole : readWholeComplete s ≡ result (record { table = table; rest = drop (file .used) s })
+    unfolding fileOutcome completeOutcome
+    whole = sym e ∙ ap read f
+
+    pub file-listing : tableProgram s ≡ listing (file .complete .table .n) (setsOf (file .complete .table))
+    file-listing = program-accepted s _ whole
+
+    pub file-cores : take (file .complete .found) (file .complete .cores) ≡ cores (setsOf (file .complete .table))
+    file-cores = program-cores s _ whole

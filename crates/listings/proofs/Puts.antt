@@ -2,15 +2,14 @@
 use mathlib.Core.Bool.{true, false}
 use mathlib.Core.Path.{_≡_, refl, sym, ap, _∙_, subst}
 use mathlib.Core.List.{List, [], _∷_, _++_, append-nil, append-assoc}
-use Prim.Native.Nat.{ℕ, zero, suc, _+_, _*_, _-_, _/_, _%_, _≤_, _<_}
+use Prim.Native.Nat.{ℕ, zero, suc, _+_, _-_, _/_, _%_, _≤_, _<_}
 use native.Mathlib.Nat.{mod-lt}
 use native.Mathlib.Omega.{arith}
 use native.Mathlib.Numerals.{add-one}
-use lib.Dec.{ltb}
-use lib.ListN.{length, getD, take, length-append}
+use lib.ListN.{length, getD, take}
 use lib.Seq.{take-suc, take-all}
 use borrow.Author.Tests.{lt-ltb, le-ltb, le-leb}
-use Rattle.drive_sets.specs.Bools.{by-test, cond-true, cond-false, and-intro}
+use Rattle.drive_sets.specs.Bools.{cond-true, cond-false, and-intro}
 use Rattle.drive_sets.specs.Filled.{Filled}
 use Rattle.drive_sets.specs.Filled.Laws.{filled-none, filled-then, filled-le, filled-same}
 use Rattle.records.specs.Marks.{ascii}
@@ -191,37 +190,3 @@ verdict-no-cut v k e =
     let same : k ≡ k - 0 = omega arith in
     subst (λ (j : ℕ). verdictLine k (verdictOf v k) ≡ (verdictHead k ++ placesPart (take j (v .positions))) ++ blocksPart (take j (v .blocks))) same
     (verdict-no v k e)
-
--- ---- how long a text can be
-
--- at most so many digits
-pub base-length : (base most x : ℕ) → length (inBase base most x) ≤ most
-unfolding inBase
-base-length base zero x = omega arith
-base-length base (suc most) x =
-    let last = digit (x % base) ∷ [] in
-    let front = inBase base most (x / base) in
-    let short : length last ≤ suc most = omega arith in
-    let long : length (front ++ last) ≤ suc most = omega (arith, length-append front last, base-length base most (x / base)) in
-    by-test (ltb x base) (λ e. subst (λ (l : List ℕ). length l ≤ suc most) (sym (cond-true _ _ e)) short)
-    (λ e. subst (λ (l : List ℕ). length l ≤ suc most) (sym (cond-false _ _ e)) long)
-
--- a line of one number
-pub line-length : (word : List ℕ) (base most x : ℕ) → length (line word (fields (inBase base most) (x ∷ []))) ≤ length word + (most + 2)
-line-length word base most x =
-    let number = inBase base most x in
-    subst (λ (l : List ℕ). length l ≤ length word + (most + 2)) (sym (line-is word (inBase base most) x))
-    (omega (arith, length-append (word ++ (32 ∷ number)) (10 ∷ []), length-append word (32 ∷ number), base-length base most x))
-
--- lines of masks, each of a word of at most four letters
-pub lines-length : (word l : List ℕ) → length word ≤ 4 → length (lines word (inBase 16 16) l) ≤ 22 * length l
-unfolding lines
-lines-length word [] h = omega arith
-lines-length word (x ∷ l) h =
-    omega (
-      arith,
-      h,
-      length-append (line word (fields (inBase 16 16) (x ∷ []))) (lines word (inBase 16 16) l),
-      line-length word 16 16 x,
-      lines-length word l h,
-    )

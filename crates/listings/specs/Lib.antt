@@ -2,4 +2,5 @@
 pub mod Text
 pub mod TableListing
 pub mod Parts
+pub mod Printing
 pub mod MarkedCases

@@ -1,4 +1,5 @@
 // The text that the programs print, written into a lent buffer.
 mod lines;
+pub mod programs;
 mod table_text;
 mod text;

@@ -1,7 +1,7 @@
 -- One line, with the refusal's number.
 use Rattle.records.specs.Marks.{ascii}
 use Rattle.drive_sets.specs.Filled.Laws.{filled-same}
-use Rattle.listings.proofs.Programs.{refused-line}
+use Rattle.listings.proofs.ProgramTexts.{refused-line}
 use borrow.Author.Needs.{needs}
 use Rattle.listings.proofs.table_text.put_refused.Statement.{statement}
 use Rattle.listings.proofs.table_text.put_refused.Tie as tie
