@@ -4,3 +4,4 @@ pub mod Loops
 pub mod Splitting
 pub mod Narrowing
 pub mod Answers
+pub mod Judgements

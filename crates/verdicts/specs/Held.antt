@@ -6,7 +6,10 @@ use mathlib.Core.Option.{Option, some, none}
 use Prim.Native.Nat.{ℕ, suc}
 use lib.Dec.{leb, ltb}
 use lib.ListN.{length, take}
+use Rattle.drive_sets.specs.Refusals.{Outcome}
+use Rattle.tables.specs.Reading.{outcomeOf}
 use Rattle.verdicts.specs.declared.Found.{Found}
+use Rattle.verdicts.specs.declared.calls.Judgement.{Judgement}
 use Rattle.verdicts.specs.declared.Verdict.{Verdict as Answer}
 use Rattle.verdicts.specs.Verdicts.{Verdict, yes, no, verdictOn}
 
@@ -43,3 +46,7 @@ fits k sets = leb 2 k && (leb k 4 && leb sets 128)
 -- The verdict on a normal table, within these bounds; yes outside them, where the call refuses with 12 or 5.
 unfoldable pub verdictWithin : ℕ → ℕ → List ℕ → Verdict
 verdictWithin k n table = cond (fits k (length table)) (verdictOn k n table) yes
+
+-- what the answer of the call on k says
+unfoldable pub judgementOf : Judgement → ℕ → Outcome Verdict
+judgementOf j k = outcomeOf (j .answer) (verdictOf (j .verdict) k)

@@ -11,6 +11,8 @@ ghost use Rattle.verdicts.specs.Meaning.{inEvery};
 ghost use Rattle.verdicts.specs.Held.{verdictOf, answerOf, withBlocks, foundIn, foundAt, fits, verdictWithin};
 use tables::reading::MAX_SETS;
 
+pub mod calls;
+
 // k, the number of blocks.
 pub const MIN_BLOCKS: u8 = 2;
 
@@ -146,7 +148,7 @@ fn fits(k: u8, sets: usize) -> bool
 }
 
 // The verdict on a normal table. A drive that every set has is in any k of them, so there is nothing to search for.
-// The call that is given n and sets, with its refusals 12, 3, 2, 5, 4 and 13, is to stand on this one.
+// The call given n and sets, with its refusals, is `calls::judge`.
 pub fn verdict_on(k: u8, n: u8, table: &[u64]) -> Verdict
     ensures says { λ r. ⌜ verdictOf r k ≡ verdictWithin k n (now (table .entry)) ⌝ }
     ensures whole { λ r. ⌜ r ≡ answerOf (verdictWithin k n (now (table .entry))) ⌝ }

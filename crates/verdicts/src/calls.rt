@@ -1,0 +1,75 @@
+// The verdict call given n and sets: 12, then the table's refusals.
+ghost use mathlib.Core.Path.{_≡_};
+ghost use mathlib.Core.Bool.{_&&_};
+ghost use Prim.Native.Nat.{ℕ, _≤_};
+ghost use lib.Dec.{leb};
+ghost use lib.ListN.{length};
+ghost use Rattle.drive_sets.specs.Refusals.{refused, result};
+ghost use Rattle.verdicts.specs.Verdicts.{verdictOn, verdict};
+ghost use Rattle.verdicts.specs.Held.{judgementOf};
+use crate::MAX_BLOCKS;
+use crate::MIN_BLOCKS;
+use crate::Verdict;
+use drive_sets::Refusal;
+use tables::reading::Answer;
+use tables::reading::MAX_SETS;
+
+// A verdict where the call is accepted.
+pub struct Judgement {
+    pub answer: Answer,
+    pub verdict: Verdict,
+}
+
+// k, the number of blocks, is 2 to 4.
+fn is_block_count(k: u8) -> bool
+    ensures { λ r. ⌜ r ≡ (leb 2 k && leb k 4) ⌝ }
+{
+    MIN_BLOCKS <= k && k <= MAX_BLOCKS
+}
+
+fn refused(r: Refusal) -> Judgement
+    ensures { λ j. ⌜ ((k : ℕ) → judgementOf j k ≡ refused r) ⌝ }
+{
+    Judgement {
+        answer: Answer::Refused(r),
+        verdict: Verdict {
+            shared: true,
+            positions: [0u8; 4],
+            blocks: [0u64; 4],
+        },
+    }
+}
+
+// The verdict on a normal table, as the answer of the call.
+fn on_normal(k: u8, n: u8, table: &[u64]) -> Judgement
+    requires { ⌜ (2 ≤ k) × (k ≤ 4) × (length (now table) ≤ 128) ⌝ }
+    ensures { λ j. ⌜ judgementOf j k ≡ result (verdictOn k n (now (table .entry))) ⌝ }
+{
+    Judgement {
+        answer: Answer::Accepted,
+        verdict: crate::verdict_on(k, n, table),
+    }
+}
+
+// The verdict on k of the table of n drives and some sets: 12, 3, 2, 5, 4, 13.
+pub fn judge(k: u8, n: u8, sets: &[u64]) -> Judgement
+    ensures { λ j. ⌜ judgementOf j k ≡ verdict k n (now (sets .entry)) ⌝ }
+{
+    if !is_block_count(k) {
+        return refused(Refusal::BlockCount);
+    }
+    let t = tables::completing::accept(n, sets);
+    let answer = t.answer;
+    let table = t.table;
+    let normal = table.sets;
+    let count = table.count;
+    match answer {
+        Answer::Refused(r) => refused(r),
+        Answer::Accepted => {
+            if MAX_SETS < count {
+                return on_normal(k, n, &normal);
+            }
+            on_normal(k, n, &normal[0..count])
+        }
+    }
+}
