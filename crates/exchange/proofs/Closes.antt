@@ -1,5 +1,5 @@
 -- The close of a round, one lemma for each return of the functions that make it.
-use mathlib.Core.Path.{_≡_, refl, sym, ap, _∙_}
+use mathlib.Core.Path.{_≡_, refl, sym, ap, _∙_, subst}
 use mathlib.Core.Bool.{Bool, true, false, not, _&&_, _||_, cond}
 use Prim.Native.Nat.{ℕ, _+_, _-_, _≤_}
 use native.Mathlib.Omega.{arith}
@@ -19,6 +19,7 @@ use Rattle.tables.specs.declared.reading.Answer.the-variants as answers
 use Rattle.tables.specs.Tables.{isFrame, isSet}
 use Rattle.exchange.proofs.Rules.{round-broken}
 use Rattle.exchange.specs.declared.Exchange.{Exchange}
+use Rattle.exchange.specs.declared.Reply.{Reply}
 use Rattle.exchange.specs.declared.Announcement.{Announcement}
 use Rattle.exchange.specs.declared.Announcement.the-variants.{Absent, By}
 use Rattle.exchange.specs.declared.Decision.{Decision}
@@ -136,6 +137,9 @@ module _ (x : Exchange) where
   pub reply-result : (due : Outcome Exchange) (y z : Exchange) → due ≡ result z → y ≡ z → Replied due x (record { answer = answers.Accepted; state = y })
   unfolding replyOf
   reply-result due y z e f = record { answer = ap (λ (w : Exchange). result w) f ∙ sym e; state = f ∙ sym (ap (stateAfter x) e) }
+
+  pub reply-same : (due given : Outcome Exchange) (r : Reply) → given ≡ due → Replied given x r → Replied due x r
+  reply-same due given r e h = subst (λ (o : Outcome Exchange). Replied o x r) e h
 
   module _ (t : Bool) (e : t ≡ broken x) where
     pub close-broken : t ≡ true → closing x ≡ refused refusals.BrokenState

@@ -1,6 +1,6 @@
 -- The smallest pattern number of the drives of a mask, drive by drive from the lowest.
 use mathlib.Core.Path.{_≡_, refl, sym, ap, _∙_, subst}
-use mathlib.Core.List.{List}
+use mathlib.Core.List.{List, _∷_}
 use mathlib.Core.Option.{Option, none, some}
 use Prim.Native.Nat.{ℕ, _^_, _≤_, _<_, min}
 use native.Mathlib.Omega.{arith}
@@ -18,6 +18,12 @@ pub removed-less : (m d m' : ℕ) → m < 2 ^ 64 → (m ≡ 0 → ⊥) → d ≡
 removed-less m d m' h ne e g =
     subst (λ (x : ℕ). size x < size m) (sym (g ∙ ap (λ (x : ℕ). minus m (single x)) e)) (lowest-removed m h ne)
 
+-- the lowest drive stands first
+pub lowest-first : (m d m' : ℕ) → m < 2 ^ 64 → (m ≡ 0 → ⊥) → d ≡ lowest m → m' ≡ minus m (single d) → drives m ≡ d ∷ drives m'
+lowest-first m d m' h ne e g =
+    subst (λ (x : ℕ). drives m ≡ d ∷ drives x) (sym g)
+    (subst (λ (x : ℕ). drives m ≡ x ∷ drives (minus m (single x))) (sym e) (drives-lowest m h ne))
+
 smaller-twice : (a b : ℕ) (o : Option ℕ) → smaller a (some (smaller b o)) ≡ smaller (min a b) o
 unfolding smaller
 smaller-twice a b none = refl
@@ -31,10 +37,7 @@ module _ (f : ℕ → ℕ) where
 
   of-lowest : (m d m' : ℕ) → m < 2 ^ 64 → (m ≡ 0 → ⊥) → d ≡ lowest m → m' ≡ minus m (single d) → smallest f (drives m) ≡ some (smaller (f d) (smallest f (drives m')))
   unfolding smallest
-  of-lowest m d m' h ne e g =
-      subst (λ (x : ℕ). smallest f (drives m) ≡ some (smaller (f d) (smallest f (drives x)))) (sym g)
-      (subst (λ (x : ℕ). smallest f (drives m) ≡ some (smaller (f x) (smallest f (drives (minus m (single x)))))) (sym e)
-      (ap (smallest f) (drives-lowest m h ne)))
+  of-lowest m d m' h ne e g = ap (smallest f) (lowest-first m d m' h ne e g)
 
   pub least-start : (m d m' v : ℕ) → m < 2 ^ 64 → (m ≡ 0 → ⊥) → d ≡ lowest m → v ≡ f d → m' ≡ minus m (single d) → Least m v m'
   least-start m d m' v h ne e w g = record {

@@ -3,3 +3,5 @@ pub mod Closes
 pub mod Least
 pub mod Opens
 pub mod Rules
+pub mod SendCalls
+pub mod Sends

@@ -1,9 +1,19 @@
--- What the answer of a call that is handed a state says: a refusal, which keeps the state, or the new state.
-use mathlib.Core.Path.{_≡_}
-use Rattle.drive_sets.specs.Refusals.{Outcome, refused, result}
+-- What the answer of a call that is handed a state says: a refusal, which keeps the state and the lent buffer, or the new state, or how
+-- many bytes were written.
+use mathlib.Core.Path.{_≡_, refl}
+use mathlib.Core.Bool.{true}
+use mathlib.Core.List.{List}
+use Prim.Native.Nat.{ℕ}
+use lib.ListN.{length}
+use Rattle.drive_sets.specs.Refusals.{Outcome, refused, result, andThen}
+use Rattle.tables.specs.declared.writing.Writing.{Writing}
+use Rattle.tables.specs.Answers.{writingOutcome}
 use Rattle.tables.specs.Reading.{outcomeOf}
+use Rattle.tables.specs.Tables.{isFrame}
 use Rattle.exchange.specs.declared.Exchange.{Exchange}
 use Rattle.exchange.specs.declared.Reply.{Reply}
+use Rattle.exchange.specs.State.{broken}
+use Rattle.exchange.specs.Calls.{initial, bufferAfter}
 
 unfoldable pub replyOf : Reply → Outcome Exchange
 replyOf r = outcomeOf (r .answer) (r .state)
@@ -13,7 +23,24 @@ abbrev pub stateAfter : Exchange → Outcome Exchange → Exchange
 stateAfter x (refused r) = x
 stateAfter x (result y) = y
 
+-- what stands beside a refused opening: a state of no drives, which every call refuses with 28
+unfoldable pub notOpened : Exchange
+notOpened = initial 0 0 0 0
+
+pub not-opened-broken : broken notOpened ≡ true
+unfolding notOpened initial broken isFrame
+not-opened-broken = refl
+
 -- the answer and the state, each as its definition has it
 pub record Replied (due : Outcome Exchange) (x : Exchange) (r : Reply) : Type 0 where
   pub answer : replyOf r ≡ due
   pub state : r .state ≡ stateAfter x due
+
+-- how many bytes are written
+abbrev pub sizeSent : Outcome (List ℕ) → Outcome ℕ
+sizeSent due = andThen due (λ bytes. result (length bytes))
+
+-- a send: the answer and the lent bytes, each as its definition has it
+pub record Sent (due : Outcome (List ℕ)) (start : ℕ) (old new : List ℕ) (r : Writing) : Type 0 where
+  pub answer : writingOutcome r ≡ sizeSent due
+  pub buffer : new ≡ bufferAfter due start old

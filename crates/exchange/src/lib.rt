@@ -10,13 +10,15 @@ ghost use Rattle.drive_sets.specs.Masks.{has, single, subset, size, drives};
 ghost use Rattle.drive_sets.specs.Refusals.{refused};
 ghost use Rattle.exchange.specs.State.{isDrive, inCore, isDecided, broken};
 ghost use Rattle.exchange.specs.Calls.{initial, opening, heardAtClose, decisionOn, quietDecision, decisionAfter, halts, next, closing};
-ghost use Rattle.exchange.specs.Replies.{replyOf, Replied};
+ghost use Rattle.exchange.specs.Replies.{Replied, notOpened};
 use drive_sets::Drive;
 use drive_sets::Pattern;
 use drive_sets::Refusal;
 use drive_sets::Round;
 use tables::calls::Chosen;
 use tables::reading::Answer;
+
+pub mod sending;
 
 // What a drive has decided on.
 pub enum Decision {
@@ -352,7 +354,7 @@ fn initial(n: u8, core: u64, own: Drive, number: Pattern) -> Exchange
 
 // A refused opening: there is no state, and the one beside the answer is broken.
 fn not_opened(r: Refusal) -> Reply
-    ensures { λ t. ⌜ replyOf t ≡ refused r ⌝ }
+    ensures { λ t. ⌜ Replied (refused r) notOpened t ⌝ }
 {
     let state = initial(0, 0, Drive(0), Pattern(0));
     Reply {
@@ -363,7 +365,7 @@ fn not_opened(r: Refusal) -> Reply
 
 // An exchange from a table, a drive number and a pattern number: the table's refusals, then 8.
 pub fn open(n: u8, sets: &[u64], own: Drive, number: Pattern) -> Reply
-    ensures { λ r. ⌜ replyOf r ≡ opening n (now (sets .entry)) (own .0) (number .0) ⌝ }
+    ensures { λ r. ⌜ Replied (opening n (now (sets .entry)) (own .0) (number .0)) notOpened r ⌝ }
 {
     let chosen = tables::calls::chosen_core(n, sets);
     match chosen {

@@ -1,6 +1,7 @@
 -- The table's refusals, the drive's, then the first state.
-use mathlib.Core.Path.{_∙_}
-use Rattle.exchange.specs.Replies.{replyOf}
+use mathlib.Core.Path.{refl, sym}
+use Rattle.exchange.specs.Replies.{notOpened}
+use Rattle.exchange.proofs.Closes.{reply-same, reply-result}
 use Rattle.exchange.proofs.Opens.{open-refused, open-no-drive, open-accepted}
 use borrow.Author.Needs.{needs}
 use Rattle.exchange.proofs.open.Statement.{statement}
@@ -25,17 +26,16 @@ not-opened-requires-2 : tie.Need-not-opened-requires-2
 not-opened-requires-2 c κs = search needs
 
 returns : tie.Need-returns
-returns c = let a = c .before .before .before .before .before .before .before .before .args in c .not-opened2 .ensures ∙ open-no-drive (a .n) (a .sets .now) (a .own .0) (a .number .0) _ (c .before .before .before .before .before .before .chosen-core .ensures) _ (c .before .before .before .before .chosen2 .given .1) _ (c .before .before .is-drive .ensures) (c .before .if1 .taken)
+returns c = let a = c .before .before .before .before .before .before .before .before .args in reply-same notOpened _ _ _ (open-no-drive (a .n) (a .sets .now) (a .own .0) (a .number .0) _ (c .before .before .before .before .before .before .chosen-core .ensures) _ (c .before .before .before .before .chosen2 .given .1) _ (c .before .before .is-drive .ensures) (c .before .if1 .taken)) (c .not-opened2 .ensures)
 
 initial-requires : tie.Need-initial-requires
 initial-requires c κs = search needs
 
 returns-2 : tie.Need-returns-2
-returns-2 c = let a = c .before .before .before .before .before .before .args in c .not-opened .ensures ∙ open-refused (a .n) (a .sets .now) (a .own .0) (a .number .0) _ (c .before .before .before .before .chosen-core .ensures) _ (c .before .before .chosen .given .1)
+returns-2 c = let a = c .before .before .before .before .before .before .args in reply-same notOpened _ _ _ (open-refused (a .n) (a .sets .now) (a .own .0) (a .number .0) _ (c .before .before .before .before .chosen-core .ensures) _ (c .before .before .chosen .given .1)) (c .not-opened .ensures)
 
 returns-3 : tie.Need-returns-3
-unfolding replyOf
-returns-3 c = let a = c .before .before .before .before .before .before .before .before .args in open-accepted (a .n) (a .sets .now) (a .own .0) (a .number .0) _ (c .before .before .before .before .before .before .chosen-core .ensures) _ (c .before .before .before .before .chosen2 .given .1) _ (c .before .before .is-drive .ensures) (c .before .if1 .left) _ (c .initial .ensures)
+returns-3 c = let a = c .before .before .before .before .before .before .before .before .args in reply-result notOpened _ _ _ (sym (open-accepted (a .n) (a .sets .now) (a .own .0) (a .number .0) _ (c .before .before .before .before .before .before .chosen-core .ensures) _ (c .before .before .before .before .chosen2 .given .1) _ (c .before .before .is-drive .ensures) (c .before .if1 .left) _ (c .initial .ensures))) refl
 
 pub open-spec : {M : Type 1} → statement M
 open-spec =
