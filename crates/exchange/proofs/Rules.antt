@@ -1,22 +1,22 @@
--- The rules of 28, one after the other as the code asks them.
+-- The rules of 28, and tests like them, one after the other as the code asks them.
 use mathlib.Core.Path.{_≡_, refl, sym, ap, _∙_}
 use mathlib.Core.Bool.{Bool, true, false, not, _&&_, _||_}
 use Rattle.drive_sets.specs.Bools.{clash}
 
--- three tests of a core drive that must know its own number
-pub no-core : (a b c t : Bool) → t ≡ a → not t ≡ true → false ≡ (a && not (b && c))
-no-core true b c t e h = absurd (clash (ap not (sym e) ∙ h) refl)
-no-core false b c t e h = refl
+-- where the first test holds, the other two must too: a core drive knows its own number, a KN's mask has the sender and is of the frame
+pub not-asked : (a b c t : Bool) → t ≡ a → not t ≡ true → false ≡ (a && not (b && c))
+not-asked true b c t e h = absurd (clash (ap not (sym e) ∙ h) refl)
+not-asked false b c t e h = refl
 
-pub not-now : (a b c t u : Bool) → t ≡ a → not t ≡ false → u ≡ b → not u ≡ true → true ≡ (a && not (b && c))
-not-now false b c t u e h f g = absurd (clash refl (ap not (sym e) ∙ h))
-not-now true true c t u e h f g = absurd (clash (ap not (sym f) ∙ g) refl)
-not-now true false c t u e h f g = refl
+pub second-fails : (a b c t u : Bool) → t ≡ a → not t ≡ false → u ≡ b → not u ≡ true → true ≡ (a && not (b && c))
+second-fails false b c t u e h f g = absurd (clash refl (ap not (sym e) ∙ h))
+second-fails true true c t u e h f g = absurd (clash (ap not (sym f) ∙ g) refl)
+second-fails true false c t u e h f g = refl
 
-pub at-start : (a b c t u v : Bool) → t ≡ a → not t ≡ false → u ≡ b → not u ≡ false → v ≡ c → not v ≡ (a && not (b && c))
-at-start false b c t u v e h f g k = absurd (clash refl (ap not (sym e) ∙ h))
-at-start true false c t u v e h f g k = absurd (clash refl (ap not (sym f) ∙ g))
-at-start true true c t u v e h f g k = ap not k
+pub third-asked : (a b c t u v : Bool) → t ≡ a → not t ≡ false → u ≡ b → not u ≡ false → v ≡ c → not v ≡ (a && not (b && c))
+third-asked false b c t u v e h f g k = absurd (clash refl (ap not (sym e) ∙ h))
+third-asked true false c t u v e h f g k = absurd (clash refl (ap not (sym f) ∙ g))
+third-asked true true c t u v e h f g k = ap not k
 
 -- four tests that must all hold
 pub fails-first : (a b c d t : Bool) → t ≡ a → not t ≡ true → false ≡ (a && b && c && d)

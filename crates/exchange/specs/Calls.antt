@@ -144,19 +144,24 @@ acceptDecide x s = record {
 unfoldable pub accept : Kind → Exchange → List ℕ → Exchange
 accept kind x s = cond (isKnown kind) (acceptKnown x s) (acceptDecide x s)
 
--- a message of this kind, from its sender on: 8, 15, values cut (1), 7, then 22, 26, 24, 21, 25
+-- a whole message of this kind: 22, 26, 24, 21, 25
+unfoldable pub admitting : Kind → Exchange → List ℕ → Outcome Exchange
+admitting kind x s =
+    refuseIf (outsideCore kind x s) OutsideCore
+    (refuseIf (not (eqb (roundOf s) (x .round .0))) OtherRound
+    (refuseIf (not (has (senderOf s) (x .before))) SenderMissing
+    (refuseIf (has (senderOf s) (x .heard)) AlreadyAccepted
+    (refuseIf (differs kind x s) PatternDiffers
+    (result (accept kind x s))))))
+
+-- a message of this kind, from its sender on: 8, 15, values cut (1), 7, and what follows
 unfoldable pub receivingOf : Kind → Exchange → List ℕ → Outcome Exchange
 receivingOf kind x s =
     refuseIf (not (isDrive (x .n) (senderOf s))) DriveNumber
     (refuseIf (wrongMask kind (x .n) s) KnownMask
     (refuseIf (ltb (length s) (lengthOf kind s)) EndsTooSoon
     (refuseIf (ltb (lengthOf kind s) (length s)) TrailingBytes
-    (refuseIf (outsideCore kind x s) OutsideCore
-    (refuseIf (not (eqb (roundOf s) (x .round .0))) OtherRound
-    (refuseIf (not (has (senderOf s) (x .before))) SenderMissing
-    (refuseIf (has (senderOf s) (x .heard)) AlreadyAccepted
-    (refuseIf (differs kind x s) PatternDiffers
-    (result (accept kind x s))))))))))
+    (admitting kind x s))))
 
 -- 28, 23, then mark cut (1), 2, the rest up to a KN's mask cut (1), and what follows
 unfoldable pub receiving : Exchange → List ℕ → Outcome Exchange

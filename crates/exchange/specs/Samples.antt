@@ -20,11 +20,11 @@ use Rattle.exchange.specs.declared.Decision.{Decision}
 use Rattle.exchange.specs.declared.Decision.the-variants.{Undecided, Decided}
 use Rattle.exchange.specs.State.{isDrive, inCore, numberOf, isDecided, broken}
 use Rattle.exchange.specs.Messages.{numberBytes, knownBytes, decideBytes, isKnown, fieldAt, senderOf, roundOf, maskOf, patternOf, entriesFrom, entries, lengthOf}
-use Rattle.exchange.specs.Calls.{initial, opening, outgoing, sending, bufferAfter, wrongMask, outsideCore, anyDiffers, differs, stored, acceptKnown, lower, acceptDecide, accept, receivingOf, receiving, heardAtClose, quiet, decisionOn, quietDecision, decide, decisionAfter, halts, next, closing}
+use Rattle.exchange.specs.Calls.{initial, opening, outgoing, sending, bufferAfter, wrongMask, outsideCore, anyDiffers, differs, stored, acceptKnown, lower, acceptDecide, accept, admitting, receivingOf, receiving, heardAtClose, quiet, decisionOn, quietDecision, decide, decisionAfter, halts, next, closing}
 
 -- all that a call computes with: an `unfolding` line that names this opens it
 unfoldable pub evaluated : Unit {0}
-unfolding onesIn range keep all any smaller smallest has single full union common minus meets subset size drives alone forEach search minimals byMask bySize insert sort dropRepeats holdsAnother normal fromBytes toBytes written writtenAt ascii markText mark bodyWidth kindOf isDue headOf isFrame isSet isEmpty cores chosen uncrowded normalTable isDrive inCore numberOf isDecided broken numberBytes knownBytes decideBytes isKnown fieldAt senderOf roundOf maskOf patternOf entriesFrom entries lengthOf initial opening outgoing sending bufferAfter wrongMask outsideCore anyDiffers differs stored acceptKnown lower acceptDecide accept receivingOf receiving heardAtClose quiet decisionOn quietDecision decide decisionAfter halts next closing
+unfolding onesIn range keep all any smaller smallest has single full union common minus meets subset size drives alone forEach search minimals byMask bySize insert sort dropRepeats holdsAnother normal fromBytes toBytes written writtenAt ascii markText mark bodyWidth kindOf isDue headOf isFrame isSet isEmpty cores chosen uncrowded normalTable isDrive inCore numberOf isDecided broken numberBytes knownBytes decideBytes isKnown fieldAt senderOf roundOf maskOf patternOf entriesFrom entries lengthOf initial opening outgoing sending bufferAfter wrongMask outsideCore anyDiffers differs stored acceptKnown lower acceptDecide accept admitting receivingOf receiving heardAtClose quiet decisionOn quietDecision decide decisionAfter halts next closing
 evaluated = tt
 
 -- the number that a call gives, 0 where it is not refused, and the number that is due

@@ -18,6 +18,8 @@ use drive_sets::Round;
 use tables::calls::Chosen;
 use tables::reading::Answer;
 
+mod fields;
+pub mod receiving;
 pub mod sending;
 
 // What a drive has decided on.

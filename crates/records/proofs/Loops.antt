@@ -12,7 +12,8 @@ use Rattle.records.specs.Fields.Laws.{fromBytes-lt, fromBytes-first, len
 
 -- ---- reading
 
-bytes-take : (n : ℕ) (s : List ℕ) → ((i : ℕ) → getD s i 0 < 256) → (i : ℕ) → getD (take n s) i 0 < 256
+-- a byte of the first ones is a byte of the whole
+pub bytes-take : (n : ℕ) (s : List ℕ) → ((i : ℕ) → getD s i 0 < 256) → (i : ℕ) → getD (take n s) i 0 < 256
 bytes-take zero s h i = omega arith
 bytes-take (suc n) [] h i = omega arith
 bytes-take (suc n) (x ∷ s) h zero = h 0

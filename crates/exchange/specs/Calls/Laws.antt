@@ -24,7 +24,7 @@ use Rattle.exchange.specs.declared.Exchange.{Exchange}
 use Rattle.exchange.specs.State.{isDrive, inCore, numberOf, broken}
 use Rattle.exchange.specs.Messages.{senderOf, roundOf, lengthOf}
 use Rattle.exchange.specs.Messages.Laws.{entryOf}
-use Rattle.exchange.specs.Calls.{initial, opening, outgoing, sending, wrongMask, outsideCore, anyDiffers, differs, accept, receivingOf, receiving, next, closing}
+use Rattle.exchange.specs.Calls.{initial, opening, outgoing, sending, wrongMask, outsideCore, anyDiffers, differs, accept, admitting, receivingOf, receiving, next, closing}
 
 pub opening-accepted : (n : ℕ) (sets table : List ℕ) (own number : ℕ) → normalTable n sets ≡ result table → isDrive n own ≡ true
     → opening n sets own number ≡ result (initial n (chosen table) own number)
@@ -56,7 +56,7 @@ pub record Acceptable (x : Exchange) (kind : Kind) (s : List ℕ) : Type 0 where
   pub same : differs kind x s ≡ false
 
 of-kind : (x : Exchange) (kind : Kind) (s : List ℕ) → Acceptable x kind s → receivingOf kind x s ≡ result (accept kind x s)
-unfolding receivingOf
+unfolding receivingOf admitting
 of-kind x kind s ok =
     cond-false _ _ (ap not (ok .drive))
     ∙ (cond-false _ _ (ok .mask)

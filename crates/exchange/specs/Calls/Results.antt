@@ -24,7 +24,7 @@ use Rattle.exchange.specs.declared.Decision.{Decision}
 use Rattle.exchange.specs.declared.Decision.the-variants.{Undecided, Decided}
 use Rattle.exchange.specs.State.{isDrive, isDecided, broken}
 use Rattle.exchange.specs.Messages.{isKnown, senderOf, roundOf, lengthOf}
-use Rattle.exchange.specs.Calls.{initial, opening, wrongMask, outsideCore, differs, acceptKnown, acceptDecide, accept, receivingOf, receiving, decisionOn, decide, decisionAfter, next, closing}
+use Rattle.exchange.specs.Calls.{initial, opening, wrongMask, outsideCore, differs, acceptKnown, acceptDecide, accept, admitting, receivingOf, receiving, decisionOn, decide, decisionAfter, next, closing}
 
 -- ---- decisions as optional numbers
 
@@ -99,7 +99,7 @@ module _ (x : Exchange) (s : List ℕ) where
       by-kind false = refl
 
   of-kind-keeps : (kind : Kind) → OnResult SameDecision (receivingOf kind x s)
-  unfolding receivingOf
+  unfolding receivingOf admitting
   of-kind-keeps kind =
       on-refuse SameDecision (not (isDrive (x .n) (senderOf s))) _ _
       (on-refuse SameDecision (wrongMask kind (x .n) s) _ _

@@ -1,0 +1,78 @@
+-- The entries one after the other: what is left says what the whole says.
+use borrow.Author.Needs.{needs}
+use Rattle.exchange.proofs.Entries.{Walk, left, walk-start, walk-bounds, walk-less, walk-step, differs-end, differs-stop, differs-step}
+use Rattle.exchange.specs.Calls.{anyDiffers}
+use Rattle.drive_sets.specs.Masks.{size}
+use native.Mathlib.Omega.{arith}
+use mathlib.Core.Path.{_≡_, refl, sym, _∙_}
+use Rattle.exchange.proofs.fields.any_differs.Statement.{statement}
+use Rattle.exchange.proofs.fields.any_differs.Tie as tie
+
+abbrev Inv-loop : tie.InvT-loop
+Inv-loop x mask s numbers m₀ at₀ m at = Walk m at × (anyDiffers x (left s m at) ≡ anyDiffers x (left s mask 12))
+
+abbrev μ-loop : tie.MeasureT-loop
+μ-loop x mask s numbers m₀ at₀ m at = size m
+
+loop-holds : tie.Need-loop-holds Inv-loop μ-loop
+loop-holds c = (walk-start (c .before .before .args .mask) (c .before .before .fits .mask .fits), refl)
+
+lowest-requires : tie.Need-lowest-requires Inv-loop μ-loop
+lowest-requires c κs = search needs
+
+number-in-requires : tie.Need-number-in-requires Inv-loop μ-loop
+number-in-requires c κs = search needs
+
+sub-conflicts : tie.Need-sub-conflicts Inv-loop μ-loop
+sub-conflicts c = let l = c .before .before .before .loop in let w = walk-bounds (c .before .before .before .before .before .before .args .s .now) (l .m) (l .at) _ (l .inv .0) (c .before .before .loop-test .taken) (c .before .lowest .ensures) in omega (arith, w .0, w .1)
+
+cast-conflicts : tie.Need-cast-conflicts Inv-loop μ-loop
+cast-conflicts c = search needs
+
+mul-conflicts : tie.Need-mul-conflicts Inv-loop μ-loop
+mul-conflicts c = search needs
+
+array-read-conflicts : tie.Need-array-read-conflicts Inv-loop μ-loop
+array-read-conflicts c = let l = c .before .before .before .loop in let w = walk-bounds (c .before .before .before .before .before .before .args .s .now) (l .m) (l .at) _ (l .inv .0) (c .before .before .loop-test .taken) (c .before .lowest .ensures) in omega (arith, w .0, w .1)
+
+conflicts-requires : tie.Need-conflicts-requires Inv-loop μ-loop
+conflicts-requires c κs = search needs
+
+returns : tie.Need-returns Inv-loop μ-loop
+returns c = let l = c .before .before .before .before .before .loop in let a = c .before .before .before .before .before .before .before .before .args in sym (differs-stop (a .s .now) (l .m) (l .at) _ (l .inv .0) (c .before .before .before .before .loop-test .taken) (c .before .before .before .lowest .ensures) _ (c .before .before .number-in .ensures) (a .x) _ (c .before .conflicts .ensures) (c .if1 .taken)) ∙ l .inv .1
+
+remove-requires : tie.Need-remove-requires Inv-loop μ-loop
+remove-requires c κs = search needs
+
+add-at : tie.Need-add-at Inv-loop μ-loop
+add-at c = let l = c .before .before .before .before .before .before .loop in omega (arith, l .inv .0 .near)
+
+loop-less : tie.Need-loop-less Inv-loop μ-loop
+loop-less c = let l = c .before .before .before .before .before .before .loop in walk-less (c .before .before .before .before .before .before .before .before .before .args .s .now) (l .m) (l .at) _ (l .inv .0) (c .before .before .before .before .before .loop-test .taken) (c .before .before .before .before .lowest .ensures) _ (c .remove .ensures)
+
+loop-again : tie.Need-loop-again Inv-loop μ-loop
+loop-again c = let l = c .before .before .before .before .before .before .loop in let a = c .before .before .before .before .before .before .before .before .before .args in (walk-step (a .s .now) (l .m) (l .at) _ (l .inv .0) (c .before .before .before .before .before .loop-test .taken) (c .before .before .before .before .lowest .ensures) _ (c .remove .ensures), differs-step (a .s .now) (l .m) (l .at) _ (l .inv .0) (c .before .before .before .before .before .loop-test .taken) (c .before .before .before .before .lowest .ensures) _ (c .before .before .before .number-in .ensures) (a .x) _ (c .before .before .conflicts .ensures) (c .before .if1 .left) _ (c .remove .ensures) ∙ l .inv .1)
+
+returns-2 : tie.Need-returns-2 Inv-loop μ-loop
+returns-2 c = let l = c .before .loop in let a = c .before .before .before .before .args in sym (differs-end (a .s .now) (a .x) (l .m) (l .at) (c .loop-test .left)) ∙ l .inv .1
+
+pub any-differs-spec : {M : Type 1} → statement M
+any-differs-spec =
+    tie.close
+    (tie.spec
+    Inv-loop
+    μ-loop
+    loop-holds
+    lowest-requires
+    number-in-requires
+    sub-conflicts
+    cast-conflicts
+    mul-conflicts
+    array-read-conflicts
+    conflicts-requires
+    returns
+    remove-requires
+    add-at
+    loop-less
+    loop-again
+    returns-2)
