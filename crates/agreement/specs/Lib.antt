@@ -1,5 +1,5 @@
 -- The rounds of SyncCrash and the proof that they reach agreement; a scenario as an instance of them, and one that needs round f + 1; the states
--- of a run as functions of the rounds, and that every run follows them; the canonical order of calls; and the theorems of demand 3.
+-- of a run as functions of the rounds, and that every run follows them; the canonical order of calls; the theorems of demand 3; and the simulated exchange.
 pub mod Rounds
 pub mod Instance
 pub mod Tight
@@ -7,3 +7,4 @@ pub mod States
 pub mod Refinement
 pub mod CanonicalRun
 pub mod Theorems
+pub mod Simulated

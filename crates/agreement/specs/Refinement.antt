@@ -23,6 +23,7 @@ pub mod Parts
 pub mod Decisions
 pub mod Runs
 pub mod Canonical
+pub mod Endings
 
 module _ (s : Scenario) (k : ℕ) where
   -- d reaches e in round k + 1

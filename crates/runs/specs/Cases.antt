@@ -1,36 +1,22 @@
 -- The marked cases B, D, E, F and J of document 01 as one table and one statement: the canonical order of calls is a run, and it gives the
 -- decisions and rounds, the core and the stops that document 01 prints.
 use mathlib.Core.Path.{_≡_, refl}
-use mathlib.Core.Bool.{true, false, cond}
+use mathlib.Core.Bool.{true, false}
 use mathlib.Core.List.{List, [], _∷_}
-use Prim.Native.Nat.{ℕ, _-_}
-use lib.Dec.{eqb}
-use lib.ListN.{length, getD}
+use Prim.Native.Nat.{ℕ}
+use lib.ListN.{length}
 use Rattle.drive_sets.specs.Lists.{elem}
 use Rattle.drive_sets.specs.Masks.{size}
 use Rattle.exchange.specs.Samples.{evaluated}
 use Rattle.runs.specs.World.{driveOf, nothingOpen, put, afterCall, onState, apply, applyAll, isRefused, refusedBy, refusedIn, active, decisionOf}
-use Rattle.runs.specs.Scenario.{Crash, stays, crashes, Scenario, frame, coreOf, goneBefore, goneBy, sendsNone, hasCrash, listOf, cut, reach}
+use Rattle.runs.specs.Scenario.{Scenario, frame, coreOf, goneBefore, goneBy, sendsNone, hasCrash, listOf, cut, reach}
+use Rattle.runs.specs.CrashRecords.{CrashRecord, crashIn, scenario}
 use Rattle.runs.specs.Runs.{sameList, dueOpening, openingPart, emptyBook, isCalled, wroteJust, settled, sendingOf, sentBy, lacksRoom, sender, closer, owes, arrived, due, noted, complete, roundPart, roundParts, joined, Run}
 use Rattle.runs.specs.Statement.{coreCrashes}
 use Rattle.runs.specs.Canonical.{openingCalls, deliveries, messageCalls, roundCalls, roundsFrom, canonicalRounds, canonical, Ending, decides, stopped, endingOn, firstDecision, endingOf, endings}
 
--- a CR record: drive, round, sends
-pub record CrashRecord : Type 0 where
-  pub drive : ℕ
-  pub round : ℕ
-  pub sends : ℕ
-
 abbrev pub cr : ℕ → ℕ → ℕ → CrashRecord
 cr drive round sends = record { drive = drive; round = round; sends = sends }
-
-unfoldable pub crashIn : List CrashRecord → ℕ → Crash
-crashIn [] d = stays
-crashIn (c ∷ cs) d = cond (eqb (c .drive) d) (crashes (c .round) (c .sends)) (crashIn cs d)
-
--- a scenario from n, the sets, the pattern numbers by drive, and the CR records
-unfoldable pub scenario : ℕ → List ℕ → List ℕ → List CrashRecord → Scenario
-scenario n sets numbers crs = record { n = n; sets = sets; proposal = λ d. getD numbers (d - 1) 0; crash = crashIn crs }
 
 -- the table of case A with the pattern numbers of case B
 unfoldable pub withCrashes : List CrashRecord → Scenario

@@ -1,7 +1,9 @@
--- Calls and worlds, scenarios, runs, the statements about them, the canonical order of calls, and the marked cases.
+-- Calls and worlds, scenarios, also from lists, runs, the statements about them, the canonical order of calls and what it gives, and the marked cases.
 pub mod World
 pub mod Scenario
+pub mod CrashRecords
 pub mod Runs
 pub mod Statement
 pub mod Canonical
+pub mod Simulated
 pub mod Cases

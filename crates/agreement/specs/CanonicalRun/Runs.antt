@@ -35,15 +35,22 @@ module _ (s : Scenario) (P : ℕ → World → Type 0) (kept : Kept s P) where
   length-rounds zero r w = refl
   length-rounds (suc m) r w = ap suc (length-rounds m (suc r) (applyAll w (roundCalls s r w)))
 
+  pub canonical-many : length (canonicalRounds s) ≡ size (coreOf s)
+  unfolding canonicalRounds
+  canonical-many = length-rounds (size (coreOf s)) 1 (applyAll nothingOpen (openingCalls s))
+
+  pub canonical-parts : roundParts s 1 (applyAll nothingOpen (openingCalls s)) (canonicalRounds s) ≡ true
+  unfolding canonicalRounds
+  canonical-parts =
+      rounds-canonical (size (coreOf s)) 0 (applyAll nothingOpen (openingCalls s)) (omega arith) (kept .start (openingCalls s) (openings-canonical s))
+
   pub canonical-run : Run s (canonical s)
-  unfolding canonical canonicalRounds
-  canonical-run =
-      let opened = applyAll nothingOpen (openingCalls s) in
-      record {
-        first = openingCalls s;
-        rounds = canonicalRounds s;
-        whole = refl;
-        many = length-rounds (size (coreOf s)) 1 opened;
-        opensAll = openings-canonical s;
-        keepsRounds = rounds-canonical (size (coreOf s)) 0 opened (omega arith) (kept .start (openingCalls s) (openings-canonical s));
-      }
+  unfolding canonical
+  canonical-run = record {
+    first = openingCalls s;
+    rounds = canonicalRounds s;
+    whole = refl;
+    many = canonical-many;
+    opensAll = openings-canonical s;
+    keepsRounds = canonical-parts;
+  }

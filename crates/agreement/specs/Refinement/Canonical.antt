@@ -35,7 +35,7 @@ module _ {s : Scenario} (ok : Valid s) where
       ap (λ slot. sendingOf slot room 0) (begins .going round d (sender-active (lawful ok) by))
       ∙ sending-state (lawful ok) (bounded ok) at-start (by .in-core) room 0 (omega (arith, length-message (instanceOf s) k d))
 
-  kept : Kept s (Begins s)
+  pub kept : Kept s (Begins s)
   kept = record {
     start = opening-begins ok;
     next = λ k w round begins calls t. part-begins ok round begins calls t;

@@ -1,0 +1,3 @@
+-- The simulated exchange, that it reaches agreement, and what the code's values say.
+pub mod Simulation
+pub mod States

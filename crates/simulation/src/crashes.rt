@@ -1,0 +1,64 @@
+// The crashes of a scenario by drive, and what they say of a drive in a round.
+ghost use mathlib.Core.Path.{_≡_};
+ghost use mathlib.Core.List.{List};
+ghost use Prim.Native.Nat.{ℕ, _≤_, _-_};
+ghost use lib.ListN.{length, take, getD};
+ghost use Rattle.runs.specs.Scenario.{goneBefore, goneBy, cut};
+ghost use Rattle.simulation.specs.States.{crashAt};
+use drive_sets::Drive;
+use drive_sets::Round;
+
+// The drives with a CR, and of drive d, at place d - 1, the round and the sends.
+pub struct Crashes {
+    pub crashed: u64,
+    pub rounds: [u8; 64],
+    pub sends: [u8; 64],
+}
+
+fn byte_at(bytes: [u8; 64], d: Drive) -> u8
+    requires { ⌜ (1 ≤ d .0) × (d .0 ≤ 64) ⌝ }
+    ensures { λ r. ⌜ r ≡ getD bytes (d .0 - 1) 0 ⌝ }
+{
+    let i = d.0;
+    bytes[(i - 1) as usize]
+}
+
+// A CR for an earlier round.
+pub fn gone_before(crashes: Crashes, d: Drive, round: Round) -> bool
+    ensures { λ r. ⌜ r ≡ goneBefore (crashAt crashes (d .0)) (round .0) ⌝ }
+{
+    if !drive_sets::has(d, crashes.crashed) {
+        return false;
+    }
+    let rounds = crashes.rounds;
+    let last = byte_at(rounds, d);
+    last < round.0
+}
+
+// A CR for this round or an earlier one.
+pub fn gone_by(crashes: Crashes, d: Drive, round: Round) -> bool
+    ensures { λ r. ⌜ r ≡ goneBy (crashAt crashes (d .0)) (round .0) ⌝ }
+{
+    if !drive_sets::has(d, crashes.crashed) {
+        return false;
+    }
+    let rounds = crashes.rounds;
+    let last = byte_at(rounds, d);
+    last <= round.0
+}
+
+// How many sends of this round's list the drive makes; 64, more than a list has, where it has no CR for this round.
+pub fn sends_made(crashes: Crashes, d: Drive, round: Round) -> u8
+    ensures { λ r. ⌜ ((l : List ℕ) → length l ≤ 64 → cut (crashAt crashes (d .0)) (round .0) l ≡ take r l) ⌝ }
+{
+    if !drive_sets::has(d, crashes.crashed) {
+        return 64;
+    }
+    let rounds = crashes.rounds;
+    let last = byte_at(rounds, d);
+    if last != round.0 {
+        return 64;
+    }
+    let sends = crashes.sends;
+    byte_at(sends, d)
+}
