@@ -1,10 +1,13 @@
--- A scenario from lists: the pattern numbers by drive, and CR records.
-use mathlib.Core.Bool.{cond}
+-- CR records: what passes 8, 9 and 10; and a scenario from lists, the pattern numbers by drive and CR records.
+use mathlib.Core.Bool.{Bool, not, _&&_, cond}
 use mathlib.Core.List.{List, [], _∷_, map}
 use Prim.Native.Nat.{ℕ, _-_}
-use lib.Dec.{eqb}
+use lib.Dec.{eqb, leb, ltb}
 use lib.ListN.{getD}
-use Rattle.drive_sets.specs.Masks.{ofDrives}
+use Rattle.drive_sets.specs.declared.Refusal.the-variants.{DriveNumber, CrashRound, CrashSends}
+use Rattle.drive_sets.specs.Masks.{has, size, ofDrives}
+use Rattle.drive_sets.specs.Refusals.{Outcome, result, refuseIf}
+use Rattle.exchange.specs.State.{isDrive}
 use Rattle.runs.specs.Scenario.{Crash, stays, crashes, Scenario}
 
 -- a CR record: drive, round, sends
@@ -16,6 +19,30 @@ pub record CrashRecord : Type 0 where
 -- the drives with a CR
 unfoldable pub crashed : List CrashRecord → ℕ
 crashed crs = ofDrives (map (λ (c : CrashRecord). c .drive) crs)
+
+-- ---- CR: 8, 9, 10
+
+-- a drive of the frame, above the last
+unfoldable pub isNext : ℕ → ℕ → ℕ → Bool
+isNext n last d = isDrive n d && ltb last d
+
+-- a round from 1 to the core's size
+unfoldable pub isRound : ℕ → ℕ → Bool
+isRound core round = leb 1 round && leb round (size core)
+
+-- how many sends a CR may have: n − 1 for a core drive, none for a listener
+unfoldable pub mostSends : ℕ → ℕ → ℕ → ℕ
+mostSends n core d = cond (has d core) (n - 1) 0
+
+-- a CR after that of the last drive
+unfoldable pub checkedCrash : ℕ → ℕ → ℕ → CrashRecord → Outcome CrashRecord
+checkedCrash n core last c =
+    refuseIf (not (isNext n last (c .drive))) DriveNumber
+    (refuseIf (not (isRound core (c .round))) CrashRound
+    (refuseIf (ltb (mostSends n core (c .drive)) (c .sends)) CrashSends
+    (result c)))
+
+-- ---- a scenario
 
 -- the CR of a drive: the first of its records
 unfoldable pub crashIn : List CrashRecord → ℕ → Crash

@@ -46,7 +46,7 @@ pub fn chosen_core(n: u8, sets: &[u64]) -> Chosen
 }
 
 // m meets every one of the sets.
-fn meets_all(sets: &[u64], m: u64) -> bool
+pub fn meets_all(sets: &[u64], m: u64) -> bool
     ensures { λ r. ⌜ r ≡ hits (now (sets .entry)) m ⌝ }
 {
     let mut i = 0;

@@ -26,12 +26,12 @@ use Rattle.exchange.specs.State.{isDrive}
 use Rattle.exchange.specs.State.Laws.{drive-bounds}
 use Rattle.runs.specs.Scenario.{stays, crashes, Scenario, coreOf}
 use Rattle.runs.specs.Scenario.Laws.{stays-crashes}
-use Rattle.runs.specs.CrashRecords.{CrashRecord, crashed, crashIn, scenario}
+use Rattle.runs.specs.CrashRecords.{CrashRecord, crashed, isNext, isRound, mostSends, checkedCrash, crashIn, scenario}
 use Rattle.runs.specs.Statement.{Passes, Valid, Untouched, coreCrashes}
 use Rattle.runs.specs.Canonical.{endings}
 use Rattle.runs.specs.Simulated.{EndsAgreed, SimulatedAgreement}
 use Rattle.agreement.specs.Simulated.{simulated-agreement}
-use Rattle.simulation.specs.Simulation.{isNext, isRound, mostSends, checkedCrashes, Simulated, simulated}
+use Rattle.simulation.specs.Simulation.{checkedCrashes, Simulated, simulated}
 
 -- ---- what the checks say of the records
 
@@ -46,13 +46,14 @@ AllChecked n core (c ∷ cs) = Checked n core c × AllChecked n core cs
 
 module _ {A : Type 0} (n core : ℕ) (next : Outcome A) {a : A} where
   all-checked : (last : ℕ) (crs : List CrashRecord) → checkedCrashes n core last crs next ≡ result a → AllChecked n core crs × (next ≡ result a)
-  unfolding checkedCrashes isNext
+  unfolding checkedCrashes checkedCrash isNext
   all-checked last [] e = (tt, e)
   all-checked last (c ∷ cs) e =
-      let drive = passed (not (isNext n last (c .drive))) DriveNumber _ e in
+      let first = first-result (checkedCrash n core last c) _ e in
+      let drive = passed (not (isNext n last (c .drive))) DriveNumber _ (first .1) in
       let round = passed (not (isRound core (c .round))) CrashRound _ (drive .1) in
       let sends = passed (ltb (mostSends n core (c .drive)) (c .sends)) CrashSends _ (round .1) in
-      let rest = all-checked (c .drive) cs (sends .1) in (
+      let rest = all-checked (c .drive) cs (first .2) in (
         (
           record {
             drive = and-left (isDrive n (c .drive)) _ (not-false (isNext n last (c .drive)) (drive .0));

@@ -1,0 +1,95 @@
+// The PR records of a run file: one for each drive in order, with the pattern number that it proposes.
+ghost use mathlib.Core.Path.{_≡_};
+ghost use mathlib.Core.List.{[]};
+ghost use Prim.Native.Nat.{_≤_};
+ghost use lib.ListN.{length};
+ghost use Rattle.run_files.specs.RunFiles.{fieldAt, readProposals};
+ghost use Rattle.run_files.specs.Reading.{proposalStep, proposalsOutcome};
+use drive_sets::Drive;
+use drive_sets::Pattern;
+use drive_sets::Refusal;
+use records::Due;
+use records::Head;
+use tables::reading::Answer;
+
+// The numbers read, drive 1 first, and how many bytes they took, where all are accepted.
+pub struct Proposals {
+    pub answer: Answer,
+    pub numbers: [u16; 64],
+    pub used: usize,
+}
+
+// What stands where the PR of a drive is due.
+enum Proposal {
+    Number(Pattern),
+    Stop(Refusal),
+}
+
+fn refused(r: Refusal) -> Proposals
+    ensures { λ t. ⌜ (t .answer ≡ Answer.Refused r) × (t .used ≡ 0) ⌝ }
+{
+    Proposals {
+        answer: Answer::Refused(r),
+        numbers: [0u16; 64],
+        used: 0,
+    }
+}
+
+fn wide(x: u8) -> u16
+    ensures { λ r. ⌜ r ≡ x ⌝ }
+{
+    x as u16
+}
+
+// The pattern number of the PR at the start of the bytes.
+fn pattern_at(s: &[u8]) -> Pattern
+    requires { ⌜ 5 ≤ length (now s) ⌝ }
+    ensures { λ r. ⌜ r .0 ≡ fieldAt 3 2 (now (s .entry)) ⌝ }
+{
+    let low = wide(s[3]);
+    let high = wide(s[4]);
+    Pattern(low + 256 * high)
+}
+
+// The record at the start of the bytes, where the PR of this drive is due.
+fn next_proposal(s: &[u8], due: Drive) -> Proposal
+    ensures { λ r. ⌜ r ≡ proposalStep (due .0) (now (s .entry)) ⌝ }
+{
+    let head = records::read_head(s, Due::AtProposal);
+    let drive = due.0;
+    match head {
+        Head::Refused(r) => Proposal::Stop(r),
+        Head::Record(_) => {
+            if s[2] != drive {
+                return Proposal::Stop(Refusal::DriveNumber);
+            }
+            Proposal::Number(pattern_at(s))
+        }
+    }
+}
+
+// The PR of drives 1 to n.
+pub fn read_proposals(s: &[u8], n: u8) -> Proposals
+    requires { ⌜ n ≤ 64 ⌝ }
+    ensures { λ r. ⌜ (proposalsOutcome n r (now (s .entry)) ≡ readProposals n [] (now (s .entry))) × (r .used ≤ length (now (s .entry))) ⌝ }
+{
+    let mut numbers = [0u16; 64];
+    let mut given = 0u8;
+    let mut at = 0usize;
+    while given < n {
+        let next = next_proposal(&s[at..], Drive(given + 1));
+        match next {
+            Proposal::Stop(r) => return refused(r),
+            Proposal::Number(v) => {
+                numbers[given as usize] = v.0;
+                given += 1;
+                at += 5;
+            }
+        }
+    }
+    Proposals {
+        answer: Answer::Accepted,
+        numbers,
+        used: at,
+    }
+}
