@@ -1,19 +1,26 @@
 -- The marked cases of document 01: one list of inputs and the text that each must give, and one statement that the definitions give it.
 use mathlib.Core.Path.{_≡_, refl}
 use mathlib.Core.List.{List, [], _∷_, _++_}
-use Prim.Native.Nat.{ℕ}
-use lib.Count.{onesIn}
-use Rattle.drive_sets.specs.Lists.{range, keep, all, any}
-use Rattle.drive_sets.specs.Masks.{has, single, full, union, common, minus, outside, meets, subset, size, drives}
-use Rattle.hitting_sets.specs.Hitting.{alone, forEach, search, minimals}
-use Rattle.hitting_sets.specs.Order.{byMask, bySize, insert, sort, dropRepeats, holdsAnother, normal}
-use Rattle.records.specs.Fields.{fromBytes}
-use Rattle.records.specs.Marks.{ascii, markText, mark, bodyWidth, kindOf, isDue, headOf}
-use Rattle.tables.specs.Tables.{isFrame, isSet, isEmpty, cores, chosen, uncrowded}
-use Rattle.tables.specs.Files.{dueAfter, atEnd, readSets, readListed, accepted, readWhole}
+use Prim.Native.Nat.{ℕ, suc}
+use Rattle.drive_sets.specs.Lists.{elem}
+use Rattle.drive_sets.specs.Masks.{outside, ofDrives}
+use Rattle.hitting_sets.specs.Hitting.{hits}
+use Rattle.records.specs.Marks.{ascii}
+use Rattle.tables.specs.Files.{dueAfter, atEnd, readSets, readListed, accepted, readTable, readWhole}
 use Rattle.verdicts.specs.Verdicts.{firstWith, disjoint, blocksOf, verdictOn}
+use Rattle.exchange.specs.Samples.{evaluated}
+use Rattle.runs.specs.World.{nothingOpen, put, afterCall, onState, apply, applyAll, active, decisionOf}
+use Rattle.runs.specs.Scenario.{frame, coreOf, goneBefore, goneBy, hasCrash, listOf, cut, reach}
+use Rattle.runs.specs.CrashRecords.{crashed, isNext, isRound, mostSends, checkedCrash, crashIn, scenario}
+use Rattle.runs.specs.Runs.{sendingOf, sender, closer}
+use Rattle.runs.specs.Statement.{coreCrashes}
+use Rattle.runs.specs.Canonical.{openingCalls, deliveries, messageCalls, roundCalls, roundsFrom, canonicalRounds, endingOn, firstDecision, endingOf, endings}
+use Rattle.run_files.specs.RunFiles as runFiles
+use Rattle.run_files.specs.RunFiles.{readProposals, crashAt, readCrashes, untouchedLeft, readRest, readRunFile}
+use Rattle.simulation.specs.Simulation.{checkedCrashes, simulated}
 use Rattle.listings.specs.Text.{digit, inBase, decimal, hexadecimal}
 use Rattle.listings.specs.TableListing.{fields, line, lines, verdictLine, refusalLine, listing, tableProgram}
+use Rattle.listings.specs.RunListing.{endingText, endingLines, coreLine, simulatedFile, runProgram}
 
 -- a program as a function of its input, an input, and the output that is due
 pub record Case : Type 0 where
@@ -48,6 +55,22 @@ fileH = ascii "FR" ++ (64 ∷ ascii "SV") ++ (255 ∷ 255 ∷ 255 ∷ 255 ∷ 25
 fileI : List ℕ
 fileI = ascii "FR" ++ (65 ∷ sv 1) ++ ascii "EN" ++ (1 ∷ [])
 
+-- pattern numbers below 256, drives 1, 2, .. in order
+prs : ℕ → List ℕ → List ℕ
+prs drive [] = []
+prs drive (v ∷ vs) = ascii "PR" ++ (drive ∷ v ∷ 0 ∷ prs (suc drive) vs)
+
+cr : ℕ → ℕ → ℕ → List ℕ
+cr drive round sends = ascii "CR" ++ (drive ∷ round ∷ sends ∷ [])
+
+-- the table of case A, then a run file with the pattern numbers of case B and so many CR records
+onA : ℕ → List ℕ → List ℕ
+onA count crs = fileA ++ prs 1 (7 ∷ 5 ∷ 9 ∷ 1 ∷ 1 ∷ 1 ∷ []) ++ crs ++ ascii "EN" ++ (count ∷ [])
+
+-- n 1, set 1, and a pattern number
+fileJ : List ℕ
+fileJ = ascii "FR" ++ (1 ∷ sv 1) ++ ascii "EN" ++ (1 ∷ prs 1 (4 ∷ [])) ++ ascii "EN" ++ (0 ∷ [])
+
 -- ---- the cases
 
 pub marked : List Case
@@ -68,8 +91,30 @@ marked =
       output = ascii "drives 64\nset ffffffffffffffff\ncore 1\ncore 2\ncore 4\ncore 8\ncore 10\ncore 20\ncore 40\ncore 80\ncore 100\ncore 200\ncore 400\ncore 800\ncore 1000\ncore 2000\ncore 4000\ncore 8000\ncore 10000\ncore 20000\ncore 40000\ncore 80000\ncore 100000\ncore 200000\ncore 400000\ncore 800000\ncore 1000000\ncore 2000000\ncore 4000000\ncore 8000000\ncore 10000000\ncore 20000000\ncore 40000000\ncore 80000000\ncore 100000000\ncore 200000000\ncore 400000000\ncore 800000000\ncore 1000000000\ncore 2000000000\ncore 4000000000\ncore 8000000000\ncore 10000000000\ncore 20000000000\ncore 40000000000\ncore 80000000000\ncore 100000000000\ncore 200000000000\ncore 400000000000\ncore 800000000000\ncore 1000000000000\ncore 2000000000000\ncore 4000000000000\ncore 8000000000000\ncore 10000000000000\ncore 20000000000000\ncore 40000000000000\ncore 80000000000000\ncore 100000000000000\ncore 200000000000000\ncore 400000000000000\ncore 800000000000000\ncore 1000000000000000\ncore 2000000000000000\ncore 4000000000000000\ncore 8000000000000000\nchosen 1\nk 2 yes\nk 3 yes\nk 4 yes\n";
     }
     ∷ record { program = tableProgram; input = fileI; output = ascii "refused 3\n" }
+    ∷ record {
+      program = runProgram;
+      input = onA 1 (cr 2 1 1);
+      output = ascii "drive 1 decides 5 round 1\ndrive 2 stopped\ndrive 3 decides 5 round 2\ndrive 4 decides 5 round 2\ndrive 5 decides 5 round 2\ndrive 6 decides 5 round 2\ncore 7 stops 1\n";
+    }
+    ∷ record {
+      program = runProgram;
+      input = onA 1 (cr 2 1 0);
+      output = ascii "drive 1 decides 7 round 2\ndrive 2 stopped\ndrive 3 decides 7 round 2\ndrive 4 decides 7 round 2\ndrive 5 decides 7 round 2\ndrive 6 decides 7 round 2\ncore 7 stops 1\n";
+    }
+    ∷ record {
+      program = runProgram;
+      input = onA 1 (cr 2 1 3);
+      output = ascii "drive 1 decides 5 round 1\ndrive 2 stopped\ndrive 3 decides 5 round 1\ndrive 4 decides 5 round 1\ndrive 5 decides 5 round 2\ndrive 6 decides 5 round 2\ncore 7 stops 1\n";
+    }
+    ∷ record {
+      program = runProgram;
+      input = onA 2 (cr 1 1 0 ++ cr 2 2 0);
+      output = ascii "drive 1 stopped\ndrive 2 stopped\ndrive 3 decides 5 round 3\ndrive 4 decides 5 round 3\ndrive 5 decides 5 round 3\ndrive 6 decides 5 round 3\ncore 7 stops 2\n";
+    }
+    ∷ record { program = runProgram; input = onA 3 (cr 1 1 0 ++ cr 2 1 0 ++ cr 3 1 0); output = ascii "refused 11\n" }
+    ∷ record { program = runProgram; input = fileJ; output = ascii "drive 1 decides 4 round 1\ncore 1 stops 0\n" }
     ∷ []
 
 pub marked-cases : AllGiven marked
-unfolding marked sv fileA fileC fileH fileI onesIn range keep all any has single full union common minus outside meets subset size drives alone forEach search minimals byMask bySize insert sort dropRepeats holdsAnother normal fromBytes ascii markText mark bodyWidth kindOf isDue headOf isFrame isSet isEmpty cores chosen uncrowded dueAfter atEnd readSets readListed accepted readWhole firstWith disjoint blocksOf verdictOn digit inBase decimal hexadecimal fields line lines verdictLine refusalLine listing tableProgram
-marked-cases = (refl, (refl, (refl, (refl, tt))))
+unfolding marked sv fileA fileC fileH fileI prs cr onA fileJ evaluated elem outside ofDrives hits dueAfter atEnd readSets readListed accepted readTable readWhole firstWith disjoint blocksOf verdictOn nothingOpen put afterCall onState apply applyAll active decisionOf frame coreOf goneBefore goneBy hasCrash listOf cut reach crashed isNext isRound mostSends checkedCrash crashIn scenario sendingOf sender closer coreCrashes openingCalls deliveries messageCalls roundCalls roundsFrom canonicalRounds endingOn firstDecision endingOf endings readProposals crashAt runFiles.atEnd readCrashes untouchedLeft readRest readRunFile checkedCrashes simulated digit inBase decimal hexadecimal fields line lines verdictLine refusalLine listing tableProgram endingText endingLines coreLine simulatedFile runProgram
+marked-cases = (refl, (refl, (refl, (refl, (refl, (refl, (refl, (refl, (refl, (refl, tt))))))))))

@@ -6,9 +6,9 @@ use native.Mathlib.Omega.{arith}
 use lib.Dec.{leb, ltb}
 use borrow.Author.Tests.{le-leb, lt-leb, lt-ltb, le-ltb}
 use Rattle.drive_sets.specs.Bools.{by-test, and-intro, and-second, and-fails-left, and-fails-right, cond-true, cond-false}
-use Rattle.drive_sets.specs.Masks.{has, size}
+use Rattle.drive_sets.specs.Masks.{has}
 use Rattle.drive_sets.specs.declared.Refusal.the-variants.{DriveNumber, CrashRound, CrashSends}
-use Rattle.drive_sets.specs.Refusals.{refused, result, refuseIf}
+use Rattle.drive_sets.specs.Refusals.{refused, result}
 use Rattle.exchange.specs.State.{isDrive}
 use Rattle.runs.specs.CrashRecords.{CrashRecord, isNext, isRound, mostSends, checkedCrash}
 

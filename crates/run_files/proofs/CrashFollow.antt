@@ -1,39 +1,31 @@
 -- Reading the CR records goes on as the step on the next one says, and what a step says of the bytes.
-use mathlib.Core.Path.{_≡_, refl, sym, ap, ap₂, _∙_}
+use mathlib.Core.Path.{_≡_, refl, sym, ap, _∙_}
 use mathlib.Core.Bool.{Bool, true, false, not, cond}
 use mathlib.Core.List.{List, [], _∷_, _++_}
-use mathlib.Core.Logic.{⊎-elim}
-use Prim.Native.Nat.{ℕ, zero, suc, _+_, _-_, _^_, _≤_, _<_}
+use Prim.Native.Nat.{ℕ, zero, suc, _+_, _-_, _≤_, _<_}
 use native.Mathlib.Omega.{arith}
-use lib.Dec.{eqb, leb, ltb}
-use lib.ListN.{length, drop, set, length-set, length-drop, length-append}
-use lib.Seq.{drop-drop}
-use borrow.Author.Tests.{leb-true, ltb-true, lt-ltb, eqb-true}
+use lib.Dec.{eqb}
+use lib.ListN.{length, drop}
+use borrow.Author.Tests.{lt-ltb, eqb-true}
 use Rattle.drive_sets.specs.declared.Drive.{Drive}
 use Rattle.drive_sets.specs.declared.Round.{Round}
 use Rattle.drive_sets.specs.declared.Refusal.{Refusal}
 use Rattle.drive_sets.specs.declared.Refusal.the-variants.{EndsTooSoon, CountDiffers}
-use Rattle.drive_sets.specs.Bools.{clash, by-test, and-left, and-right, cond-true, cond-false}
-use Rattle.drive_sets.specs.Masks.{has}
-use Rattle.drive_sets.specs.Masks.Laws.{has-none}
-use Rattle.drive_sets.specs.Masks.OneDrive.{insert-cases, insert-lt}
+use Rattle.drive_sets.specs.Bools.{by-test, cond-true, cond-false}
 use Rattle.drive_sets.specs.Refusals.{Outcome, refused, result, refuseIf, andThen}
 use Rattle.records.specs.declared.Due.the-variants.{AtCrashOrEnd}
-use Rattle.records.specs.declared.Kind.{Kind}
 use Rattle.records.specs.declared.Kind.the-variants as kinds
 use Rattle.records.specs.declared.Head.{Head}
 use Rattle.records.specs.declared.Head.the-variants as heads
 use Rattle.records.specs.Marks.{mark, bodyWidth, headOf}
 use Rattle.records.specs.Marks.Laws.{head-present, mark-unique}
 use Rattle.tables.specs.Files.{atRecord}
-use Rattle.run_files.specs.declared.crashes.Crashes.{Crashes}
 use Rattle.run_files.specs.declared.listing.Step.{Step}
 use Rattle.run_files.specs.declared.listing.Step.the-variants.{Crash, End, Stop}
 use Rattle.runs.specs.CrashRecords.{CrashRecord, isNext, checkedCrash}
 use Rattle.run_files.specs.RunFiles.{ReadCrashes, fieldAt, crashAt, atEnd, readCrashes}
 use Rattle.run_files.specs.RunFiles.Laws.{Passes, checked-passes}
-use Rattle.run_files.specs.Reading.{crashRecord, stepOn, crashStep, endStep, stepAt, stepOf, crashesIn, noted}
-use Rattle.run_files.specs.Reading.Laws.{none-listed, noted-listed}
+use Rattle.run_files.specs.Reading.{crashRecord, stepOn, crashStep, endStep, stepAt, stepOf}
 use Rattle.run_files.proofs.CrashSteps.{crash-long}
 
 -- ---- reading goes on as the step says

@@ -1,31 +1,28 @@
 -- The loop over the records after drive n's PR: what is left to read gives what the whole gives.
-use mathlib.Core.Path.{_≡_, refl, sym, ap, ap₂, _∙_, subst}
-use mathlib.Core.Bool.{Bool, true, _&&_}
+use mathlib.Core.Path.{_≡_, refl, sym, ap, ap₂, _∙_}
+use mathlib.Core.Bool.{true}
 use mathlib.Core.List.{List, [], _∷_, _++_}
 use mathlib.Core.Logic.{⊎-elim}
 use Prim.Native.Nat.{ℕ, zero, suc, _+_, _-_, _^_, _≤_, _<_}
 use native.Mathlib.Omega.{arith}
-use lib.Dec.{leb, ltb}
 use lib.ListN.{length, drop, length-drop, length-append, length-set}
 use lib.Seq.{drop-drop}
-use borrow.Author.Tests.{leb-true, ltb-true}
 use Rattle.drive_sets.specs.declared.Drive.{Drive}
 use Rattle.drive_sets.specs.declared.Round.{Round}
 use Rattle.drive_sets.specs.declared.Refusal.{Refusal}
-use Rattle.drive_sets.specs.Bools.{clash, and-left, and-right}
+use Rattle.drive_sets.specs.Bools.{clash}
 use Rattle.drive_sets.specs.Masks.{has}
 use Rattle.drive_sets.specs.Masks.Laws.{has-none}
 use Rattle.drive_sets.specs.Masks.OneDrive.{insert-cases, insert-lt}
-use Rattle.drive_sets.specs.Refusals.{Outcome, refused, result}
+use Rattle.drive_sets.specs.Refusals.{refused, result}
 use Rattle.tables.specs.declared.reading.Answer.{Answer}
 use Rattle.tables.specs.declared.reading.Answer.the-variants as answers
 use Rattle.tables.specs.Reading.{outcomeOf}
 use Rattle.run_files.specs.declared.crashes.Crashes.{Crashes}
 use Rattle.run_files.specs.declared.listing.CrashesRead.{CrashesRead}
-use Rattle.run_files.specs.declared.listing.Step.{Step}
 use Rattle.run_files.specs.declared.listing.Step.the-variants.{Crash, End, Stop}
 use Rattle.runs.specs.CrashRecords.{CrashRecord, isNext}
-use Rattle.run_files.specs.RunFiles.{ReadCrashes, readCrashes}
+use Rattle.run_files.specs.RunFiles.{readCrashes}
 use Rattle.run_files.specs.RunFiles.Laws.{next-bounds}
 use Rattle.run_files.specs.Reading.{crashRecord, stepOf, crashesIn, crashesOutcome, noted}
 use Rattle.run_files.specs.Reading.Laws.{none-listed, noted-listed}

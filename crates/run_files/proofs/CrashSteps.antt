@@ -28,7 +28,7 @@ use Rattle.tables.specs.Reading.{outcomeOf}
 use Rattle.records.proofs.Parts.{rest-is}
 use Rattle.run_files.specs.declared.listing.Step.{Step}
 use Rattle.run_files.specs.declared.listing.Step.the-variants.{Crash, End, Stop}
-use Rattle.runs.specs.CrashRecords.{CrashRecord, checkedCrash}
+use Rattle.runs.specs.CrashRecords.{checkedCrash}
 use Rattle.run_files.specs.RunFiles.{fieldAt, crashAt}
 use Rattle.run_files.specs.Reading.{crashRecord, stepOn, crashStep, endStep, stepAt, stepOf}
 

@@ -8,7 +8,7 @@ use drive_sets::Refusal;
 use drive_sets::Round;
 use tables::reading::Answer;
 
-// Crashes by drive: the drives with a CR, and of drive d, at place d - 1, the round and the sends, 0 where there is none.
+// Crashes by drive: the drives with a CR, and of each such drive d, at place d - 1, the round and the sends.
 pub struct Crashes {
     pub crashed: u64,
     pub rounds: [u8; 64],

@@ -1,4 +1,4 @@
--- Calls and worlds, scenarios, also from lists, runs, the statements about them, the canonical order of calls and what it gives, and the marked cases.
+-- Calls and worlds, scenarios, also from lists, runs, the statements about them, the canonical order of calls and what it gives.
 pub mod World
 pub mod Scenario
 pub mod CrashRecords
@@ -6,4 +6,3 @@ pub mod Runs
 pub mod Statement
 pub mod Canonical
 pub mod Simulated
-pub mod Cases

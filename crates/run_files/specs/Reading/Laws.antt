@@ -1,10 +1,10 @@
 -- Laws of the crashes by drive: one more of a drive above the others is one more at the end of the list, and the list's crash of a drive
 -- is the one at its place. What an answer that is no refusal says.
 use mathlib.Core.Path.{_≡_, refl, sym, ap, ap₂, _∙_}
-use mathlib.Core.Bool.{Bool, true, false, cond, _&&_, _||_}
+use mathlib.Core.Bool.{Bool, true, cond, _||_}
 use mathlib.Core.List.{List, [], _∷_, _++_, map, map-append}
 use mathlib.Core.Option.{Option, none, some}
-use Prim.Native.Nat.{ℕ, zero, suc, _+_, _-_, _^_, _≤_, _<_}
+use Prim.Native.Nat.{ℕ, _+_, _-_, _^_, _≤_, _<_}
 use native.Mathlib.Omega.{arith}
 use lib.Dec.{eqb, ltb}
 use lib.ListN.{length, getD, take, set}
@@ -17,7 +17,7 @@ use Rattle.drive_sets.specs.Masks.{has, single, union, drives, ofDrives}
 use Rattle.drive_sets.specs.Masks.Laws.{has-bounds}
 use Rattle.drive_sets.specs.Masks.OneDrive.{has-insert, insert-lt}
 use Rattle.drive_sets.specs.Masks.Sizes.{elem-drives, drives-rising, drives-none, rising-unique, ofDrives-drives}
-use Rattle.drive_sets.specs.Refusals.{Outcome, result}
+use Rattle.drive_sets.specs.Refusals.{result}
 use Rattle.drive_sets.specs.Refusals.Laws.{refused-no-result, same-result}
 use Rattle.tables.specs.declared.reading.Answer.{Answer}
 use Rattle.tables.specs.declared.reading.Answer.the-variants.{Accepted, Refused}

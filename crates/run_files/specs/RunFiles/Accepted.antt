@@ -1,30 +1,30 @@
 -- What a run file that is not refused says: a pattern number for each drive, crashes that pass 8, 9 and 10, drives rising, and a survivor
 -- set that no crash touches.
 use mathlib.Core.Path.{_≡_, refl, sym, ap, _∙_, subst}
-use mathlib.Core.Bool.{Bool, true, false, not, _||_, cond}
+use mathlib.Core.Bool.{true, false, not}
 use mathlib.Core.List.{List, [], _∷_, map}
 use mathlib.Core.Logic.{⊎-elim}
-use mathlib.Core.Option.{Option, none, some}
-use Prim.Native.Nat.{ℕ, zero, suc, _-_, _≤_, _<_}
+use mathlib.Core.Option.{none, some}
+use Prim.Native.Nat.{ℕ, _-_, _≤_, _<_}
 use native.Mathlib.Omega.{arith}
 use lib.Dec.{eqb, leb, ltb}
 use lib.ListN.{length, getD}
-use borrow.Author.Tests.{not-false, leb-true, lt-ltb, eqb-true, eqb-false, eq-eqb, ne-eqb}
+use borrow.Author.Tests.{not-false, leb-true, lt-ltb, eqb-true, eqb-false, ne-eqb}
 use Rattle.drive_sets.specs.Bools.{clash, by-test, and-intro, and-left, and-right, cond-true, cond-false}
 use Rattle.drive_sets.specs.Lists.{all, elem, ordered}
 use Rattle.drive_sets.specs.Lists.Laws.{elem-none, elem-head, elem-cases, any-false, all-intro, all-not}
-use Rattle.drive_sets.specs.Masks.{has, size, meets, ofDrives}
+use Rattle.drive_sets.specs.Masks.{has, size, meets}
 use Rattle.drive_sets.specs.Masks.Laws.{meets-not}
 use Rattle.drive_sets.specs.Masks.Sizes.{has-ofDrives}
 use Rattle.drive_sets.specs.Options.{isSome, none-some, same-some, none-of}
 use Rattle.drive_sets.specs.declared.Refusal.the-variants.{FrameSize, TrailingBytes, NoneUntouched}
-use Rattle.drive_sets.specs.Refusals.{Outcome, refused, result, refuseIf}
+use Rattle.drive_sets.specs.Refusals.{result}
 use Rattle.drive_sets.specs.Refusals.Laws.{same-result, passed, first-result}
 use Rattle.hitting_sets.specs.Hitting.{hits}
 use Rattle.tables.specs.Tables.{isFrame, isEmpty}
 use Rattle.runs.specs.CrashRecords.{CrashRecord, crashed, mostSends, isRound}
-use Rattle.run_files.specs.RunFiles.{RunFile, ReadProposals, ReadCrashes, crashOf, readProposals, readCrashes, untouchedLeft, readRest, readRunFile}
-use Rattle.run_files.specs.RunFiles.Laws.{Bytes, Numbers, numbers-read, Passes, next-bounds, AllPass, crashes-read}
+use Rattle.run_files.specs.RunFiles.{RunFile, crashOf, readProposals, readCrashes, untouchedLeft, readRest, readRunFile}
+use Rattle.run_files.specs.RunFiles.Laws.{Bytes, numbers-read, Passes, next-bounds, AllPass, crashes-read}
 
 -- the drives of CR records
 unfoldable pub drivesOf : List CrashRecord → List ℕ

@@ -1,10 +1,8 @@
 -- Laws of the PR and CR records that are read: as many numbers as drives, each a pattern number, and crashes that pass 8, 9 and 10.
 use mathlib.Core.Path.{_≡_, refl, sym, ap, _∙_, subst}
-use mathlib.Core.Bool.{Bool, true, false, not, cond, _&&_}
-use mathlib.Core.List.{List, [], _∷_, _++_, map, append-nil, append-assoc}
-use mathlib.Core.Logic.{⊎-elim}
+use mathlib.Core.Bool.{true, not, cond, _&&_}
+use mathlib.Core.List.{List, [], _∷_, _++_, append-nil, append-assoc}
 use Prim.Native.Nat.{ℕ, zero, suc, _+_, _-_, _≤_, _<_}
-use native.Mathlib.Nat.{le-of-eq}
 use native.Mathlib.Omega.{arith}
 use lib.Dec.{eqb, leb, ltb}
 use lib.ListN.{length, getD, take, drop, length-take}
@@ -12,15 +10,13 @@ use lib.Seq.{getD-drop}
 use borrow.Author.Tests.{not-false, leb-true, ltb-true, ltb-false}
 use Rattle.drive_sets.specs.Bools.{by-test, and-left, and-right, cond-true, cond-false}
 use Rattle.drive_sets.specs.declared.Refusal.the-variants.{DriveNumber, CountDiffers, CrashRound, CrashSends}
-use Rattle.drive_sets.specs.Masks.{has, size}
-use Rattle.drive_sets.specs.Refusals.{Outcome, refused, result, refuseIf, andThen}
+use Rattle.drive_sets.specs.Refusals.{Outcome, result, refuseIf, andThen}
 use Rattle.drive_sets.specs.Refusals.Laws.{refused-no-result, same-result, passed, first-result}
 use Rattle.records.specs.declared.Kind.{Kind}
 use Rattle.records.specs.declared.Kind.the-variants.{End}
 use Rattle.records.specs.declared.Due.the-variants.{AtProposal, AtCrashOrEnd}
 use Rattle.records.specs.declared.Head.{Head}
 use Rattle.records.specs.declared.Head.the-variants.{Record, Refused}
-use Rattle.records.specs.Fields.{fromBytes}
 use Rattle.records.specs.Fields.Laws.{fromBytes-lt}
 use Rattle.records.specs.Marks.{mark, headOf}
 use Rattle.records.proofs.Loops.{bytes-take}

@@ -1,42 +1,31 @@
+-- The three refusals of a CR, one after the other.
 use Rattle.run_files.specs.Reading.{crashRecord}
 use Rattle.run_files.proofs.Checks.{drive-refused, round-refused, sends-refused, crash-passes}
 use borrow.Author.Needs.{needs}
 use Rattle.run_files.proofs.crashes.check_crash.Statement.{statement}
 use Rattle.run_files.proofs.crashes.check_crash.Tie as tie
-use Rattle.run_files.proofs.crashes.check_crash.Reads as reads
-use Rattle.run_files.proofs.crashes.check_crash.Lts as lts
-use Rattle.run_files.proofs.crashes.is_next.Reads as is-next-reads
-use Rattle.run_files.proofs.crashes.is_round.Reads as is-round-reads
-use Rattle.run_files.proofs.crashes.most_sends.Reads as most-sends-reads
 
--- src/crashes.rt:62:9
 is-next-requires : tie.Need-is-next-requires
 is-next-requires c κs = search needs
 
--- src/crashes.rt:63:9
 returns : tie.Need-returns
 unfolding crashRecord
 returns c = let a = c .before .before .args in drive-refused (a .n) (a .core) (a .last .0) (crashRecord (a .drive) (a .round) (a .sends)) _ (c .before .is-next .ensures) (c .if1 .taken)
 
--- src/crashes.rt:65:9
 is-round-requires : tie.Need-is-round-requires
 is-round-requires c κs = search needs
 
--- src/crashes.rt:66:9
 returns-2 : tie.Need-returns-2
 unfolding crashRecord
 returns-2 c = let a = c .before .before .before .before .args in round-refused (a .n) (a .core) (a .last .0) (crashRecord (a .drive) (a .round) (a .sends)) _ (c .before .before .before .is-next .ensures) (c .before .before .if1 .left) _ (c .before .is-round .ensures) (c .if2 .taken)
 
--- src/crashes.rt:68:8
 most-sends-requires : tie.Need-most-sends-requires
 most-sends-requires c κs = search needs
 
--- src/crashes.rt:69:9
 returns-3 : tie.Need-returns-3
 unfolding crashRecord
 returns-3 c = let a = c .before .before .before .before .before .before .args in sends-refused (a .n) (a .core) (a .last .0) (crashRecord (a .drive) (a .round) (a .sends)) _ (c .before .before .before .before .before .is-next .ensures) (c .before .before .before .before .if1 .left) _ (c .before .before .before .is-round .ensures) (c .before .before .if2 .left) _ (c .before .most-sends .ensures) (c .if3 .taken)
 
--- src/crashes.rt:59:1
 returns-4 : tie.Need-returns-4
 unfolding crashRecord
 returns-4 c = let a = c .before .before .before .before .before .before .args in crash-passes (a .n) (a .core) (a .last .0) (crashRecord (a .drive) (a .round) (a .sends)) _ (c .before .before .before .before .before .is-next .ensures) (c .before .before .before .before .if1 .left) _ (c .before .before .before .is-round .ensures) (c .before .before .if2 .left) _ (c .before .most-sends .ensures) (c .if3 .left)

@@ -1,18 +1,14 @@
+-- A drive of the frame above the last, three tests.
 use Rattle.run_files.proofs.Checks.{below-first, above-all, above-last}
 use Rattle.run_files.proofs.crashes.is_next.Statement.{statement}
 use Rattle.run_files.proofs.crashes.is_next.Tie as tie
-use Rattle.run_files.proofs.crashes.is_next.Reads as reads
-use Rattle.run_files.proofs.crashes.is_next.Lts as lts
 
--- src/crashes.rt:27:9
 returns : tie.Need-returns
 returns c = let a = c .before .args in below-first (a .n) (a .last .0) (a .drive .0) (c .if1 .taken)
 
--- src/crashes.rt:30:9
 returns-2 : tie.Need-returns-2
 returns-2 c = let a = c .before .before .args in above-all (a .n) (a .last .0) (a .drive .0) (c .if2 .taken)
 
--- src/crashes.rt:22:1
 returns-3 : tie.Need-returns-3
 returns-3 c = let a = c .before .before .before .args in above-last (a .n) (a .last .0) (a .drive .0) (c .before .before .if1 .left) (c .before .if2 .left)
 

@@ -1,41 +1,31 @@
+-- A CR: its fields, checked.
 use mathlib.Core.Path.{refl}
 use Rattle.run_files.proofs.CrashSteps.{crash-refused, crash-accepted}
 use borrow.Author.Needs.{needs}
 use Rattle.run_files.proofs.listing.crash_step.Statement.{statement}
 use Rattle.run_files.proofs.listing.crash_step.Tie as tie
-use Rattle.run_files.proofs.listing.crash_step.Reads as reads
-use Rattle.run_files.proofs.listing.crash_step.Lts as lts
-use Rattle.run_files.proofs.crashes.check_crash.Reads as check-crash-reads
 
--- src/listing.rt:36:23
 shared-slice-read-sends : tie.Need-shared-slice-read-sends
 shared-slice-read-sends c = search needs
 
--- src/listing.rt:37:23
 shared-slice-read-sends-2 : tie.Need-shared-slice-read-sends-2
 shared-slice-read-sends-2 c = search needs
 
--- src/listing.rt:38:17
 shared-slice-read-sends-3 : tie.Need-shared-slice-read-sends-3
 shared-slice-read-sends-3 c = search needs
 
--- src/listing.rt:39:9
 check-crash-requires : tie.Need-check-crash-requires
 check-crash-requires c κs = search needs
 
--- src/listing.rt:41:25
 enum-known-answer : tie.Need-enum-known-answer
 enum-known-answer c = search needs
 
--- src/listing.rt:42:29
 enum-told : tie.Need-enum-told
 enum-told c = search needs
 
--- src/listing.rt:32:1
 returns : tie.Need-returns
 returns c = let a = c .before .before .before .before .before .before .before .before .args in crash-refused (a .n) (a .core) (a .last .0) (a .s .now) (c .before .before .before .before .before .before .before .before .pre) _ _ _ refl refl refl _ (c .before .before .before .check-crash .ensures) _ (c .before .answer .given .1)
 
--- src/listing.rt:32:1
 returns-2 : tie.Need-returns-2
 returns-2 c = let a = c .before .before .before .before .before .before .before .args in crash-accepted (a .n) (a .core) (a .last .0) (a .s .now) (c .before .before .before .before .before .before .before .pre) _ _ _ refl refl refl _ (c .before .before .check-crash .ensures) (c .enum-told .given .1)
 

@@ -1,20 +1,15 @@
+-- The end: its count is that of the crashes listed, or differs.
 use Rattle.run_files.proofs.CrashSteps.{count-same, count-differs}
 use borrow.Author.Needs.{needs}
 use Rattle.run_files.proofs.listing.end_step.Statement.{statement}
 use Rattle.run_files.proofs.listing.end_step.Tie as tie
-use Rattle.run_files.proofs.listing.end_step.Reads as reads
-use Rattle.run_files.proofs.listing.end_step.Lts as lts
-use Rattle.records.proofs.field.Reads as field-reads
 
--- src/listing.rt:50:8
 field-requires : tie.Need-field-requires
 field-requires c κs = search needs
 
--- src/listing.rt:47:1
 returns : tie.Need-returns
 returns c = count-same (c .before .before .before .args .s .now) (c .before .before .before .args .count) (c .before .field .result) (c .before .field .ensures) (c .if1 .taken)
 
--- src/listing.rt:47:1
 returns-2 : tie.Need-returns-2
 returns-2 c = count-differs (c .before .before .before .args .s .now) (c .before .before .before .args .count) (c .before .field .result) (c .before .field .ensures) (c .if1 .left)
 

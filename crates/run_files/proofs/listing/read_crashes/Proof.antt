@@ -1,3 +1,4 @@
+-- The loop over the records after drive n's PR: what is left to read gives what the whole gives.
 use mathlib.Core.Path.{_∙_}
 use native.Mathlib.Omega.{arith}
 use Prim.Native.Nat.{_-_}
@@ -7,12 +8,6 @@ use Rattle.run_files.proofs.CrashLoop.{Listing, refused-outcome, listin
 use borrow.Author.Needs.{needs}
 use Rattle.run_files.proofs.listing.read_crashes.Statement.{statement}
 use Rattle.run_files.proofs.listing.read_crashes.Tie as tie
-use Rattle.run_files.proofs.listing.read_crashes.Reads as reads
-use Rattle.run_files.proofs.listing.read_crashes.Lts as lts
-use Rattle.run_files.proofs.listing.next_step.Reads as next-step-reads
-use Rattle.run_files.proofs.listing.none.Reads as none-reads
-use Rattle.run_files.proofs.listing.note.Reads as note-reads
-use Rattle.run_files.proofs.listing.refused.Reads as refused-reads
 
 abbrev Inv-loop : tie.InvT-loop
 Inv-loop s n core crashes₀ last₀ count₀ at₀ crashes last count at = Listing s n core crashes (last .0) count at
@@ -20,76 +15,58 @@ Inv-loop s n core crashes₀ last₀ count₀ at₀ crashes last count at = List
 abbrev μ-loop : tie.MeasureT-loop
 μ-loop s n core crashes₀ last₀ count₀ at₀ crashes last count at = n - last .0
 
--- src/listing.rt:116:9
 none-requires : tie.Need-none-requires Inv-loop μ-loop
 none-requires c κs = search needs
 
--- src/listing.rt:120:5
 loop-holds : tie.Need-loop-holds Inv-loop μ-loop
 loop-holds c = let a = c .before .before .args in listing-start (a .s .now) (a .n) (a .core) _ (c .none .ensures .0) (c .none .ensures .1) (c .none .ensures .2)
 
--- src/listing.rt:121:30
 sub-next-step : tie.Need-sub-next-step Inv-loop μ-loop
 sub-next-step c = search needs
 
--- src/listing.rt:121:30
 part-next-step-start : tie.Need-part-next-step-start Inv-loop μ-loop
 part-next-step-start c = search needs
 
--- src/listing.rt:121:30
 part-next-step-end : tie.Need-part-next-step-end Inv-loop μ-loop
 part-next-step-end c = search needs
 
--- src/listing.rt:121:13
 next-step-requires : tie.Need-next-step-requires Inv-loop μ-loop
 next-step-requires c κs = search needs
 
--- src/listing.rt:123:24
 enum-known-next : tie.Need-enum-known-next Inv-loop μ-loop
 enum-known-next c = search needs
 
--- src/listing.rt:123:30
 refused-requires : tie.Need-refused-requires Inv-loop μ-loop
 refused-requires c κs = search needs
 
--- src/listing.rt:123:30
 returns : tie.Need-returns Inv-loop μ-loop
 returns c = let l = c .before .before .before .before .before .before .loop in let a = c .before .before .before .before .before .before .before .before .before .args in refused-outcome _ _ _ (c .refused .ensures) ∙ listing-stop (a .s .now) (a .n) (a .core) (l .crashes) (l .last .0) (l .count) (l .at) (l .inv) _ (from-part (a .n) (a .core) (l .last .0) (l .count) (a .s .now) (l .at) _ _ (c .before .before .next .given .1) (c .before .before .before .before .next-step .ensures))
 
--- src/listing.rt:126:29
 enum-told : tie.Need-enum-told Inv-loop μ-loop
 enum-told c = search needs
 
--- src/listing.rt:128:27
 add-t18 : tie.Need-add-t18 Inv-loop μ-loop
 add-t18 c = let l = c .before .before .before .before .loop in let a = c .before .before .before .before .before .before .before .args in omega (arith, end-within (a .s .now) (a .n) (a .core) (l .crashes) (l .last .0) (l .count) (l .at) (l .inv) (from-part (a .n) (a .core) (l .last .0) (l .count) (a .s .now) (l .at) _ _ (c .enum-told .given .1) (c .before .before .next-step .ensures)))
 
--- src/listing.rt:125:17
 returns-2 : tie.Need-returns-2 Inv-loop μ-loop
 unfolding crashesOutcome
 returns-2 c = let l = c .before .before .before .before .loop in let a = c .before .before .before .before .before .before .before .args in listing-end (a .s .now) (a .n) (a .core) (l .crashes) (l .last .0) (l .count) (l .at) (l .inv) (from-part (a .n) (a .core) (l .last .0) (l .count) (a .s .now) (l .at) _ _ (c .enum-told .given .1) (c .before .before .next-step .ensures))
 
--- src/listing.rt:131:25
 enum-known-next-2 : tie.Need-enum-known-next-2 Inv-loop μ-loop
 enum-known-next-2 c = search needs
 
--- src/listing.rt:132:17
 note-requires : tie.Need-note-requires Inv-loop μ-loop
 note-requires c κs = let l = c .before .before .before .before .before .loop in let a = c .before .before .before .before .before .before .before .before .args in let w = crash-bounds (a .s .now) (a .n) (a .core) (l .crashes) (l .last .0) (l .count) (l .at) (l .inv) _ _ _ (from-part (a .n) (a .core) (l .last .0) (l .count) (a .s .now) (l .at) _ _ (c .before .next2 .given .1) (c .before .before .before .next-step .ensures)) in (w .0, omega (arith, w .1, c .before .before .before .before .before .before .before .before .pre))
 
--- src/listing.rt:134:17
 add-count : tie.Need-add-count Inv-loop μ-loop
 add-count c = let l = c .before .before .before .before .before .before .loop in let a = c .before .before .before .before .before .before .before .before .before .args in omega (arith, l .inv .few, l .inv .upTo, c .before .before .before .before .before .before .before .before .before .pre)
 
--- src/listing.rt:135:17
 add-at : tie.Need-add-at Inv-loop μ-loop
 add-at c = let l = c .before .before .before .before .before .before .loop in let a = c .before .before .before .before .before .before .before .before .before .args in omega (arith, crash-within (a .s .now) (a .n) (a .core) (l .crashes) (l .last .0) (l .count) (l .at) (l .inv) _ _ _ (from-part (a .n) (a .core) (l .last .0) (l .count) (a .s .now) (l .at) _ _ (c .before .before .next2 .given .1) (c .before .before .before .before .next-step .ensures)))
 
--- src/listing.rt:120:5
 loop-less : tie.Need-loop-less Inv-loop μ-loop
 loop-less c = let l = c .before .before .before .before .before .before .loop in let a = c .before .before .before .before .before .before .before .before .before .args in omega (arith, crash-bounds (a .s .now) (a .n) (a .core) (l .crashes) (l .last .0) (l .count) (l .at) (l .inv) _ _ _ (from-part (a .n) (a .core) (l .last .0) (l .count) (a .s .now) (l .at) _ _ (c .before .before .next2 .given .1) (c .before .before .before .before .next-step .ensures)))
 
--- src/listing.rt:120:5
 loop-again : tie.Need-loop-again Inv-loop μ-loop
 loop-again c = let l = c .before .before .before .before .before .before .loop in let a = c .before .before .before .before .before .before .before .before .before .args in rw (c .note .ensures) (listing-turn (a .s .now) (a .n) (a .core) (l .crashes) (l .last .0) (l .count) (l .at) (l .inv) _ _ _ (from-part (a .n) (a .core) (l .last .0) (l .count) (a .s .now) (l .at) _ _ (c .before .before .next2 .given .1) (c .before .before .before .before .next-step .ensures)) (c .before .before .before .before .before .before .before .before .before .pre))
 

@@ -1,3 +1,4 @@
+-- A pattern number of two bytes.
 use mathlib.Core.Path.{ap₂, _∙_}
 use Prim.Native.Nat.{ℕ, _+_, _*_}
 use native.Mathlib.Omega.{arith}
@@ -5,35 +6,25 @@ use Rattle.run_files.proofs.ProposalSteps.{two-bytes}
 use borrow.Author.Needs.{needs}
 use Rattle.run_files.proofs.proposals.pattern_at.Statement.{statement}
 use Rattle.run_files.proofs.proposals.pattern_at.Tie as tie
-use Rattle.run_files.proofs.proposals.pattern_at.Reads as reads
-use Rattle.run_files.proofs.proposals.pattern_at.Lts as lts
-use Rattle.run_files.proofs.proposals.wide.Reads as wide-reads
 
--- src/proposals.rt:49:20
 shared-slice-read-wide : tie.Need-shared-slice-read-wide
 shared-slice-read-wide c = search needs
 
--- src/proposals.rt:49:9
 wide-requires : tie.Need-wide-requires
 wide-requires c κs = search needs
 
--- src/proposals.rt:50:21
 shared-slice-read-wide-2 : tie.Need-shared-slice-read-wide-2
 shared-slice-read-wide-2 c = search needs
 
--- src/proposals.rt:50:9
 wide-requires-2 : tie.Need-wide-requires-2
 wide-requires-2 c κs = search needs
 
--- src/proposals.rt:51:19
 mul-t7 : tie.Need-mul-t7
 mul-t7 c = omega (arith, c .wide2 .ensures, c .before .shared-slice-known3 .given 4)
 
--- src/proposals.rt:51:13
 add-t8 : tie.Need-add-t8
 add-t8 c = omega (arith, c .wide2 .ensures, c .before .shared-slice-known3 .given 4, c .before .before .wide .ensures, c .before .shared-slice-known3 .given 3)
 
--- src/proposals.rt:45:1
 returns : tie.Need-returns
 returns c = let a = c .before .before .before .before .before .args in ap₂ (λ (x y : ℕ). x + 256 * y) (c .before .before .wide .ensures) (c .wide2 .ensures) ∙ two-bytes (a .s .now) 3 (omega (arith, c .before .before .before .before .before .pre))
 

@@ -1,3 +1,4 @@
+-- The loop over the PR records: what is left to read gives what the whole gives.
 use mathlib.Core.Path.{refl, _∙_}
 use native.Mathlib.Omega.{arith}
 use Prim.Native.Nat.{_-_, _+_}
@@ -6,10 +7,6 @@ use Rattle.run_files.proofs.ProposalSteps.{Proposing, refused-outcome, 
 use borrow.Author.Needs.{needs}
 use Rattle.run_files.proofs.proposals.read_proposals.Statement.{statement}
 use Rattle.run_files.proofs.proposals.read_proposals.Tie as tie
-use Rattle.run_files.proofs.proposals.read_proposals.Reads as reads
-use Rattle.run_files.proofs.proposals.read_proposals.Lts as lts
-use Rattle.run_files.proofs.proposals.next_proposal.Reads as next-proposal-reads
-use Rattle.run_files.proofs.proposals.refused.Reads as refused-reads
 
 abbrev Inv-loop : tie.InvT-loop
 Inv-loop s n numbers₀ given₀ at₀ numbers given at = Proposing s n numbers given at
@@ -17,75 +14,57 @@ Inv-loop s n numbers₀ given₀ at₀ numbers given at = Proposing s n numbers 
 abbrev μ-loop : tie.MeasureT-loop
 μ-loop s n numbers₀ given₀ at₀ numbers given at = n - given
 
--- src/proposals.rt:79:5
 loop-holds : tie.Need-loop-holds Inv-loop μ-loop
 loop-holds c = let a = c .before .args in proposing-start (a .s .now) (a .n) _ refl
 
--- src/proposals.rt:80:34
 sub-next-proposal : tie.Need-sub-next-proposal Inv-loop μ-loop
 sub-next-proposal c = search needs
 
--- src/proposals.rt:80:34
 part-next-proposal-start : tie.Need-part-next-proposal-start Inv-loop μ-loop
 part-next-proposal-start c = search needs
 
--- src/proposals.rt:80:34
 part-next-proposal-end : tie.Need-part-next-proposal-end Inv-loop μ-loop
 part-next-proposal-end c = search needs
 
--- src/proposals.rt:80:50
 add-t14 : tie.Need-add-t14 Inv-loop μ-loop
 add-t14 c = omega (arith, c .before .before .before .before .pre)
 
--- src/proposals.rt:80:13
 next-proposal-requires : tie.Need-next-proposal-requires Inv-loop μ-loop
 next-proposal-requires c κs = search needs
 
--- src/proposals.rt:82:28
 enum-known-next : tie.Need-enum-known-next Inv-loop μ-loop
 enum-known-next c = search needs
 
--- src/proposals.rt:82:34
 refused-requires : tie.Need-refused-requires Inv-loop μ-loop
 refused-requires c κs = search needs
 
--- src/proposals.rt:82:34
 returns : tie.Need-returns Inv-loop μ-loop
 returns c = let l = c .before .before .before .before .before .before .before .loop in let a = c .before .before .before .before .before .before .before .before .before .args in (refused-outcome (a .n) _ _ _ (c .refused .ensures .0) ∙ proposing-stop (a .s .now) (a .n) (l .numbers) (l .given) (l .at) (l .inv) (c .before .before .before .before .before .before .loop-test .taken) (c .before .before .before .before .before .before .before .before .before .pre) _ (from-part (l .given + 1) (a .s .now) (l .at) _ _ (c .before .before .next .given .1) (c .before .before .before .before .next-proposal .ensures)), omega (arith, c .refused .ensures))
 
--- src/proposals.rt:83:30
 enum-known-next-2 : tie.Need-enum-known-next-2 Inv-loop μ-loop
 enum-known-next-2 c = search needs
 
--- src/proposals.rt:84:25
 cast-numbers : tie.Need-cast-numbers Inv-loop μ-loop
 cast-numbers c = search needs
 
--- src/proposals.rt:84:17
 mul-numbers : tie.Need-mul-numbers Inv-loop μ-loop
 mul-numbers c = omega (arith, c .before .before .before .before .before .before .before .before .pre)
 
--- src/proposals.rt:84:17
 array-write-numbers : tie.Need-array-write-numbers Inv-loop μ-loop
 array-write-numbers c = omega (arith, c .before .before .before .before .before .before .before .before .pre)
 
--- src/proposals.rt:85:17
 add-given : tie.Need-add-given Inv-loop μ-loop
 add-given c = omega (arith, c .before .before .before .before .before .before .before .before .pre)
 
--- src/proposals.rt:86:17
 add-at : tie.Need-add-at Inv-loop μ-loop
 add-at c = let l = c .before .before .before .before .before .before .loop in let a = c .before .before .before .before .before .before .before .before .args in omega (arith, number-within (a .s .now) (a .n) (l .numbers) (l .given) (l .at) (l .inv) (c .before .before .before .before .before .loop-test .taken) (c .before .before .before .before .before .before .before .before .pre) _ (from-part (l .given + 1) (a .s .now) (l .at) _ _ (c .before .next2 .given .1) (c .before .before .before .next-proposal .ensures)))
 
--- src/proposals.rt:79:5
 loop-less : tie.Need-loop-less Inv-loop μ-loop
 loop-less c = search needs
 
--- src/proposals.rt:79:5
 loop-again : tie.Need-loop-again Inv-loop μ-loop
 loop-again c = let l = c .before .before .before .before .before .before .loop in let a = c .before .before .before .before .before .before .before .before .args in proposing-turn (a .s .now) (a .n) (l .numbers) (l .given) (l .at) (l .inv) (c .before .before .before .before .before .loop-test .taken) (c .before .before .before .before .before .before .before .before .pre) _ (from-part (l .given + 1) (a .s .now) (l .at) _ _ (c .before .next2 .given .1) (c .before .before .before .next-proposal .ensures))
 
--- src/proposals.rt:72:1
 returns-2 : tie.Need-returns-2 Inv-loop μ-loop
 unfolding proposalsOutcome
 returns-2 c = let l = c .before .loop in let a = c .before .before .before .args in (proposing-end (a .s .now) (a .n) (l .numbers) (l .given) (l .at) (l .inv) (c .loop-test .left), l .inv .within)

@@ -1,3 +1,4 @@
+-- Every survivor set is touched, or the numbers and the crashes are given.
 use Prim.Native.Nat.{_^_, _<_}
 use mathlib.Core.Path.{_∙_}
 use Rattle.run_files.specs.Reading.{runFileOutcome}
@@ -5,24 +6,16 @@ use Rattle.run_files.proofs.Finishes.{refused-outcome, none-untouched, 
 use borrow.Author.Needs.{needs}
 use Rattle.run_files.proofs.reading.finish.Statement.{statement}
 use Rattle.run_files.proofs.reading.finish.Tie as tie
-use Rattle.run_files.proofs.reading.finish.Reads as reads
-use Rattle.run_files.proofs.reading.finish.Lts as lts
-use Rattle.run_files.proofs.reading.refused_file.Reads as refused-file-reads
-use Rattle.tables.proofs.calls.meets_all.Reads as meets-all-reads
 
--- src/reading.rt:34:8
 meets-all-requires : tie.Need-meets-all-requires
 meets-all-requires c κs = search needs
 
--- src/reading.rt:35:9
 refused-file-requires : tie.Need-refused-file-requires
 refused-file-requires c κs = search needs
 
--- src/reading.rt:35:9
 returns : tie.Need-returns
 returns c = let a = c .before .before .before .before .args in let word : a .crashes .crashed < 2 ^ 64 = search needs in λ n. refused-outcome _ _ (c .refused-file .ensures) n ∙ none-untouched (a .sets .now) (a .numbers) (a .crashes) word _ (c .before .before .meets-all .ensures) n (c .before .if1 .taken)
 
--- src/reading.rt:31:1
 returns-2 : tie.Need-returns-2
 unfolding runFileOutcome
 returns-2 c = let a = c .before .before .before .args in let word : a .crashes .crashed < 2 ^ 64 = search needs in λ n. some-untouched (a .sets .now) (a .numbers) (a .crashes) word _ (c .before .meets-all .ensures) n (c .if1 .left)

@@ -1,47 +1,34 @@
+-- The crashes refused, bytes behind the end, or the file finished.
 use mathlib.Core.Path.{_∙_}
 use Rattle.run_files.proofs.Finishes.{refused-outcome, rest-refused, rest-trailing, rest-finished}
 use borrow.Author.Needs.{needs}
 use Rattle.run_files.proofs.reading.read_rest.Statement.{statement}
 use Rattle.run_files.proofs.reading.read_rest.Tie as tie
-use Rattle.run_files.proofs.reading.read_rest.Reads as reads
-use Rattle.run_files.proofs.reading.read_rest.Lts as lts
-use Rattle.run_files.proofs.listing.read_crashes.Reads as read-crashes-reads
-use Rattle.run_files.proofs.reading.finish.Reads as finish-reads
-use Rattle.run_files.proofs.reading.refused_file.Reads as refused-file-reads
 
--- src/reading.rt:64:9
 read-crashes-requires : tie.Need-read-crashes-requires
 read-crashes-requires c κs = search needs
 
--- src/reading.rt:69:25
 enum-known-answer : tie.Need-enum-known-answer
 enum-known-answer c = search needs
 
--- src/reading.rt:69:31
 refused-file-requires : tie.Need-refused-file-requires
 refused-file-requires c κs = search needs
 
--- src/reading.rt:71:23
 enum-told : tie.Need-enum-told
 enum-told c = search needs
 
--- src/reading.rt:72:17
 refused-file-requires-2 : tie.Need-refused-file-requires-2
 refused-file-requires-2 c κs = search needs
 
--- src/reading.rt:72:17
 returns : tie.Need-returns
 returns c = let a = c .before .before .before .before .before .before .before .before .args in refused-outcome _ _ (c .refused-file2 .ensures) (a .n) ∙ rest-trailing (a .n) (a .core) (a .sets .now) (a .numbers) (a .s .now) (c .before .before .before .before .before .read-crashes .result) (c .before .before .before .before .before .read-crashes .ensures) (c .before .before .enum-told .given .1) (c .before .if1 .taken)
 
--- src/reading.rt:74:13
 finish-requires : tie.Need-finish-requires
 finish-requires c κs = search needs
 
--- src/reading.rt:60:1
 returns-2 : tie.Need-returns-2
 returns-2 c = let a = c .before .before .before .before .before .before .before .before .args in refused-outcome _ _ (c .refused-file .ensures) (a .n) ∙ rest-refused (a .n) (a .core) (a .sets .now) (a .numbers) (a .s .now) (c .before .before .before .before .before .read-crashes .result) (c .before .before .before .before .before .read-crashes .ensures) _ (c .before .before .answer .given .1)
 
--- src/reading.rt:60:1
 returns-3 : tie.Need-returns-3
 returns-3 c = let a = c .before .before .before .before .before .before .before .before .args in c .finish .ensures (a .n) ∙ rest-finished (a .n) (a .core) (a .sets .now) (a .numbers) (a .s .now) (c .before .before .before .before .before .read-crashes .result) (c .before .before .before .before .before .read-crashes .ensures) (c .before .before .enum-told .given .1) (c .before .if1 .left)
 

@@ -1,3 +1,4 @@
+-- The frame, the numbers, then the records after them.
 use lib.ListN.{take}
 use Prim.Native.Nat.{ℕ}
 use mathlib.Core.List.{List}
@@ -8,62 +9,43 @@ use Rattle.run_files.proofs.Finishes.{refused-outcome, file-no-frame, f
 use borrow.Author.Needs.{needs}
 use Rattle.run_files.proofs.reading.read_run_file.Statement.{statement}
 use Rattle.run_files.proofs.reading.read_run_file.Tie as tie
-use Rattle.run_files.proofs.reading.read_run_file.Reads as reads
-use Rattle.run_files.proofs.reading.read_run_file.Lts as lts
-use Rattle.run_files.proofs.proposals.read_proposals.Reads as read-proposals-reads
-use Rattle.run_files.proofs.reading.read_rest.Reads as read-rest-reads
-use Rattle.run_files.proofs.reading.refused_file.Reads as refused-file-reads
-use Rattle.tables.proofs.reading.is_frame.Reads as is-frame-reads
 
--- src/reading.rt:83:9
 is-frame-requires : tie.Need-is-frame-requires
 is-frame-requires c κs = search needs
 
--- src/reading.rt:84:9
 refused-file-requires : tie.Need-refused-file-requires
 refused-file-requires c κs = search needs
 
--- src/reading.rt:84:9
 returns : tie.Need-returns
 returns c = let a = c .before .before .before .before .before .args in refused-outcome _ _ (c .refused-file .ensures) (a .n) ∙ file-no-frame (a .n) (a .core) (a .sets .now) (a .s .now) _ (c .before .before .is-frame .ensures) (c .before .if1 .taken)
 
--- src/reading.rt:86:9
 read-proposals-requires : tie.Need-read-proposals-requires
 read-proposals-requires c κs = let a = c .before .before .before .before .args in frame-bound (a .n) (a .core) (a .sets .now) (a .s .now) _ (c .before .is-frame .ensures) (c .if1 .left)
 
--- src/reading.rt:91:25
 enum-known-answer : tie.Need-enum-known-answer
 enum-known-answer c = search needs
 
--- src/reading.rt:91:31
 refused-file-requires-2 : tie.Need-refused-file-requires-2
 refused-file-requires-2 c κs = search needs
 
--- src/reading.rt:92:39
 enum-told : tie.Need-enum-told
 enum-told c = search needs
 
--- src/reading.rt:92:39
 sub-read-rest : tie.Need-sub-read-rest
 sub-read-rest c = search needs
 
--- src/reading.rt:92:39
 part-read-rest-start : tie.Need-part-read-rest-start
 part-read-rest-start c = search needs
 
--- src/reading.rt:92:39
 part-read-rest-end : tie.Need-part-read-rest-end
 part-read-rest-end c = search needs
 
--- src/reading.rt:92:29
 read-rest-requires : tie.Need-read-rest-requires
 read-rest-requires c κs = let a = c .before .before .before .before .before .before .before .before .before .args in frame-bound (a .n) (a .core) (a .sets .now) (a .s .now) _ (c .before .before .before .before .before .before .is-frame .ensures) (c .before .before .before .before .before .if1 .left)
 
--- src/reading.rt:80:1
 returns-2 : tie.Need-returns-2
 returns-2 c = let a = c .before .before .before .before .before .before .before .before .before .before .args in refused-outcome _ _ (c .refused-file2 .ensures) (a .n) ∙ file-refused (a .n) (a .core) (a .sets .now) (a .s .now) _ (c .before .before .before .before .before .before .before .is-frame .ensures) (c .before .before .before .before .before .before .if1 .left) (c .before .before .before .before .before .read-proposals .result) (c .before .before .before .before .before .read-proposals .ensures .0) _ (c .before .before .answer .given .1)
 
--- src/reading.rt:80:1
 returns-3 : tie.Need-returns-3
 returns-3 c = let a = c .before .before .before .before .before .before .before .before .before .before .args in let p = c .before .before .before .before .before .read-proposals .result in c .read-rest .ensures ∙ (ap (λ (l : List ℕ). readRest (a .n) (a .core) (a .sets .now) (record { numbers = take (a .n) (p .numbers); rest = l })) (rest-is (a .s .now) (p .used)) ∙ file-rest (a .n) (a .core) (a .sets .now) (a .s .now) _ (c .before .before .before .before .before .before .before .is-frame .ensures) (c .before .before .before .before .before .before .if1 .left) p (c .before .before .before .before .before .read-proposals .ensures .0) (c .before .before .enum-told .given .1))
 

@@ -1,0 +1,42 @@
+-- The text of the run program: how each drive ends, then the core and f. On a refusal only `refused` and its number.
+use mathlib.Core.List.{List, [], _∷_, _++_}
+use Prim.Native.Nat.{ℕ, suc}
+use Rattle.drive_sets.specs.Refusals.{Outcome, refused, result, andThen, number}
+use Rattle.records.specs.Marks.{ascii}
+use Rattle.tables.specs.Tables.{chosen}
+use Rattle.tables.specs.Files.{ReadTable, readTable}
+use Rattle.runs.specs.Canonical.{Ending, decides, undecided, stopped}
+use Rattle.run_files.specs.RunFiles.{RunFile, readRunFile}
+use Rattle.simulation.specs.Simulation.{Simulated, simulated}
+use Rattle.listings.specs.Text.{decimal, hexadecimal}
+use Rattle.listings.specs.TableListing.{fields, line, refusalLine}
+
+-- how a drive ends; a drive with a CR is stopped, even if it decided before, and no other stays undecided (`simulated-agrees`)
+unfoldable pub endingText : Ending → List ℕ
+endingText (decides v r) = ascii " decides" ++ (fields decimal (v ∷ []) ++ (ascii " round" ++ fields decimal (r ∷ [])))
+endingText undecided = ascii " undecided"
+endingText stopped = ascii " stopped"
+
+-- a line for each drive, from drive d on
+unfoldable pub endingLines : ℕ → List Ending → List ℕ
+endingLines d [] = []
+endingLines d (e ∷ es) = line (ascii "drive") (fields decimal (d ∷ []) ++ endingText e) ++ endingLines (suc d) es
+
+-- the last line: the core and f
+unfoldable pub coreLine : ℕ → ℕ → List ℕ
+coreLine core stops = line (ascii "core") (fields hexadecimal (core ∷ []) ++ (ascii " stops" ++ fields decimal (stops ∷ [])))
+
+abbrev pub runText : Outcome Simulated → List ℕ
+runText (refused r) = refusalLine (number r)
+runText (result s) = endingLines 1 (s .endings) ++ coreLine (s .core) (s .stops)
+
+-- the simulated exchange of a table and the run file behind it
+unfoldable pub simulatedFile : List ℕ → Outcome Simulated
+simulatedFile input =
+    andThen (readTable input) (λ (t : ReadTable).
+    andThen (readRunFile (t .n) (chosen (t .sets)) (t .sets) (t .rest)) (λ (f : RunFile).
+    simulated (t .n) (t .sets) (f .numbers) (f .crashes)))
+
+-- what the run program prints for the bytes on its input
+unfoldable pub runProgram : List ℕ → List ℕ
+runProgram input = runText (simulatedFile input)
