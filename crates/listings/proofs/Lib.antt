@@ -3,3 +3,5 @@ pub mod Puts
 pub mod Lengths
 pub mod Prints
 pub mod ProgramTexts
+pub mod RunTexts
+pub mod RunLengths

@@ -3,5 +3,6 @@ pub mod Text
 pub mod TableListing
 pub mod RunListing
 pub mod Parts
+pub mod RunParts
 pub mod Printing
 pub mod MarkedCases

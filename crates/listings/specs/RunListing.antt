@@ -17,10 +17,13 @@ endingText (decides v r) = ascii " decides" ++ (fields decimal (v ∷ []) ++ (as
 endingText undecided = ascii " undecided"
 endingText stopped = ascii " stopped"
 
+unfoldable pub driveLine : ℕ → Ending → List ℕ
+driveLine d e = line (ascii "drive") (fields decimal (d ∷ []) ++ endingText e)
+
 -- a line for each drive, from drive d on
 unfoldable pub endingLines : ℕ → List Ending → List ℕ
 endingLines d [] = []
-endingLines d (e ∷ es) = line (ascii "drive") (fields decimal (d ∷ []) ++ endingText e) ++ endingLines (suc d) es
+endingLines d (e ∷ es) = driveLine d e ++ endingLines (suc d) es
 
 -- the last line: the core and f
 unfoldable pub coreLine : ℕ → ℕ → List ℕ

@@ -1,0 +1,87 @@
+-- How long the text of the run program can be.
+use mathlib.Core.Path.{_≡_, refl, sym, ap, _∙_, subst}
+use mathlib.Core.List.{List, [], _∷_, _++_}
+use Prim.Native.Nat.{ℕ, suc, _+_, _*_, _≤_}
+use native.Mathlib.Omega.{arith}
+use lib.ListN.{length, length-append, length-map}
+use Rattle.drive_sets.specs.Lists.Places.{length-range}
+use Rattle.drive_sets.specs.Refusals.{Outcome, refused, result, number}
+use Rattle.drive_sets.specs.Refusals.Laws.{first-result}
+use Rattle.records.specs.Marks.{ascii}
+use Rattle.tables.specs.Tables.{chosen}
+use Rattle.tables.specs.Files.{readTable}
+use Rattle.tables.specs.Files.Laws.{table-read}
+use Rattle.runs.specs.Scenario.{Scenario, frame}
+use Rattle.runs.specs.CrashRecords.{scenario}
+use Rattle.runs.specs.Canonical.{Ending, decides, undecided, stopped, endingOf, endings}
+use Rattle.run_files.specs.RunFiles.{readRunFile}
+use Rattle.simulation.specs.Simulation.{Simulated}
+use Rattle.simulation.specs.Simulation.Laws.{simulated-gives}
+use Rattle.listings.specs.Text.{inBase, decimal}
+use Rattle.listings.specs.TableListing.{refusalLine}
+use Rattle.listings.specs.RunListing.{endingText, driveLine, endingLines, coreLine, runText, simulatedFile, runProgram}
+use Rattle.listings.specs.RunParts.{named}
+use Rattle.listings.proofs.Lengths.{base-length, line-length}
+use Rattle.listings.proofs.RunTexts.{ending-says, drive-line, core-line}
+
+named-length : (word : List ℕ) (base most x : ℕ) → length (named word base most x) ≤ length word + (most + 1)
+unfolding named
+named-length word base most x = omega (arith, length-append word (32 ∷ inBase base most x), base-length base most x)
+
+ending-length : (e : Ending) → length (endingText e) ≤ 56
+unfolding endingText ascii
+ending-length (decides v r) =
+    let first = named (ascii " decides") 10 20 v in
+    let second = named (ascii " round") 10 20 r in
+    subst (λ (l : List ℕ). length l ≤ 56) (sym (ending-says v r))
+    (omega (arith, length-append first second, named-length (ascii " decides") 10 20 v, named-length (ascii " round") 10 20 r))
+ending-length undecided = omega arith
+ending-length stopped = omega arith
+
+drive-line-length : (d : ℕ) (e : Ending) → length (driveLine d e) ≤ 83
+unfolding ascii
+drive-line-length d e =
+    let head = named (ascii "drive") 10 20 d in
+    subst (λ (l : List ℕ). length l ≤ 83) (sym (drive-line d e))
+    (omega (arith, length-append (head ++ endingText e) (10 ∷ []), length-append head (endingText e), named-length (ascii "drive") 10 20 d, ending-length e))
+
+endings-length : (d : ℕ) (es : List Ending) → length (endingLines d es) ≤ 83 * length es
+unfolding endingLines
+endings-length d [] = omega arith
+endings-length d (e ∷ es) = omega (arith, length-append (driveLine d e) (endingLines (suc d) es), drive-line-length d e, endings-length (suc d) es)
+
+core-line-length : (core stops : ℕ) → length (coreLine core stops) ≤ 49
+unfolding ascii
+core-line-length core stops =
+    let first = named (ascii "core") 16 16 core in
+    let second = named (ascii " stops") 10 20 stops in
+    subst (λ (l : List ℕ). length l ≤ 49) (sym (core-line core stops))
+    (omega (arith, length-append (first ++ second) (10 ∷ []), length-append first second, named-length (ascii "core") 16 16 core, named-length (ascii " stops") 10 20 stops))
+
+-- one ending for each drive
+endings-count : (s : Scenario) → length (endings s) ≡ s .n
+unfolding endings frame
+endings-count s = length-map (frame s) (λ d. endingOf s (s .crash d) d) ∙ length-range 1 (s .n)
+
+-- the text of the run program, whatever its input
+pub run-program-length : (input : List ℕ) → length (runProgram input) ≤ 32768
+unfolding runProgram simulatedFile refusalLine decimal scenario ascii
+run-program-length input = go (simulatedFile input) refl
+  where
+    go : (o : Outcome Simulated) → simulatedFile input ≡ o → length (runText o) ≤ 32768
+    go (refused r) e = omega (arith, line-length (ascii "refused") 10 20 (number r))
+    go (result r) e =
+        let table = first-result (readTable input) _ e in
+        let t = table .0 in
+        let file = first-result (readRunFile (t .n) (chosen (t .sets)) (t .sets) (t .rest)) _ (table .2) in
+        let f = file .0 in
+        let given = simulated-gives (t .n) (t .sets) (f .numbers) (f .crashes) (file .2) in
+        let many = ap length (ap (λ (x : Simulated). x .endings) given) ∙ endings-count (scenario (t .n) (t .sets) (f .numbers) (f .crashes)) in
+        omega (
+          arith,
+          many,
+          table-read input t (table .1) .1 .high,
+          length-append (endingLines 1 (r .endings)) (coreLine (r .core) (r .stops)),
+          endings-length 1 (r .endings),
+          core-line-length (r .core) (r .stops),
+        )

@@ -1,0 +1,27 @@
+-- The parts of the run program's text, as the code writes them one after the other.
+use mathlib.Core.Bool.{Bool, cond}
+use mathlib.Core.List.{List, [], _∷_, _++_}
+use Prim.Native.Nat.{ℕ, _-_}
+use lib.Dec.{eqb}
+use lib.ListN.{getD}
+use Rattle.drive_sets.specs.Masks.{has}
+use Rattle.runs.specs.Canonical.{Ending, decides, undecided, stopped}
+use Rattle.listings.specs.Text.{inBase}
+use Rattle.listings.specs.RunListing.{driveLine}
+
+-- how a drive ends, from whether it has a CR, the round in which it decided, 0 where it has not, and the pattern number
+unfoldable pub endingFor : Bool → ℕ → ℕ → Ending
+endingFor crashes round number = cond crashes stopped (cond (eqb round 0) undecided (decides number round))
+
+-- the same from the drives with a CR, and the rounds and numbers by drive
+unfoldable pub endingAt : ℕ → List ℕ → List ℕ → ℕ → Ending
+endingAt crashed rounds numbers d = endingFor (has d crashed) (getD rounds (d - 1) 0) (getD numbers (d - 1) 0)
+
+-- the lines of some drives
+unfoldable pub driveLines : (ℕ → Ending) → List ℕ → List ℕ
+driveLines ending [] = []
+driveLines ending (d ∷ ds) = driveLine d (ending d) ++ driveLines ending ds
+
+-- a word and a number in a base, with a space between
+unfoldable pub named : List ℕ → ℕ → ℕ → ℕ → List ℕ
+named word base most x = word ++ (32 ∷ inBase base most x)
