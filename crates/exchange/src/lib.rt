@@ -333,7 +333,7 @@ fn own_numbers(own: Drive, core: u64, number: u16) -> [u16; 64]
 }
 
 // The state at opening.
-fn initial(n: u8, core: u64, own: Drive, number: Pattern) -> Exchange
+pub fn initial(n: u8, core: u64, own: Drive, number: Pattern) -> Exchange
     ensures { λ r. ⌜ r ≡ initial n core (own .0) (number .0) ⌝ }
 {
     let known = own_known(own, core);

@@ -3,3 +3,10 @@ pub mod CrashesByDrive
 pub mod Worlds
 pub mod Walks
 pub mod Closes
+pub mod Deliveries
+pub mod SentBytes
+pub mod SenderCalls
+pub mod RoundCalls
+pub mod Openings
+pub mod FirstDecisions
+pub mod AllRounds

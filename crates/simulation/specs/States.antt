@@ -1,16 +1,23 @@
 -- What the code's values say: the crashes by drive, the world of the array of states, and the drives that close.
-use mathlib.Core.Bool.{false, not, _&&_, cond}
-use mathlib.Core.List.{List, []}
+use mathlib.Core.Path.{_≡_}
+use mathlib.Core.Bool.{Bool, false, not, _&&_, cond}
+use mathlib.Core.List.{List, [], _++_, map}
 use Prim.Native.Nat.{ℕ, _-_}
 use lib.ListN.{getD}
 use Rattle.drive_sets.specs.Lists.{range, keep}
-use Rattle.drive_sets.specs.Masks.{has}
+use Rattle.drive_sets.specs.Masks.{has, single, minus, outside, drives}
+use Rattle.drive_sets.specs.Refusals.{result}
+use Rattle.hitting_sets.specs.Order.{normal}
+use Rattle.tables.specs.Tables.{normalTable}
 use Rattle.exchange.specs.declared.Exchange.{Exchange}
 use Rattle.exchange.specs.declared.Announcement.the-variants.{Absent}
 use Rattle.exchange.specs.declared.Decision.the-variants.{Undecided}
 use Rattle.exchange.specs.State.{isDrive}
-use Rattle.runs.specs.World.{World, unopened, opened, active}
-use Rattle.runs.specs.Scenario.{Crash, stays, crashes, goneBy}
+use Rattle.exchange.specs.Calls.{sending}
+use Rattle.runs.specs.World.{Call, World, unopened, opened, active}
+use Rattle.runs.specs.Scenario.{Crash, stays, crashes, Scenario, coreOf, goneBefore, goneBy, cut}
+use Rattle.runs.specs.Runs.{joined}
+use Rattle.runs.specs.Canonical.{room, deliveries}
 use Rattle.simulation.specs.declared.crashes.Crashes.{Crashes}
 
 -- the CR of a drive
@@ -45,3 +52,32 @@ worldOf n states d = cond (isDrive n d) (opened (stateAt states d)) unopened
 -- the drives that close, where they were in these states when the round began
 unfoldable pub closers : ℕ → List Exchange → Crashes → ℕ → List ℕ
 closers n began c round = keep (λ d. active (opened (stateAt began d)) && not (goneBy (crashAt c d) round)) (range 1 n)
+
+-- the list of a sender: the other core drives, then the listeners
+unfoldable pub listFor : ℕ → ℕ → ℕ → List ℕ
+listFor n core own = drives (minus core (single own)) ++ drives (outside n core)
+
+-- the drive is called to send, where it was in this state when the round began
+unfoldable pub sendsNow : ℕ → List Exchange → Crashes → ℕ → ℕ → Bool
+sendsNow core began c round d = has d core && active (opened (stateAt began d)) && not (goneBefore (crashAt c d) round)
+
+-- its messages
+unfoldable pub messagesBy : ℕ → ℕ → List Exchange → Crashes → ℕ → ℕ → List Call
+messagesBy n core began c round d =
+    cond (sendsNow core began c round d) (deliveries (sending (stateAt began d) room 0) (cut (crashAt c d) round (listFor n core d))) []
+
+-- the messages of the drives 1 to n
+unfoldable pub messagesOf : ℕ → ℕ → List Exchange → Crashes → ℕ → List Call
+messagesOf n core began c round = joined (map (messagesBy n core began c round) (range 1 n))
+
+-- the frame, the core and the crashes are those of the scenario
+pub record Says (n core : ℕ) (c : Crashes) (s : Scenario) : Type 0 where
+  pub frame-is : s .n ≡ n
+  pub core-is : coreOf s ≡ core
+  pub crash-is : (d : ℕ) → s .crash d ≡ crashAt c d
+
+-- and so is what the drives propose; the table is accepted
+pub record Told (n core : ℕ) (numbers : List ℕ) (c : Crashes) (s : Scenario) : Type 0 where
+  pub says : Says n core c s
+  pub accepted : normalTable (s .n) (s .sets) ≡ result (normal (s .sets))
+  pub proposal-is : (d : ℕ) → s .proposal d ≡ getD numbers (d - 1) 0

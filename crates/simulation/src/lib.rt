@@ -3,3 +3,8 @@
 // the call leaves is stored back.
 mod closing;
 pub mod crashes;
+mod delivering;
+pub mod noting;
+mod opening;
+mod rounds;
+mod running;

@@ -1,0 +1,37 @@
+-- The other core drives, then the listeners.
+use Rattle.simulation.proofs.Deliveries.{deliver-both}
+use borrow.Author.Needs.{needs}
+use Rattle.simulation.proofs.delivering.deliver.Statement.{statement}
+use Rattle.simulation.proofs.delivering.deliver.Tie as tie
+
+remove-requires : tie.Need-remove-requires
+remove-requires c κs = search needs
+
+deliver-to-requires : tie.Need-deliver-to-requires
+deliver-to-requires c κs = search needs
+
+left-after-requires : tie.Need-left-after-requires
+left-after-requires c κs = search needs
+
+outside-requires : tie.Need-outside-requires
+outside-requires c κs = search needs
+
+deliver-to-requires-2 : tie.Need-deliver-to-requires-2
+deliver-to-requires-2 c κs = search needs
+
+returns : tie.Need-returns
+returns c =
+    let a = c .before .before .before .before .before .before .args in
+    deliver-both (a .n) (a .core) (a .own .0) (a .sends) (a .bytes .now) (a .states) (c .before .before .before .before .before .before .pre .0) (c .before .before .before .before .before .before .pre .1) _ (c .before .before .before .before .remove .ensures) _ (c .before .before .before .deliver-to .ensures)
+    _ (c .before .before .left-after .ensures) _ (c .before .outside .ensures) _ (c .deliver-to2 .ensures)
+
+pub deliver-spec : {M : Type 1} → statement M
+deliver-spec =
+    tie.close
+    (tie.spec
+    remove-requires
+    deliver-to-requires
+    left-after-requires
+    outside-requires
+    deliver-to-requires-2
+    returns)

@@ -1,0 +1,91 @@
+-- The drives of the mask from the lowest, until the sends are used up.
+use borrow.Author.Needs.{needs}
+use Rattle.simulation.proofs.Deliveries.{Delivering, deliver-start, deliver-turn, deliver-none, deliver-end}
+use Rattle.exchange.proofs.Least.{lowest-bounds, removed-less}
+use Rattle.drive_sets.specs.Masks.{size}
+use native.Mathlib.Omega.{arith}
+use Rattle.simulation.proofs.delivering.deliver_to.Statement.{statement}
+use Rattle.simulation.proofs.delivering.deliver_to.Tie as tie
+
+abbrev Inv-loop : tie.InvT-loop
+Inv-loop bytes m sends all₀ rest₀ left₀ all rest left = Delivering bytes m sends all₀ all rest left
+
+abbrev μ-loop : tie.MeasureT-loop
+μ-loop bytes m sends all₀ rest₀ left₀ all rest left = size rest
+
+loop-holds : tie.Need-loop-holds Inv-loop μ-loop
+loop-holds c = let a = c .before .args in deliver-start (a .bytes .now) (a .m) (a .sends) (a .states) (search needs) (search needs)
+
+returns : tie.Need-returns Inv-loop μ-loop
+returns c = let a = c .before .before .before .before .args in let l = c .before .before .loop in deliver-none (a .bytes .now) (a .m) (a .sends) (a .states) (l .all) (l .rest) (l .left) (l .inv) (c .if1 .taken)
+
+lowest-requires : tie.Need-lowest-requires Inv-loop μ-loop
+lowest-requires c κs = search needs
+
+sub-at : tie.Need-sub-at Inv-loop μ-loop
+sub-at c = let l = c .before .before .before .loop in omega (arith, lowest-bounds (l .rest) _ (l .inv .word) (c .before .before .loop-test .taken) (c .lowest .ensures) .0)
+
+cast-at : tie.Need-cast-at Inv-loop μ-loop
+cast-at c = search needs
+
+mul-x : tie.Need-mul-x Inv-loop μ-loop
+mul-x c = let l = c .before .before .before .loop in omega (arith, lowest-bounds (l .rest) _ (l .inv .word) (c .before .before .loop-test .taken) (c .lowest .ensures) .1)
+
+array-copy-out-x : tie.Need-array-copy-out-x Inv-loop μ-loop
+array-copy-out-x c =
+    let l = c .before .before .before .loop in
+    let b = lowest-bounds (l .rest) _ (l .inv .word) (c .before .before .loop-test .taken) (c .lowest .ensures) in
+    omega (arith, b .0, b .1)
+
+message-requires : tie.Need-message-requires Inv-loop μ-loop
+message-requires c κs = search needs
+
+mul-all : tie.Need-mul-all Inv-loop μ-loop
+mul-all c = let l = c .before .before .before .before .before .before .loop in omega (arith, lowest-bounds (l .rest) _ (l .inv .word) (c .before .before .before .before .before .loop-test .taken) (c .before .before .before .lowest .ensures) .1)
+
+array-set-from-all : tie.Need-array-set-from-all Inv-loop μ-loop
+array-set-from-all c =
+    let l = c .before .before .before .before .before .before .loop in
+    let b = lowest-bounds (l .rest) _ (l .inv .word) (c .before .before .before .before .before .loop-test .taken) (c .before .before .before .lowest .ensures) in
+    omega (arith, b .0, b .1)
+
+remove-requires : tie.Need-remove-requires Inv-loop μ-loop
+remove-requires c κs = search needs
+
+sub-left : tie.Need-sub-left Inv-loop μ-loop
+sub-left c = search needs
+
+loop-less : tie.Need-loop-less Inv-loop μ-loop
+loop-less c = let l = c .before .before .before .before .before .before .before .loop in removed-less (l .rest) _ _ (l .inv .word) (c .before .before .before .before .before .before .loop-test .taken) (c .before .before .before .before .lowest .ensures) (c .remove .ensures)
+
+loop-again : tie.Need-loop-again Inv-loop μ-loop
+loop-again c =
+    let a = c .before .before .before .before .before .before .before .before .before .args in
+    let l = c .before .before .before .before .before .before .before .loop in
+    deliver-turn (a .bytes .now) (a .m) (a .sends) (a .states) (l .all) (l .rest) (l .left) _ _ _ (l .inv) (c .before .before .before .before .before .before .loop-test .taken) (c .before .before .before .before .before .if1 .left)
+    (c .before .before .before .before .lowest .ensures) (c .before .before .message .ensures .state) (c .remove .ensures)
+
+returns-2 : tie.Need-returns-2 Inv-loop μ-loop
+returns-2 c = let a = c .before .before .before .args in let l = c .before .loop in deliver-end (a .bytes .now) (a .m) (a .sends) (a .states) (l .all) (l .rest) (l .left) (l .inv) (c .loop-test .left)
+
+pub deliver-to-spec : {M : Type 1} → statement M
+deliver-to-spec =
+    tie.close
+    (tie.spec
+    Inv-loop
+    μ-loop
+    loop-holds
+    returns
+    lowest-requires
+    sub-at
+    cast-at
+    mul-x
+    array-copy-out-x
+    message-requires
+    mul-all
+    array-set-from-all
+    remove-requires
+    sub-left
+    loop-less
+    loop-again
+    returns-2)

@@ -1,0 +1,24 @@
+-- A decision found before, none, one in this round.
+use Rattle.simulation.proofs.FirstDecisions.{kept, still-none, found-now}
+use borrow.Author.Needs.{needs}
+use Rattle.simulation.proofs.noting.first_decision.Statement.{statement}
+use Rattle.simulation.proofs.noting.first_decision.Tie as tie
+
+returns : tie.Need-returns
+returns c = let a = c .before .args in kept (a .was) (a .number) (a .decision) (a .round .0) (c .if1 .taken)
+
+enum-told : tie.Need-enum-told
+enum-told c = search needs
+
+enum-known-decision : tie.Need-enum-known-decision
+enum-known-decision c = search needs
+
+returns-2 : tie.Need-returns-2
+returns-2 c = let a = c .before .before .before .args in still-none (a .was) (a .number) (a .decision) (a .round .0) (c .before .before .if1 .left) (c .enum-told .given .1)
+
+returns-3 : tie.Need-returns-3
+returns-3 c = let a = c .before .before .before .before .args in found-now (a .was) (a .number) (a .decision) (a .round .0) (c .before .before .before .if1 .left) _ (c .before .decision .given .1) (c .before .before .before .before .pre)
+
+pub first-decision-spec : {M : Type 1} → statement M
+first-decision-spec =
+    tie.close (tie.spec returns enum-told enum-known-decision returns-2 returns-3)

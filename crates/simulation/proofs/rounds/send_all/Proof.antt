@@ -1,0 +1,67 @@
+-- The drives one after the other.
+use borrow.Author.Needs.{needs}
+use Rattle.simulation.proofs.SenderCalls.{Sending, send-turn, send-end}
+use Rattle.simulation.proofs.Walks.{walk-start}
+use native.Mathlib.Omega.{arith}
+use Prim.Native.Nat.{_-_}
+use Rattle.simulation.proofs.rounds.send_all.Statement.{statement}
+use Rattle.simulation.proofs.rounds.send_all.Tie as tie
+
+abbrev Inv-loop : tie.InvT-loop
+Inv-loop n core crashes round states all₀ i₀ all i = Sending n core crashes (round .0) states all i
+
+abbrev μ-loop : tie.MeasureT-loop
+μ-loop n core crashes round states all₀ i₀ all i = n - i
+
+loop-holds : tie.Need-loop-holds Inv-loop μ-loop
+loop-holds c = walk-start (c .args .n) _ (c .args .t1) (search needs)
+
+cast-x : tie.Need-cast-x Inv-loop μ-loop
+cast-x c = search needs
+
+mul-x : tie.Need-mul-x Inv-loop μ-loop
+mul-x c = search needs
+
+array-copy-out-x : tie.Need-array-copy-out-x Inv-loop μ-loop
+array-copy-out-x c = search needs
+
+add-t17 : tie.Need-add-t17 Inv-loop μ-loop
+add-t17 c = search needs
+
+sent-requires : tie.Need-sent-requires Inv-loop μ-loop
+sent-requires c κs = search needs
+
+add-i : tie.Need-add-i Inv-loop μ-loop
+add-i c = search needs
+
+loop-less : tie.Need-loop-less Inv-loop μ-loop
+loop-less c = search needs
+
+loop-again : tie.Need-loop-again Inv-loop μ-loop
+loop-again c =
+    let a = c .before .before .before .before .args in
+    let l = c .before .before .before .loop in
+    send-turn (a .n) (a .core) (a .crashes) (a .round .0) (a .t1) (l .all) (l .i) _ (l .inv) (omega arith) (search needs) (c .sent .ensures)
+
+returns : tie.Need-returns Inv-loop μ-loop
+returns c =
+    let a = c .before .before .args in
+    let l = c .before .loop in
+    send-end (a .n) (a .core) (a .crashes) (a .round .0) (a .t1) (l .all) (l .i) (l .inv) (omega arith)
+
+pub send-all-spec : {M : Type 1} → statement M
+send-all-spec =
+    tie.close
+    (tie.spec
+    Inv-loop
+    μ-loop
+    loop-holds
+    cast-x
+    mul-x
+    array-copy-out-x
+    add-t17
+    sent-requires
+    add-i
+    loop-less
+    loop-again
+    returns)

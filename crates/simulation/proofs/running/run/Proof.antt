@@ -1,0 +1,78 @@
+-- The openings, then round after round.
+use borrow.Author.Needs.{needs}
+use Rattle.simulation.proofs.Openings.{world-opened}
+use Rattle.simulation.proofs.AllRounds.{Running, run-start, run-turn, run-end, all-given}
+use Rattle.drive_sets.specs.Masks.Sizes.{size-le}
+use native.Mathlib.Omega.{arith}
+use Prim.Native.Nat.{_-_}
+use mathlib.Core.Path.{_∙_}
+use Rattle.simulation.proofs.running.run.Statement.{statement}
+use Rattle.simulation.proofs.running.run.Tie as tie
+
+abbrev Inv-loop : tie.InvT-loop
+Inv-loop n core crashes states₀ found₀ last done₀ states found done = Running n core crashes states₀ states found done
+
+abbrev μ-loop : tie.MeasureT-loop
+μ-loop n core crashes states₀ found₀ last done₀ states found done = last - done
+
+open-all-requires : tie.Need-open-all-requires Inv-loop μ-loop
+open-all-requires c κs = search needs
+
+nothing-requires : tie.Need-nothing-requires Inv-loop μ-loop
+nothing-requires c κs = search needs
+
+size-requires : tie.Need-size-requires Inv-loop μ-loop
+size-requires c κs = search needs
+
+loop-holds : tie.Need-loop-holds Inv-loop μ-loop
+loop-holds c = let a = c .before .before .before .args in run-start (a .n) (a .core) (a .crashes) _ _ (c .before .nothing .ensures)
+
+cast-loop : tie.Need-cast-loop Inv-loop μ-loop
+cast-loop c = search needs
+
+add-t14 : tie.Need-add-t14 Inv-loop μ-loop
+add-t14 c = let a = c .before .before .before .before .before .args in omega (arith, c .before .before .size .ensures, size-le (a .core))
+
+one-round-requires : tie.Need-one-round-requires Inv-loop μ-loop
+one-round-requires c κs = search needs
+
+note-all-requires : tie.Need-note-all-requires Inv-loop μ-loop
+note-all-requires c κs = search needs
+
+add-done : tie.Need-add-done Inv-loop μ-loop
+add-done c = let a = c .before .before .before .before .before .before .before .args in omega (arith, c .before .before .before .before .size .ensures, size-le (a .core))
+
+loop-less : tie.Need-loop-less Inv-loop μ-loop
+loop-less c = search needs
+
+loop-again : tie.Need-loop-again Inv-loop μ-loop
+loop-again c =
+    let a = c .before .before .before .before .before .before .before .args in
+    let l = c .before .before .before .loop in
+    run-turn (a .n) (a .core) (a .crashes) _ (l .states) _ (l .found) _ (l .done) (l .inv) (omega (arith, c .before .before .before .before .size .ensures)) (c .before .one-round .ensures) (c .note-all .ensures)
+
+returns : tie.Need-returns Inv-loop μ-loop
+returns c s t d i =
+    let a = c .before .before .before .before .before .args in
+    let l = c .before .loop in
+    run-end (a .n) (a .core) (a .crashes) _ (l .states) (l .found) (l .done) (l .inv) (omega (arith, c .before .before .size .ensures)) s (t .says) d i
+    ∙ all-given (a .core) s d (t .says .core-is) _ (world-opened (a .n) (a .core) (a .numbers) (a .crashes) s t _ (c .before .before .before .before .open-all .ensures))
+
+pub run-spec : {M : Type 1} → statement M
+run-spec =
+    tie.close
+    (tie.spec
+    Inv-loop
+    μ-loop
+    open-all-requires
+    nothing-requires
+    size-requires
+    loop-holds
+    cast-loop
+    add-t14
+    one-round-requires
+    note-all-requires
+    add-done
+    loop-less
+    loop-again
+    returns)

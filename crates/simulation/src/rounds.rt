@@ -1,0 +1,88 @@
+// One round of the simulated exchange: all sends and their messages, then all closes.
+ghost use mathlib.Core.Path.{_≡_};
+ghost use mathlib.Core.Bool.{not, _&&_, cond};
+ghost use mathlib.Core.List.{[]};
+ghost use Prim.Native.Nat.{_^_, _≤_, _<_};
+ghost use Rattle.drive_sets.specs.Masks.{has};
+ghost use Rattle.exchange.specs.Calls.{sending};
+ghost use Rattle.runs.specs.World.{opened, active, applyAll};
+ghost use Rattle.runs.specs.Scenario.{Scenario, goneBefore, cut};
+ghost use Rattle.runs.specs.Canonical.{deliveries, roundCalls};
+ghost use Rattle.simulation.specs.States.{crashAt, worldOf, listFor, messagesOf, Says};
+use crate::closing;
+use crate::crashes;
+use crate::crashes::Crashes;
+use crate::delivering;
+use drive_sets::Drive;
+use drive_sets::Round;
+use exchange::Exchange;
+
+// A core drive neither halted nor gone when the round begins, where x is its state then.
+fn is_sender(x: Exchange, core: u64, crashes: Crashes, d: Drive, round: Round) -> bool
+    ensures { λ r. ⌜ r ≡ (has (d .0) core && active (opened x) && not (goneBefore (crashAt crashes (d .0)) (round .0))) ⌝ }
+{
+    if !drive_sets::has(d, core) {
+        return false;
+    }
+    if x.halted {
+        return false;
+    }
+    !crashes::gone_before(crashes, d, round)
+}
+
+// The messages of one drive, where x is its state when the round begins.
+fn sent(
+    x: Exchange,
+    states: [Exchange; 64],
+    n: u8,
+    core: u64,
+    crashes: Crashes,
+    d: Drive,
+    round: Round,
+) -> [Exchange; 64]
+    requires { ⌜ (n ≤ 64) × (core < 2 ^ n) ⌝ }
+    ensures { λ r. ⌜ worldOf n r ≡ applyAll (worldOf n states) (cond (has (d .0) core && active (opened x) && not (goneBefore (crashAt crashes (d .0)) (round .0))) (deliveries (sending x 140 0) (cut (crashAt crashes (d .0)) (round .0) (listFor n core (d .0)))) []) ⌝ }
+{
+    if !is_sender(x, core, crashes, d, round) {
+        return states;
+    }
+    let sends = crashes::sends_made(crashes, d, round);
+    delivering::send_from(x, states, n, core, d, sends)
+}
+
+// The messages of all drives, each as it knew when the round began.
+fn send_all(
+    states: [Exchange; 64],
+    n: u8,
+    core: u64,
+    crashes: Crashes,
+    round: Round,
+) -> [Exchange; 64]
+    requires { ⌜ (n ≤ 64) × (core < 2 ^ n) ⌝ }
+    ensures { λ r. ⌜ worldOf n r ≡ applyAll (worldOf n states) (messagesOf n core states crashes (round .0)) ⌝ }
+{
+    let mut all = states;
+    let mut i = 0u8;
+    while i < n {
+        let x = states[i as usize];
+        let told = sent(x, all, n, core, crashes, Drive(i + 1), round);
+        all = told;
+        i += 1;
+    }
+    all
+}
+
+// The states after a round that begins with these.
+pub fn one_round(
+    states: [Exchange; 64],
+    n: u8,
+    core: u64,
+    crashes: Crashes,
+    round: Round,
+) -> [Exchange; 64]
+    requires { ⌜ (n ≤ 64) × (core < 2 ^ n) ⌝ }
+    ensures { λ r. ⌜ ((s : Scenario) → Says n core crashes s → worldOf n r ≡ applyAll (worldOf n states) (roundCalls s (round .0) (worldOf n states))) ⌝ }
+{
+    let told = send_all(states, n, core, crashes, round);
+    closing::close_all(states, told, n, crashes, round)
+}

@@ -1,0 +1,36 @@
+// A whole exchange: the openings, then the rounds 1 to the core's size.
+ghost use mathlib.Core.Path.{_≡_};
+ghost use mathlib.Core.Bool.{true};
+ghost use Prim.Native.Nat.{ℕ, _^_, _≤_, _<_};
+ghost use Rattle.exchange.specs.State.{isDrive};
+ghost use Rattle.runs.specs.World.{nothingOpen, applyAll};
+ghost use Rattle.runs.specs.Scenario.{Scenario};
+ghost use Rattle.runs.specs.Canonical.{openingCalls, canonicalRounds, firstDecision};
+ghost use Rattle.simulation.specs.States.{Told};
+ghost use Rattle.simulation.specs.Endings.{foundOf};
+use crate::crashes::Crashes;
+use crate::noting;
+use crate::noting::Found;
+use crate::opening;
+use crate::rounds;
+use drive_sets::Round;
+
+// The first decisions of the drives 1 to n, where the table has this chosen core.
+pub fn run(n: u8, core: u64, numbers: [u16; 64], crashes: Crashes) -> Found
+    requires { ⌜ (n ≤ 64) × (core < 2 ^ n) ⌝ }
+    ensures { λ r. ⌜ ((s : Scenario) → Told n core numbers crashes s → (d : ℕ) → isDrive n d ≡ true → foundOf r d ≡ firstDecision d 1 (applyAll nothingOpen (openingCalls s)) (canonicalRounds s)) ⌝ }
+{
+    let mut states = opening::open_all(n, core, numbers);
+    let mut found = noting::nothing();
+    let last = drive_sets::size(core);
+    let mut done = 0u8;
+    while (done as u32) < last {
+        let round = Round(done + 1);
+        let next = rounds::one_round(states, n, core, crashes, round);
+        let noted = noting::note_all(found, next, n, round);
+        states = next;
+        found = noted;
+        done += 1;
+    }
+    found
+}
