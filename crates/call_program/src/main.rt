@@ -1,0 +1,144 @@
+// The call program: makes the calls of the exchange that a script on standard input lists, on one state, and prints what each gives, so that
+// a test can hold the calls to a second program.
+//
+// A script is a list of operations: one letter, then its fields, lowest byte first.
+//   L  n 1, own 1, core 8, round 1, before 8, heard 8, known 8, start 8, 64 pattern numbers of 2, announced 1 (0: none), its sender 1 and
+//      pattern number 2, decided 1 (0: not) and its pattern number 2, halted 1 (0: not): takes this state
+//   O  n 1, count of sets 1, drive 1, pattern number 2, then the sets, 8 each: opens; sets behind the 130th are left out. A refused
+//      opening leaves the state as it was
+//   S  length 2, starting place 8: sends into a buffer of that length, at most 256, filled with a5
+//   M  length 2, then so many bytes: hands over a message
+//   C  closes the round
+// Bytes that are not there count as none, and any other letter does nothing. A script has at most 65536 bytes; more are left unread.
+//
+// Each call prints a line with its answer, a send another one with its whole buffer, and every operation a line with each field of the state.
+ghost use Prim.Native.Nat.{_≤_};
+use drive_sets::Drive;
+use drive_sets::Pattern;
+use exchange::Exchange;
+use exchange::Reply;
+use libc::STDIN_FILENO;
+use tables::reading::Answer;
+
+mod printing;
+mod script;
+
+const LOAD: u8 = 76;
+
+const OPEN: u8 = 79;
+
+const SEND: u8 = 83;
+
+const MESSAGE: u8 = 77;
+
+const CLOSE: u8 = 67;
+
+// The opened state; where the opening is refused, the state before it.
+fn opened(x: Exchange, r: Reply) -> Exchange {
+    let answer = r.answer;
+    let state = r.state;
+    match answer {
+        Answer::Accepted => state,
+        Answer::Refused(_) => x,
+    }
+}
+
+// Opens from the first sets, as many as the operation counts.
+fn open_sets(x: Exchange, s: &[u8], sets: &[u64]) -> Exchange {
+    let n = script::byte(s, 1);
+    let own = Drive(script::byte(s, 3));
+    let number = Pattern(script::short(s, 4));
+    let listed = script::first_sets(sets, script::count(s));
+    let r = exchange::open(n, listed, own, number);
+    let answer = r.answer;
+    printing::print_answer(answer);
+    opened(x, r)
+}
+
+fn open(x: Exchange, s: &[u8]) -> Exchange {
+    let sets = script::sets(s);
+    open_sets(x, s, &sets)
+}
+
+// Prints what a send answers and the buffer it leaves.
+fn send_into(x: Exchange, buf: &mut [u8], start: usize) {
+    let w = exchange::sending::send(x, buf, start);
+    printing::print_writing(w);
+    printing::print_bytes(buf);
+}
+
+// Sends into the first bytes, so many or all there are.
+fn send_part(x: Exchange, buf: &mut [u8], size: usize, start: usize) {
+    if buf.len() < size {
+        send_into(x, buf, start);
+        return;
+    }
+    send_into(x, &mut buf[0..size], start);
+}
+
+fn send(x: Exchange, s: &[u8]) {
+    let size = script::short(s, 1) as usize;
+    let start = script::wide(s, 3) as usize;
+    let mut buf = [0xa5u8; 256];
+    send_part(x, &mut buf, size, start);
+}
+
+// The state that the reply has, its answer printed.
+fn replied(r: Reply) -> Exchange {
+    let answer = r.answer;
+    let state = r.state;
+    printing::print_answer(answer);
+    state
+}
+
+fn message(x: Exchange, s: &[u8]) -> Exchange {
+    let size = script::short(s, 1) as usize;
+    let bytes = script::first(tables::files::rest(s, 3), size);
+    replied(exchange::receiving::message(x, bytes))
+}
+
+// The state after the operation at the start of the bytes.
+fn step(x: Exchange, s: &[u8]) -> Exchange {
+    let letter = script::byte(s, 0);
+    match letter {
+        LOAD => script::state(s),
+        OPEN => open(x, s),
+        SEND => {
+            send(x, s);
+            x
+        }
+        MESSAGE => message(x, s),
+        CLOSE => replied(exchange::close(x)),
+        _ => x,
+    }
+}
+
+// How many bytes the operation has: at least its letter.
+fn width(s: &[u8]) -> usize
+    ensures { λ r. ⌜ (1 ≤ r) × (r ≤ 65538) ⌝ }
+{
+    let letter = script::byte(s, 0);
+    match letter {
+        LOAD => 180,
+        OPEN => 6 + 8 * (script::byte(s, 2) as usize),
+        SEND => 11,
+        MESSAGE => 3 + (script::short(s, 1) as usize),
+        _ => 1,
+    }
+}
+
+fn run(s: &[u8]) {
+    let mut x = script::state(&[]);
+    let mut at = 0;
+    while at < s.len() {
+        x = step(x, &s[at..]);
+        printing::print_state(x);
+        at += width(&s[at..]);
+    }
+}
+
+fn main() {
+    let mut input = io::large_buffer();
+    let n = io::read_full(STDIN_FILENO, &mut input);
+    run(&input[..n]);
+}

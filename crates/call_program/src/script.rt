@@ -1,0 +1,105 @@
+// The fields of a script's operations. Bytes that are not there count as none.
+use drive_sets::Drive;
+use drive_sets::Pattern;
+use drive_sets::Round;
+use exchange::Announcement;
+use exchange::Decision;
+use exchange::Exchange;
+
+pub fn byte(s: &[u8], at: usize) -> u8 {
+    (records::field(s, at, 1) % 256) as u8
+}
+
+pub fn short(s: &[u8], at: usize) -> u16 {
+    (records::field(s, at, 2) % 65536) as u16
+}
+
+pub fn wide(s: &[u8], at: usize) -> u64 {
+    records::field(s, at, 8)
+}
+
+// The first bytes, so many or all there are.
+pub fn first(s: &[u8], size: usize) -> &[u8] {
+    if s.len() < size {
+        return &s[0..];
+    }
+    &s[0..size]
+}
+
+// The first sets, so many or all there are.
+pub fn first_sets(sets: &[u64], count: usize) -> &[u64] {
+    if sets.len() < count {
+        return &sets[0..];
+    }
+    &sets[0..count]
+}
+
+// How many sets an opening lists.
+pub fn count(s: &[u8]) -> usize {
+    byte(s, 2) as usize
+}
+
+// The sets of an opening, and what stands behind them.
+pub fn sets(s: &[u8]) -> [u64; 130] {
+    let mut sets = [0u64; 130];
+    let mut i = 0;
+    while i < 130 {
+        sets[i] = wide(s, 6 + 8 * i);
+        i += 1;
+    }
+    sets
+}
+
+fn numbers(s: &[u8]) -> [u16; 64] {
+    let mut numbers = [0u16; 64];
+    let mut i = 0;
+    while i < 64 {
+        numbers[i] = short(s, 44 + 2 * i);
+        i += 1;
+    }
+    numbers
+}
+
+fn announced(s: &[u8]) -> Announcement {
+    if byte(s, 172) == 0 {
+        return Announcement::Absent;
+    }
+    Announcement::By(Drive(byte(s, 173)), Pattern(short(s, 174)))
+}
+
+fn decision(s: &[u8]) -> Decision {
+    if byte(s, 176) == 0 {
+        return Decision::Undecided;
+    }
+    Decision::Decided(Pattern(short(s, 177)))
+}
+
+// The state that an operation L has.
+pub fn state(s: &[u8]) -> Exchange {
+    let n = byte(s, 1);
+    let own = Drive(byte(s, 2));
+    let core = wide(s, 3);
+    let round = Round(byte(s, 11));
+    let before = wide(s, 12);
+    let heard = wide(s, 20);
+    let known = wide(s, 28);
+    let start = wide(s, 36);
+    let numbers = numbers(s);
+    let announced = announced(s);
+    let decision = decision(s);
+    let halted = byte(s, 179) != 0;
+    Exchange {
+        n,
+        own,
+        core,
+        round,
+        before,
+        heard,
+        known,
+        start,
+        numbers,
+        announced,
+        decision,
+        halted,
+    }
+}

@@ -1,0 +1,303 @@
+"""Scripts for the call program: exchanges as one drive sees them, with refused
+calls between, handmade states, and openings.
+"""
+
+from dataclasses import replace
+from itertools import cycle
+from random import Random
+from typing import Iterator
+
+from regdulyn import Exchange, Refusal, close, message, opening, send
+
+from .calls import MAX_BYTES, Script
+from .damage import BYTE_DAMAGE
+from .frames import accepted_table, crowded_table, full, places
+from .records import MARKS, UNKNOWN_MARKS
+from .scenarios import patterns, run_table, stop_rich_table
+
+OPERATIONS = 400
+LARGEST = 2000
+
+
+# Messages
+
+def head(rng: Random, x: Exchange, sender: int) -> bytes:
+    """Sender and round of a message, mostly due ones."""
+    round_number = rng.choice((x.round,) * 8 + (0, x.round + 1, x.round - 1, 64, 255))
+    return bytes([sender % 256, round_number % 256])
+
+
+def some_drives(rng: Random, mask: int) -> int:
+    """Any part of a set, often a small or large one."""
+    chance = rng.choice((0.1, 0.5, 0.9, 1))
+    return sum(1 << place for place in places(mask) if rng.random() < chance)
+
+
+def number_for(rng: Random, x: Exchange, place: int) -> int:
+    """Mostly the number that is held for the drive, known or not."""
+    return x.numbers[place] if rng.random() < 0.97 else rng.randrange(65536)
+
+
+def any_sender(rng: Random, x: Exchange) -> int:
+    """Mostly a core drive that is not oneself."""
+    others = [place + 1 for place in places(x.core) if place + 1 != x.own] or [x.own]
+    odd = (x.own, 0, x.n, x.n + 1, 65, 255, rng.randint(1, 64))
+    return rng.choice(others if rng.random() < 0.85 else odd)
+
+
+def made_known(rng: Random, x: Exchange) -> bytes:
+    """A KN that fits the state, or nearly."""
+    sender = any_sender(rng, x)
+    mask = some_drives(rng, x.core)
+    if rng.random() < 0.95 and 1 <= sender <= 64:
+        mask |= 1 << sender - 1
+    if rng.random() < 0.1:
+        mask |= 1 << rng.choice((rng.randrange(64), min(x.n, 63)))
+    values = [number_for(rng, x, place).to_bytes(2, "little") for place in places(mask)]
+    return b"KN" + head(rng, x, sender) + mask.to_bytes(8, "little") + b"".join(values)
+
+
+def made_decide(rng: Random, x: Exchange) -> bytes:
+    value = rng.choice((0, 65535, rng.randrange(65536)))
+    return b"DC" + head(rng, x, any_sender(rng, x)) + value.to_bytes(2, "little")
+
+
+def made_message(rng: Random, x: Exchange) -> bytes:
+    return (made_known if rng.random() < 0.6 else made_decide)(rng, x)
+
+
+def damaged_message(rng: Random, data: bytes) -> bytes:
+    """Another mark, a cut, more behind, or bytes changed."""
+    if rng.random() < 0.2:
+        data = rng.choice(MARKS + UNKNOWN_MARKS) + data[2:]
+    if rng.random() < 0.2:
+        return data[:rng.choice((0, 1, 2, 3, 4, 5, 6, 11, 12, 13, len(data) - 1))]
+    for _ in range(rng.choice((1, 1, 2))):
+        data = rng.choice(BYTE_DAMAGE)(rng, data)
+    return data
+
+
+# Calls that are mostly refused
+
+def odd_send(rng: Random, script: Script) -> None:
+    """Into a buffer that just fits, is too short, or from an odd place."""
+    x = script.state
+    due = 6 if x.decision is not None else 12 + 2 * x.known_at_start.bit_count()
+    start = rng.choice((0, 0, 1, 7, rng.randint(0, 256)))
+    length = rng.choice((0, due + start, due + start - 1, due + start + 1, 256,
+                         rng.randint(0, 256)))
+    length = max(0, min(length, 256))
+    if rng.random() < 0.1:
+        start = rng.choice((length, length + 1, 256, 257, 2 ** 32, 2 ** 63, 2 ** 64 - 1))
+    script.send(length, start)
+
+
+def refused_opening(rng: Random, script: Script) -> None:
+    """A table or a drive number that is refused."""
+    n, sets = accepted_table(rng)
+    own, pattern = rng.randint(1, n), rng.randrange(65536)
+    kind = rng.randrange(8)
+    if kind == 0:
+        n = rng.choice((0, 65, 128, 255))
+    elif kind == 1:
+        sets = []
+    elif kind == 2:
+        sets = (sets * 130)[:rng.choice((129, 130))]
+    elif kind == 3:
+        sets[rng.randrange(len(sets))] = rng.choice((0, 1 << min(n, 63), full(64)))
+        n = min(n, 63)
+    elif kind == 4:
+        n, sets = crowded_table(rng)
+    else:
+        own = rng.choice((0, n + 1, 65, 255))
+    if rng.random() < 0.2:
+        own = rng.choice((0, n + 1)) % 256
+    script.open(n, sets, own, pattern)
+
+
+def stray_call(rng: Random, script: Script, seen: list[bytes]) -> None:
+    """A call between those of an exchange."""
+    chance = rng.random()
+    if chance < 0.25:
+        odd_send(rng, script)
+    elif chance < 0.3:
+        refused_opening(rng, script)
+    elif chance < 0.5 and seen:
+        script.message(rng.choice(seen))
+    elif chance < 0.8 and seen:
+        script.message(damaged_message(rng, rng.choice(seen)))
+    elif chance < 0.9:
+        script.message(damaged_message(rng, made_message(rng, script.state)))
+    else:
+        script.message(made_message(rng, script.state))
+
+
+# Exchanges
+
+def exchange_table(rng: Random) -> tuple[int, list[int], int]:
+    """A table whose exchange is neither dull nor costly, with its core."""
+    while True:
+        n, sets, core = (stop_rich_table if rng.random() < 0.5 else run_table)(rng)
+        if core.bit_count() ** 2 * n <= LARGEST or rng.random() < 0.02:
+            return n, sets, core
+
+
+class Others:
+    """The drives of an exchange, each in its reference state."""
+
+    def __init__(self, rng: Random, n: int, sets: list[int], proposals: list[int]) -> None:
+        self.rng = rng
+        self.states = {d: opening(n, sets, d, proposals[d - 1]) for d in range(1, n + 1)}
+        self.gone: set[int] = set()
+
+    def live(self) -> list[int]:
+        return [d for d, x in self.states.items() if d not in self.gone and not x.halted]
+
+    def outputs(self, watched: int) -> list[tuple[int, int, bytes]]:
+        """Each message with its sender and receiver, in any order. A drive at
+        times stops on the way, but never the watched one."""
+        found = []
+        for sender in self.live():
+            x = self.states[sender]
+            if not x.in_core:
+                continue
+            others = [d for d in self.states if d != sender]
+            due = sorted(others, key=lambda d: (not x.core >> d - 1 & 1, d))
+            if sender != watched and self.rng.random() < 0.25:
+                self.gone.add(sender)
+                due = due[:self.rng.randint(0, len(due))]
+            data = send(x)
+            found += [(sender, receiver, data) for receiver in due]
+        self.rng.shuffle(found)
+        return found
+
+    def deliver(self, receiver: int, data: bytes) -> None:
+        try:
+            self.states[receiver] = message(self.states[receiver], data)
+        except Refusal:
+            pass
+
+    def close(self, watched: int) -> None:
+        for drive in self.live():
+            if drive != watched:
+                self.states[drive] = close(self.states[drive])
+
+
+def exchange(rng: Random, script: Script) -> None:
+    """One drive's calls in an exchange, with others between them."""
+    n, sets, core = exchange_table(rng)
+    proposals = patterns(rng, n)
+    watched = rng.choice(places(core)) + 1 if rng.random() < 0.6 else rng.randint(1, n)
+    noise = rng.choice((0, 0.2, 0.6))
+    others = Others(rng, n, sets, proposals)
+    script.open(n, sets, watched, proposals[watched - 1])
+    seen: list[bytes] = []
+    for _ in range(core.bit_count()):
+        script.send(256, rng.choice((0, 0, 100)))
+        for _, receiver, data in others.outputs(watched):
+            if receiver != watched:
+                others.deliver(receiver, data)
+                continue
+            while rng.random() < noise:
+                stray_call(rng, script, seen)
+            seen.append(data)
+            script.message(data)
+        others.close(watched)
+        script.close()
+        others.states[watched] = script.state
+        if script.state.halted:
+            break
+    if rng.random() < 0.5:
+        script.close()
+        stray_call(rng, script, seen)
+
+
+# Handmade states
+
+def fair_state(rng: Random) -> Exchange:
+    """A state that keeps every rule, and is otherwise anything."""
+    n = rng.choice((1, 2, 6, 63, 64, rng.randint(1, 64)))
+    core = some_drives(rng, full(n)) or 1 << rng.randrange(n)
+    own = rng.choice(places(core)) + 1 if rng.random() < 0.7 else rng.randint(1, n)
+    itself = core & 1 << own - 1
+    size = core.bit_count()
+    known = some_drives(rng, core) | itself
+    numbers = [rng.randrange(65536) if known >> place & 1 or rng.random() < 0.1 else 0
+               for place in range(64)]
+    heard = some_drives(rng, core)
+    announcement = (rng.choice((0, own, n, 64, 255)), rng.randrange(65536))
+    return Exchange(
+        n=n, own=own, core=core, round=rng.choice((1, size, rng.randint(1, size))),
+        heard_before=rng.choice((core, core, heard | itself, heard, 0, some_drives(rng, core))),
+        heard=rng.choice((0, heard, heard, core)), known=known,
+        known_at_start=rng.choice((known, some_drives(rng, core) | itself)), numbers=numbers,
+        announcement=announcement if rng.random() < 0.3 else None,
+        decision=rng.choice((0, 65535, rng.randrange(65536))) if rng.random() < 0.3 else None,
+        halted=rng.random() < 0.15)
+
+
+def broken_states(rng: Random) -> Iterator[Exchange]:
+    """Fair states with one rule of 28 broken, each rule in turn."""
+    for rule in cycle(range(14)):
+        x = fair_state(rng)
+        itself = 1 << x.own - 1
+        outside = full(64) & ~x.core
+        extra = 1 << rng.choice(places(outside)) if outside else 0
+        above = 1 << rng.randint(x.n, 63) if x.n < 64 else 0
+        yield (
+            replace(x, n=rng.choice((0, 65, 255))), replace(x, n=0), replace(x, core=0),
+            replace(x, core=x.core | above), replace(x, known=x.known & ~itself),
+            replace(x, known_at_start=x.known_at_start & ~itself),
+            replace(x, own=rng.choice((0, x.n + 1, 65, 255))), replace(x, own=0),
+            replace(x, round=rng.choice((0, x.core.bit_count() + 1, 255))),
+            replace(x, heard_before=x.heard_before | extra),
+            replace(x, heard=x.heard | extra), replace(x, known=x.known | extra),
+            replace(x, known_at_start=x.known_at_start | extra),
+            replace(x, core=x.core & ~(1 << rng.choice(places(x.core)))))[rule]
+
+
+def handmade(rng: Random, script: Script, broken: Iterator[Exchange]) -> None:
+    """Calls on a state that no exchange need reach."""
+    script.load(next(broken) if rng.random() < 0.3 else fair_state(rng))
+    for _ in range(rng.randint(1, 6)):
+        chance = rng.random()
+        if chance < 0.2:
+            script.close()
+        elif chance < 0.4:
+            odd_send(rng, script)
+        elif chance < 0.9:
+            script.message(made_message(rng, script.state))
+        else:
+            script.message(damaged_message(rng, made_message(rng, script.state)))
+
+
+def openings(rng: Random, script: Script) -> None:
+    """Accepted and refused ones."""
+    for _ in range(rng.randint(1, 4)):
+        if rng.random() < 0.5:
+            refused_opening(rng, script)
+        else:
+            n, sets = accepted_table(rng)
+            script.open(n, sets, rng.randint(1, n), rng.choice((0, 65535, rng.randrange(65536))))
+
+
+# Scripts
+
+def scripts(seed: int, count: int) -> Iterator[Script]:
+    """Scripts with so many operations in all, or a few more."""
+    rng = Random(seed)
+    broken = broken_states(rng)
+    while count > 0:
+        script = Script()
+        script.close()
+        while len(script.lines) < min(count, OPERATIONS) and len(script.data) < MAX_BYTES // 2:
+            chance = rng.random()
+            if chance < 0.3:
+                exchange(rng, script)
+            elif chance < 0.9:
+                handmade(rng, script, broken)
+            else:
+                openings(rng, script)
+        if len(script.data) <= MAX_BYTES:
+            count -= len(script.lines)
+            yield script
