@@ -1,7 +1,6 @@
 // The table program: reads a table on standard input and prints its listing, or the line of its refusal, and nothing else.
 //
-// A table takes at most 1286 bytes: FR, 128 SV, EN. Longer input is refused at the latest by what its first 1293 bytes hold, a 129th SV, or by
-// one byte behind EN. So input past the buffer's 4096 bytes changes nothing, and it is left unread.
+// Input behind the first 4096 bytes changes nothing (`table-program-start` in listings), and is left unread.
 use libc::STDIN_FILENO;
 use libc::STDOUT_FILENO;
 
