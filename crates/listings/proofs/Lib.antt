@@ -5,3 +5,4 @@ pub mod Prints
 pub mod ProgramTexts
 pub mod RunTexts
 pub mod RunLengths
+pub mod RunPrograms

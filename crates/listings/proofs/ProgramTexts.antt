@@ -26,10 +26,10 @@ use Rattle.tables.specs.declared.reading.Answer.the-variants as answers
 use Rattle.listings.specs.TableListing.{fields, line, refusalLine, listing, listingOf, tableProgram}
 
 -- what was read, without the cores
-abbrev bare : ReadComplete → Outcome ReadTable
+abbrev pub bare : ReadComplete → Outcome ReadTable
 bare t = result (record { n = t .table .n; sets = t .table .sets; rest = t .rest })
 
-bare-accepted : (t : ReadTable) → andThen (acceptedWith t) bare ≡ accepted t
+pub bare-accepted : (t : ReadTable) → andThen (acceptedWith t) bare ≡ accepted t
 unfolding acceptedWith completeSets withCores accepted
 bare-accepted t = go (uncrowded (t .sets))
   where
@@ -69,16 +69,20 @@ unfolding refusalLine decimal
 refused-line r k e = ap (λ (j : ℕ). line (ascii "refused") (fields (inBase 10 20) (j ∷ []))) (sym e)
 
 -- the cores that were read with a table are its cores
-pub program-cores : (s : List ℕ) (t : ReadComplete) → readWholeComplete s ≡ result t → t .table .cores ≡ cores (t .table .sets)
-unfolding readWholeComplete acceptedWith completeSets withCores
-program-cores s t e =
-    let listed = first-result (readListed s) (λ u. refuseIf (not (isEmpty (u .rest))) TrailingBytes (acceptedWith u)) e in
-    let u = listed .0 in
-    let p = passed (not (isEmpty (u .rest))) TrailingBytes (acceptedWith u) (listed .2) in
-    let made = first-result (completeSets (u .n) (u .sets)) (λ table. result (record { table = table; rest = u .rest })) (p .1) in
+pub accepted-cores : (u : ReadTable) (t : ReadComplete) → acceptedWith u ≡ result t → t .table .cores ≡ cores (t .table .sets)
+unfolding acceptedWith completeSets withCores
+accepted-cores u t e =
+    let made = first-result (completeSets (u .n) (u .sets)) (λ table. result (record { table = table; rest = u .rest })) e in
     let whole = first-result (uncrowded (u .sets)) (λ table. result (withCores (u .n) table)) (made .1) in
     let same : record { table = withCores (u .n) (whole .0); rest = u .rest } ≡ t = ap (λ (c : Complete). record { table = c; rest = u .rest }) (same-result (whole .2)) ∙ same-result (made .2) in
     subst (λ (x : ReadComplete). x .table .cores ≡ cores (x .table .sets)) same refl
+
+pub program-cores : (s : List ℕ) (t : ReadComplete) → readWholeComplete s ≡ result t → t .table .cores ≡ cores (t .table .sets)
+unfolding readWholeComplete
+program-cores s t e =
+    let listed = first-result (readListed s) (λ u. refuseIf (not (isEmpty (u .rest))) TrailingBytes (acceptedWith u)) e in
+    let u = listed .0 in
+    accepted-cores u t (passed (not (isEmpty (u .rest))) TrailingBytes (acceptedWith u) (listed .2) .1)
 
 -- ---- the answer of the reader
 
@@ -109,24 +113,29 @@ parts-of t count found long wide e f is = record {
     sets : take (count - 0) (t .table .sets) ≡ take (t .table .count) (t .table .sets)
     sets = taken-most (t .table .sets) (t .table .count) 128 count long e
 
-module _ (file : TableFile) (s : List ℕ) (e : fileOutcome file s ≡ readWholeComplete s) where
-  abbrev table : Complete
+module _ (file : TableFile) (s : List ℕ) (due : Outcome ReadComplete) (e : fileOutcome file s ≡ due) where
+  abbrev pub table : Complete
   table = record { n = file .complete .table .n; sets = setsOf (file .complete .table); cores = take (file .complete .found) (file .complete .cores) }
 
   abbrev read : Answer → Outcome ReadComplete
   read answer = andThen (outcomeOf answer table) (λ t. result (record { table = t; rest = drop (file .used) s }))
 
-  pub file-refused : (q : Refusal) → file .complete .answer ≡ answers.Refused q → tableProgram s ≡ refusalLine (number q)
+  pub read-refused : (q : Refusal) → file .complete .answer ≡ answers.Refused q → due ≡ refused q
   unfolding fileOutcome completeOutcome
-  file-refused q f = program-refused s q (sym e ∙ ap read f)
+  read-refused q f = sym e ∙ ap read f
 
-  module _ (f : file .complete .answer ≡ answers.Accepted) where
-    whole : readWholeComplete s ≡ result (record { table = table; rest = drop (file .used) s })
-    unfolding fileOutcome completeOutcome
-    whole = sym e ∙ ap read f
+  pub read-accepted : file .complete .answer ≡ answers.Accepted → due ≡ result (record { table = table; rest = drop (file .used) s })
+  unfolding fileOutcome completeOutcome
+  read-accepted f = sym e ∙ ap read f
 
-    pub file-listing : tableProgram s ≡ listing (file .complete .table .n) (setsOf (file .complete .table))
-    file-listing = program-accepted s _ whole
+-- ---- the whole reader's
 
-    pub file-cores : take (file .complete .found) (file .complete .cores) ≡ cores (setsOf (file .complete .table))
-    file-cores = program-cores s _ whole
+module _ (file : TableFile) (s : List ℕ) (e : fileOutcome file s ≡ readWholeComplete s) where
+  pub file-refused : (q : Refusal) → file .complete .answer ≡ answers.Refused q → tableProgram s ≡ refusalLine (number q)
+  file-refused q f = program-refused s q (read-refused file s _ e q f)
+
+  pub file-listing : file .complete .answer ≡ answers.Accepted → tableProgram s ≡ listing (file .complete .table .n) (setsOf (file .complete .table))
+  file-listing f = program-accepted s _ (read-accepted file s _ e f)
+
+  pub file-cores : file .complete .answer ≡ answers.Accepted → take (file .complete .found) (file .complete .cores) ≡ cores (setsOf (file .complete .table))
+  file-cores f = program-cores s _ (read-accepted file s _ e f)

@@ -19,7 +19,7 @@ use Rattle.simulation.specs.Simulation.{Simulated}
 use Rattle.simulation.specs.Simulation.Laws.{simulated-gives}
 use Rattle.listings.specs.Text.{inBase, decimal}
 use Rattle.listings.specs.TableListing.{refusalLine}
-use Rattle.listings.specs.RunListing.{endingText, driveLine, endingLines, coreLine, runText, simulatedFile, runProgram}
+use Rattle.listings.specs.RunListing.{endingText, driveLine, endingLines, coreLine, runText, simulatedWith, simulatedFile, runProgram}
 use Rattle.listings.specs.RunParts.{named}
 use Rattle.listings.proofs.Lengths.{base-length, line-length}
 use Rattle.listings.proofs.RunTexts.{ending-says, drive-line, core-line}
@@ -65,7 +65,7 @@ endings-count s = length-map (frame s) (λ d. endingOf s (s .crash d) d) ∙ len
 
 -- the text of the run program, whatever its input
 pub run-program-length : (input : List ℕ) → length (runProgram input) ≤ 32768
-unfolding runProgram simulatedFile refusalLine decimal scenario ascii
+unfolding runProgram simulatedWith simulatedFile refusalLine decimal scenario ascii
 run-program-length input = go (simulatedFile input) refl
   where
     go : (o : Outcome Simulated) → simulatedFile input ≡ o → length (runText o) ≤ 32768

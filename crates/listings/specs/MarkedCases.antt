@@ -20,7 +20,7 @@ use Rattle.run_files.specs.RunFiles.{readProposals, crashAt, readCrashes, untou
 use Rattle.simulation.specs.Simulation.{checkedCrashes, simulated}
 use Rattle.listings.specs.Text.{digit, inBase, decimal, hexadecimal}
 use Rattle.listings.specs.TableListing.{fields, line, lines, verdictLine, refusalLine, listing, tableProgram}
-use Rattle.listings.specs.RunListing.{endingText, driveLine, endingLines, coreLine, simulatedFile, runProgram}
+use Rattle.listings.specs.RunListing.{endingText, driveLine, endingLines, coreLine, simulatedWith, simulatedFile, runProgram}
 
 -- a program as a function of its input, an input, and the output that is due
 pub record Case : Type 0 where
@@ -116,5 +116,5 @@ marked =
     ∷ []
 
 pub marked-cases : AllGiven marked
-unfolding marked sv fileA fileC fileH fileI prs cr onA fileJ evaluated elem outside ofDrives hits dueAfter atEnd readSets readListed accepted readTable readWhole firstWith disjoint blocksOf verdictOn nothingOpen put afterCall onState apply applyAll active decisionOf frame coreOf goneBefore goneBy hasCrash listOf cut reach crashed isNext isRound mostSends checkedCrash crashIn scenario sendingOf sender closer coreCrashes openingCalls deliveries messageCalls roundCalls roundsFrom canonicalRounds endingOn firstDecision endingOf endings readProposals crashAt runFiles.atEnd readCrashes untouchedLeft readRest readRunFile checkedCrashes simulated digit inBase decimal hexadecimal fields line lines verdictLine refusalLine listing tableProgram endingText driveLine endingLines coreLine simulatedFile runProgram
+unfolding marked sv fileA fileC fileH fileI prs cr onA fileJ evaluated elem outside ofDrives hits dueAfter atEnd readSets readListed accepted readTable readWhole firstWith disjoint blocksOf verdictOn nothingOpen put afterCall onState apply applyAll active decisionOf frame coreOf goneBefore goneBy hasCrash listOf cut reach crashed isNext isRound mostSends checkedCrash crashIn scenario sendingOf sender closer coreCrashes openingCalls deliveries messageCalls roundCalls roundsFrom canonicalRounds endingOn firstDecision endingOf endings readProposals crashAt runFiles.atEnd readCrashes untouchedLeft readRest readRunFile checkedCrashes simulated digit inBase decimal hexadecimal fields line lines verdictLine refusalLine listing tableProgram endingText driveLine endingLines coreLine simulatedWith simulatedFile runProgram
 marked-cases = (refl, (refl, (refl, (refl, (refl, (refl, (refl, (refl, (refl, (refl, tt))))))))))

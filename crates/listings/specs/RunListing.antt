@@ -33,12 +33,13 @@ abbrev pub runText : Outcome Simulated → List ℕ
 runText (refused r) = refusalLine (number r)
 runText (result s) = endingLines 1 (s .endings) ++ coreLine (s .core) (s .stops)
 
--- the simulated exchange of a table and the run file behind it
+-- the simulated exchange of the run file behind a table, given what the table says
+unfoldable pub simulatedWith : ℕ → ℕ → List ℕ → List ℕ → Outcome Simulated
+simulatedWith n core sets rest = andThen (readRunFile n core sets rest) (λ (f : RunFile). simulated n sets (f .numbers) (f .crashes))
+
+-- of a table and the run file behind it
 unfoldable pub simulatedFile : List ℕ → Outcome Simulated
-simulatedFile input =
-    andThen (readTable input) (λ (t : ReadTable).
-    andThen (readRunFile (t .n) (chosen (t .sets)) (t .sets) (t .rest)) (λ (f : RunFile).
-    simulated (t .n) (t .sets) (f .numbers) (f .crashes)))
+simulatedFile input = andThen (readTable input) (λ (t : ReadTable). simulatedWith (t .n) (chosen (t .sets)) (t .sets) (t .rest))
 
 -- what the run program prints for the bytes on its input
 unfoldable pub runProgram : List ℕ → List ℕ

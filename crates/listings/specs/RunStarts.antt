@@ -23,7 +23,7 @@ use Rattle.runs.specs.CrashRecords.{CrashRecord, isNext, checkedCrash}
 use Rattle.run_files.specs.RunFiles.{RunFile, ReadProposals, ReadCrashes, readProposals, crashAt, atEnd, readCrashes, untouchedLeft, readRest, readRunFile}
 use Rattle.run_files.specs.RunFiles.Laws.{next-bounds}
 use Rattle.simulation.specs.Simulation.{Simulated, simulated}
-use Rattle.listings.specs.RunListing.{runText, simulatedFile, runProgram}
+use Rattle.listings.specs.RunListing.{runText, simulatedWith, simulatedFile, runProgram}
 use Rattle.listings.specs.Starts.{drop-start, field-start, head-start, Alike, no-other, at-record, by-cond, listed-start}
 
 -- ---- the CR records
@@ -151,14 +151,13 @@ run-file-start n core sets s k h =
 
 -- ---- the run program
 
-unfoldable simulatedTable : ReadTable → Outcome Simulated
-simulatedTable t =
-    andThen (readRunFile (t .n) (chosen (t .sets)) (t .sets) (t .rest)) (λ (f : RunFile). simulated (t .n) (t .sets) (f .numbers) (f .crashes))
+abbrev simulatedTable : ReadTable → Outcome Simulated
+simulatedTable t = simulatedWith (t .n) (chosen (t .sets)) (t .sets) (t .rest)
 
 -- the table's refusal 13, and then the run file
 table-start : (n : ℕ) (sets rest : List ℕ) (j : ℕ) → 700 ≤ j
     → andThen (accepted (record { n = n; sets = sets; rest = take j rest })) simulatedTable ≡ andThen (accepted (record { n = n; sets = sets; rest = rest })) simulatedTable
-unfolding accepted simulatedTable
+unfolding accepted simulatedWith
 table-start n sets rest j h = go (uncrowded sets)
   where
     go : (o : Outcome (List ℕ))
@@ -168,7 +167,7 @@ table-start n sets rest j h = go (uncrowded sets)
     go (result table) = ap (λ (o : Outcome RunFile). andThen o (λ f. simulated n table (f .numbers) (f .crashes))) (run-file-start n (chosen table) table rest j h)
 
 file-is : (s : List ℕ) → simulatedFile s ≡ andThen (readListed s) (λ t. andThen (accepted t) simulatedTable)
-unfolding simulatedFile readTable simulatedTable
+unfolding simulatedFile readTable
 file-is s = go (readListed s)
   where
     go : (o : Outcome ReadTable) → andThen (andThen o accepted) simulatedTable ≡ andThen o (λ t. andThen (accepted t) simulatedTable)

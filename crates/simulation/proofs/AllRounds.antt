@@ -13,8 +13,8 @@ use Rattle.exchange.specs.State.{isDrive}
 use Rattle.runs.specs.World.{World, nothingOpen, applyAll, decisionOf}
 use Rattle.runs.specs.Scenario.{Scenario, coreOf}
 use Rattle.runs.specs.Canonical.{openingCalls, roundCalls, roundsFrom, canonicalRounds, Ending, decides, undecided, stopped, endingOn, firstDecision}
-use Rattle.simulation.specs.declared.crashes.Crashes.{Crashes}
-use Rattle.simulation.specs.declared.noting.Found.{Found}
+use Rattle.run_files.specs.declared.crashes.Crashes.{Crashes}
+use Rattle.simulation.specs.declared.simulating.Found.{Found}
 use Rattle.simulation.specs.States.{stateAt, worldOf, Says}
 use Rattle.simulation.specs.Endings.{foundOf, orLater}
 use Rattle.simulation.proofs.Worlds.{world-at}

@@ -14,7 +14,7 @@ use Rattle.exchange.specs.Calls.{closing}
 use Rattle.exchange.specs.Replies.{stateAfter}
 use Rattle.runs.specs.World.{Call, opened, closes, active, applyAll}
 use Rattle.runs.specs.Scenario.{goneBy}
-use Rattle.simulation.specs.declared.crashes.Crashes.{Crashes}
+use Rattle.run_files.specs.declared.crashes.Crashes.{Crashes}
 use Rattle.simulation.specs.States.{crashAt, blank, stateAt, worldOf, closers}
 use Rattle.simulation.proofs.Worlds.{state-place, close-place}
 use Rattle.simulation.proofs.Walks.{Walking, callsIf, walk-turn, walk-end, calls-kept, calls-single}

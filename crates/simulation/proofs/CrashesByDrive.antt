@@ -10,7 +10,7 @@ use borrow.Author.Tests.{eq-eqb, ne-eqb, not-true, not-false}
 use Rattle.drive_sets.specs.Bools.{cond-true, cond-false}
 use Rattle.drive_sets.specs.Masks.{has}
 use Rattle.runs.specs.Scenario.{stays, crashes, goneBefore, goneBy, cut}
-use Rattle.simulation.specs.declared.crashes.Crashes.{Crashes}
+use Rattle.run_files.specs.declared.crashes.Crashes.{Crashes}
 use Rattle.simulation.specs.States.{crashAt}
 
 module _ (c : Crashes) (d : ℕ) (b : Bool) (is : b ≡ has d (c .crashed)) where

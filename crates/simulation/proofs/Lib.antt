@@ -10,3 +10,5 @@ pub mod RoundCalls
 pub mod Openings
 pub mod FirstDecisions
 pub mod AllRounds
+pub mod CrashChecks
+pub mod Results

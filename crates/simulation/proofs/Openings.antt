@@ -23,7 +23,7 @@ use Rattle.runs.specs.World.{opens, Slot, opened, World, nothingOpen, put, afte
 use Rattle.runs.specs.World.Laws.{put-same, put-other}
 use Rattle.runs.specs.Scenario.{Scenario, frame, coreOf}
 use Rattle.runs.specs.Canonical.{openingCalls}
-use Rattle.simulation.specs.declared.crashes.Crashes.{Crashes}
+use Rattle.run_files.specs.declared.crashes.Crashes.{Crashes}
 use Rattle.simulation.specs.States.{blank, stateAt, worldOf, Told}
 
 -- ---- the loop
@@ -74,7 +74,7 @@ module _ (n core : ℕ) (numbers : List ℕ) (c : Crashes) (s : Scenario) (g : T
   opening-gives d h =
       opening-accepted (s .n) (s .sets) (normal (s .sets)) d (s .proposal d) (g .accepted) (in-frame d h)
       ∙ (ap₂ (λ (m k : ℕ). result (initial m k d (s .proposal d))) (g .says .frame-is) (g .says .core-is)
-      ∙ ap (λ (v : ℕ). result (initial n core d v)) (g .proposal-is d))
+      ∙ ap (λ (v : ℕ). result (initial n core d v)) (g .proposal-is d h))
 
   after-openings : List ℕ → World → World
   after-openings ds w = applyAll w (map (λ d. opens d (s .n) (s .sets) d (s .proposal d)) ds)

@@ -22,7 +22,7 @@ use Rattle.runs.specs.World.Laws.{applyAll-append}
 use Rattle.runs.specs.Scenario.{Crash, Scenario, frame, goneBefore, goneBy, listOf, cut, reach}
 use Rattle.runs.specs.Runs.{sendingOf, sender, closer, joined}
 use Rattle.runs.specs.Canonical.{room, deliveries, messageCalls, roundCalls}
-use Rattle.simulation.specs.declared.crashes.Crashes.{Crashes}
+use Rattle.run_files.specs.declared.crashes.Crashes.{Crashes}
 use Rattle.simulation.specs.States.{crashAt, stateAt, worldOf, closers, listFor, sendsNow, messagesBy, messagesOf, Says}
 use Rattle.simulation.proofs.Worlds.{world-at}
 

@@ -15,7 +15,7 @@ use Rattle.exchange.specs.Calls.{sending}
 use Rattle.runs.specs.World.{Call, World, opened, active, applyAll}
 use Rattle.runs.specs.Scenario.{goneBefore, cut}
 use Rattle.runs.specs.Canonical.{deliveries}
-use Rattle.simulation.specs.declared.crashes.Crashes.{Crashes}
+use Rattle.run_files.specs.declared.crashes.Crashes.{Crashes}
 use Rattle.simulation.specs.States.{crashAt, blank, worldOf, listFor, sendsNow, messagesBy, messagesOf}
 use Rattle.simulation.proofs.Worlds.{state-place}
 use Rattle.simulation.proofs.Walks.{Walking, walk-turn, walk-end}

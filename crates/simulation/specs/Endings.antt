@@ -1,10 +1,17 @@
 -- What the code's record of decisions says: how a drive ends, as far as it is known.
 use mathlib.Core.Bool.{cond}
+use mathlib.Core.List.{List, map}
 use Prim.Native.Nat.{ℕ, _-_}
 use lib.Dec.{eqb}
 use lib.ListN.{getD}
+use Rattle.drive_sets.specs.Lists.{range}
+use Rattle.drive_sets.specs.Masks.{has}
+use Rattle.drive_sets.specs.Refusals.{Outcome}
+use Rattle.tables.specs.Reading.{outcomeOf}
 use Rattle.runs.specs.Canonical.{Ending, decides, undecided, stopped}
-use Rattle.simulation.specs.declared.noting.Found.{Found}
+use Rattle.simulation.specs.declared.simulating.Found.{Found}
+use Rattle.simulation.specs.declared.simulating.Simulated as answers
+use Rattle.simulation.specs.Simulation.{Simulated}
 
 -- from a round, 0 where the drive has not decided, and a pattern number
 unfoldable pub endingBy : ℕ → ℕ → Ending
@@ -18,3 +25,12 @@ unfoldable pub orLater : Ending → Ending → Ending
 orLater (decides v r) later = decides v r
 orLater undecided later = later
 orLater stopped later = stopped
+
+-- ---- the answer of the call
+
+-- how the drives 1 to n end: a drive with a CR is stopped, even if it decided before
+unfoldable pub endingsIn : ℕ → answers.Simulated → List Ending
+endingsIn n r = map (λ d. cond (has d (r .crashed)) stopped (foundOf (r .found) d)) (range 1 n)
+
+unfoldable pub simulatedOutcome : ℕ → answers.Simulated → Outcome Simulated
+simulatedOutcome n r = outcomeOf (r .answer) (record { endings = endingsIn n r; core = r .core; stops = r .stops })

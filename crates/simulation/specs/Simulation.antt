@@ -6,7 +6,7 @@ use Rattle.drive_sets.specs.declared.Refusal.the-variants.{NoneUntouched}
 use Rattle.drive_sets.specs.Refusals.{Outcome, result, refuseIf, andThen}
 use Rattle.hitting_sets.specs.Hitting.{hits}
 use Rattle.tables.specs.Tables.{chosen, normalTable}
-use Rattle.runs.specs.Scenario.{coreOf}
+use Rattle.runs.specs.Scenario.{Scenario, coreOf}
 use Rattle.runs.specs.CrashRecords.{CrashRecord, crashed, checkedCrash, scenario}
 use Rattle.runs.specs.Statement.{coreCrashes}
 use Rattle.runs.specs.Canonical.{Ending, endings}
@@ -29,10 +29,12 @@ pub record Simulated : Type 0 where
   pub core : ℕ
   pub stops : ℕ
 
+abbrev pub simulatedOf : Scenario → Simulated
+simulatedOf s = record { endings = endings s; core = coreOf s; stops = coreCrashes s }
+
 unfoldable pub simulated : ℕ → List ℕ → List ℕ → List CrashRecord → Outcome Simulated
 simulated n sets numbers crs =
-    let s = scenario n sets numbers crs in
     andThen (normalTable n sets) (λ table.
     checkedCrashes n (chosen table) 0 crs
     (refuseIf (hits sets (crashed crs)) NoneUntouched
-    (result (record { endings = endings s; core = coreOf s; stops = coreCrashes s }))))
+    (result (simulatedOf (scenario n sets numbers crs)))))

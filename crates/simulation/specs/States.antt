@@ -1,6 +1,6 @@
 -- What the code's values say: the crashes by drive, the world of the array of states, and the drives that close.
 use mathlib.Core.Path.{_≡_}
-use mathlib.Core.Bool.{Bool, false, not, _&&_, cond}
+use mathlib.Core.Bool.{Bool, true, false, not, _&&_, cond}
 use mathlib.Core.List.{List, [], _++_, map}
 use Prim.Native.Nat.{ℕ, _-_}
 use lib.ListN.{getD}
@@ -18,7 +18,7 @@ use Rattle.runs.specs.World.{Call, World, unopened, opened, active}
 use Rattle.runs.specs.Scenario.{Crash, stays, crashes, Scenario, coreOf, goneBefore, goneBy, cut}
 use Rattle.runs.specs.Runs.{joined}
 use Rattle.runs.specs.Canonical.{room, deliveries}
-use Rattle.simulation.specs.declared.crashes.Crashes.{Crashes}
+use Rattle.run_files.specs.declared.crashes.Crashes.{Crashes}
 
 -- the CR of a drive
 unfoldable pub crashAt : Crashes → ℕ → Crash
@@ -80,4 +80,4 @@ pub record Says (n core : ℕ) (c : Crashes) (s : Scenario) : Type 0 where
 pub record Told (n core : ℕ) (numbers : List ℕ) (c : Crashes) (s : Scenario) : Type 0 where
   pub says : Says n core c s
   pub accepted : normalTable (s .n) (s .sets) ≡ result (normal (s .sets))
-  pub proposal-is : (d : ℕ) → s .proposal d ≡ getD numbers (d - 1) 0
+  pub proposal-is : (d : ℕ) → isDrive n d ≡ true → s .proposal d ≡ getD numbers (d - 1) 0

@@ -9,10 +9,10 @@ ghost use Rattle.runs.specs.World.{opened, closes, active, applyAll};
 ghost use Rattle.runs.specs.Scenario.{goneBy};
 ghost use Rattle.simulation.specs.States.{crashAt, worldOf, closers};
 use crate::crashes;
-use crate::crashes::Crashes;
 use drive_sets::Drive;
 use drive_sets::Round;
 use exchange::Exchange;
+use run_files::crashes::Crashes;
 
 // The drive that was in this state when the round began closes it.
 fn is_closer(was: Exchange, crashes: Crashes, d: Drive, round: Round) -> bool

@@ -1,4 +1,4 @@
-// The crashes of a scenario by drive, and what they say of a drive in a round.
+// What the crashes of a scenario, by drive, say of a drive in a round.
 ghost use mathlib.Core.Path.{_≡_};
 ghost use mathlib.Core.List.{List};
 ghost use Prim.Native.Nat.{ℕ, _≤_, _-_};
@@ -7,15 +7,9 @@ ghost use Rattle.runs.specs.Scenario.{goneBefore, goneBy, cut};
 ghost use Rattle.simulation.specs.States.{crashAt};
 use drive_sets::Drive;
 use drive_sets::Round;
+use run_files::crashes::Crashes;
 
-// The drives with a CR, and of drive d, at place d - 1, the round and the sends.
-pub struct Crashes {
-    pub crashed: u64,
-    pub rounds: [u8; 64],
-    pub sends: [u8; 64],
-}
-
-fn byte_at(bytes: [u8; 64], d: Drive) -> u8
+pub fn byte_at(bytes: [u8; 64], d: Drive) -> u8
     requires { ⌜ (1 ≤ d .0) × (d .0 ≤ 64) ⌝ }
     ensures { λ r. ⌜ r ≡ getD bytes (d .0 - 1) 0 ⌝ }
 {

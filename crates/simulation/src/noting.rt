@@ -6,17 +6,12 @@ ghost use Rattle.exchange.specs.State.{isDrive};
 ghost use Rattle.runs.specs.Canonical.{undecided, endingOn};
 ghost use Rattle.simulation.specs.States.{stateAt};
 ghost use Rattle.simulation.specs.Endings.{endingBy, foundOf, orLater};
+use crate::simulating::Found;
 use drive_sets::Round;
 use exchange::Decision;
 use exchange::Exchange;
 
-// For each drive, drive 1 first, the round in which it decided, 0 where it has not, and the pattern number.
-pub struct Found {
-    pub rounds: [u8; 64],
-    pub numbers: [u16; 64],
-}
-
-// The same of one drive.
+// The round in which one drive decided, 0 where it has not, and the pattern number.
 struct First {
     round: u8,
     number: u16,

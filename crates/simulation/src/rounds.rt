@@ -11,11 +11,11 @@ ghost use Rattle.runs.specs.Canonical.{deliveries, roundCalls};
 ghost use Rattle.simulation.specs.States.{crashAt, worldOf, listFor, messagesOf, Says};
 use crate::closing;
 use crate::crashes;
-use crate::crashes::Crashes;
 use crate::delivering;
 use drive_sets::Drive;
 use drive_sets::Round;
 use exchange::Exchange;
+use run_files::crashes::Crashes;
 
 // A core drive neither halted nor gone when the round begins, where x is its state then.
 fn is_sender(x: Exchange, core: u64, crashes: Crashes, d: Drive, round: Round) -> bool

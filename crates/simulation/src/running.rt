@@ -8,12 +8,12 @@ ghost use Rattle.runs.specs.Scenario.{Scenario};
 ghost use Rattle.runs.specs.Canonical.{openingCalls, canonicalRounds, firstDecision};
 ghost use Rattle.simulation.specs.States.{Told};
 ghost use Rattle.simulation.specs.Endings.{foundOf};
-use crate::crashes::Crashes;
 use crate::noting;
-use crate::noting::Found;
 use crate::opening;
 use crate::rounds;
+use crate::simulating::Found;
 use drive_sets::Round;
+use run_files::crashes::Crashes;
 
 // The first decisions of the drives 1 to n, where the table has this chosen core.
 pub fn run(n: u8, core: u64, numbers: [u16; 64], crashes: Crashes) -> Found

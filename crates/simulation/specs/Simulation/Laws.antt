@@ -27,11 +27,10 @@ use Rattle.exchange.specs.State.Laws.{drive-bounds}
 use Rattle.runs.specs.Scenario.{stays, crashes, Scenario, coreOf}
 use Rattle.runs.specs.Scenario.Laws.{stays-crashes}
 use Rattle.runs.specs.CrashRecords.{CrashRecord, crashed, isNext, isRound, mostSends, checkedCrash, crashIn, scenario}
-use Rattle.runs.specs.Statement.{Passes, Valid, Untouched, coreCrashes}
-use Rattle.runs.specs.Canonical.{endings}
+use Rattle.runs.specs.Statement.{Passes, Valid, Untouched}
 use Rattle.runs.specs.Simulated.{EndsAgreed, SimulatedAgreement}
 use Rattle.agreement.specs.Simulated.{simulated-agreement}
-use Rattle.simulation.specs.Simulation.{checkedCrashes, Simulated, simulated}
+use Rattle.simulation.specs.Simulation.{checkedCrashes, Simulated, simulatedOf, simulated}
 
 -- ---- what the checks say of the records
 
@@ -117,7 +116,7 @@ module _ (n : ℕ) (sets numbers : List ℕ) (crs : List CrashRecord) {r : Simul
     table : Accepted n sets
     records : AllChecked n (chosen (normal sets)) crs
     untouched : hits sets (crashed crs) ≡ false
-    gives : r ≡ record { endings = endings given; core = coreOf given; stops = coreCrashes given }
+    gives : r ≡ simulatedOf given
 
   accept : Accept
   unfolding simulated
@@ -162,7 +161,7 @@ module _ (n : ℕ) (sets numbers : List ℕ) (crs : List CrashRecord) {r : Simul
       named-64 : (d : ℕ) → elem d (named crs) ≡ true → (1 ≤ d) × (d ≤ 64)
       named-64 d h = let b = named-bounds n (chosen (normal sets)) crs (accept .records) d h in (b .0, omega (arith, b .1, accept .table .high))
 
-  pub simulated-gives : r ≡ record { endings = endings given; core = coreOf given; stops = coreCrashes given }
+  pub simulated-gives : r ≡ simulatedOf given
   simulated-gives = accept .gives
 
   -- so every drive that stays up decides, all on one number, in a round up to f + 1

@@ -1,0 +1,168 @@
+-- What the simulated exchange gives: how each drive ends, the core and f, from the first decisions that the rounds found.
+use mathlib.Core.Path.{_≡_, refl, sym, ap, ap₂, _∙_, subst}
+use mathlib.Core.Bool.{Bool, true, false, _&&_, cond}
+use mathlib.Core.List.{List, [], _∷_, map}
+use Prim.Native.Nat.{ℕ, _-_, _^_, _≤_, _<_}
+use native.Mathlib.Omega.{arith}
+use lib.ListN.{length, getD, take}
+use lib.Seq.{getD-take}
+use lib.Dec.{eqb}
+use borrow.Author.Tests.{eqb-true, eqb-false, eq-eqb, ne-eqb}
+use Rattle.drive_sets.specs.Bools.{by-test, cond-true, cond-false}
+use Rattle.drive_sets.specs.Lists.{range, elem}
+use Rattle.drive_sets.specs.Lists.Laws.{elem-none, elem-head, elem-tail, any-true, any-false, keep-same}
+use Rattle.drive_sets.specs.Lists.Takes.{keep-keep}
+use Rattle.drive_sets.specs.Masks.{has, common, size, drives}
+use Rattle.drive_sets.specs.Masks.Laws.{has-common}
+use Rattle.drive_sets.specs.Masks.Sizes.{elem-drives, length-drives}
+use Rattle.drive_sets.specs.declared.Refusal.{Refusal}
+use Rattle.drive_sets.specs.declared.Refusal.the-variants.{NoneUntouched}
+use Rattle.drive_sets.specs.Refusals.{Outcome, refused, result, refuseIf, andThen}
+use Rattle.drive_sets.specs.Refusals.Laws.{refused-no-result, same-result, first-result}
+use Rattle.hitting_sets.specs.Hitting.{hits}
+use Rattle.hitting_sets.specs.Order.{normal}
+use Rattle.tables.specs.Tables.{chosen, normalTable, chosenCore}
+use Rattle.tables.specs.Tables.Laws.{Accepted, table-accepted, chosen-core}
+use Rattle.exchange.specs.State.{isDrive}
+use Rattle.exchange.specs.State.Laws.{drive-bounds, isDrive-range}
+use Rattle.runs.specs.World.{nothingOpen, applyAll}
+use Rattle.runs.specs.Scenario.{Crash, stays, crashes, Scenario, frame, coreOf, hasCrash}
+use Rattle.runs.specs.CrashRecords.{CrashRecord, crashed, crashIn, scenario}
+use Rattle.runs.specs.Statement.{coreCrashes}
+use Rattle.runs.specs.Canonical.{openingCalls, canonicalRounds, Ending, stopped, firstDecision, endingOf, endings}
+use Rattle.run_files.specs.declared.crashes.Crashes.{Crashes}
+use Rattle.run_files.specs.Reading as files
+use Rattle.run_files.specs.Reading.Laws.{crashed-in}
+use Rattle.simulation.specs.Simulation.{checkedCrashes, Simulated, simulatedOf, simulated}
+use Rattle.simulation.specs.States.{crashAt, Says, Told}
+
+-- ---- lists
+
+module _ {A : Type 0} where
+  map-equal : (f g : ℕ → A) (l : List ℕ) → ((x : ℕ) → elem x l ≡ true → f x ≡ g x) → map f l ≡ map g l
+  map-equal f g [] same = refl
+  map-equal f g (x ∷ l) same = ap₂ (λ (a : A) (m : List A). a ∷ m) (same x (elem-head x l)) (map-equal f g l (λ y h. same y (elem-tail y x l h)))
+
+-- ---- the result of a scenario
+
+module _ (n core : ℕ) (c : Crashes) (s : Scenario) (g : Says n core c s) where
+  -- a drive with a CR, and one with none
+  crashes-at : (d : ℕ) → has d (c .crashed) ≡ true → s .crash d ≡ crashes (getD (c .rounds) (d - 1) 0) (getD (c .sends) (d - 1) 0)
+  unfolding crashAt
+  crashes-at d t = g .crash-is d ∙ cond-true _ _ t
+
+  stays-at : (d : ℕ) → has d (c .crashed) ≡ false → s .crash d ≡ stays
+  unfolding crashAt
+  stays-at d t = g .crash-is d ∙ cond-false _ _ t
+
+  has-crash : (d : ℕ) → hasCrash (s .crash d) ≡ has d (c .crashed)
+  unfolding hasCrash
+  has-crash d = by-test (has d (c .crashed)) (λ t. ap hasCrash (crashes-at d t) ∙ sym t) (λ t. ap hasCrash (stays-at d t) ∙ sym t)
+
+  -- f
+  pub stops-counted : size (common core (c .crashed)) ≡ coreCrashes s
+  unfolding coreCrashes drives
+  stops-counted =
+      sym (length-drives (common core (c .crashed)))
+      ∙ ap length (keep-same (λ d. has d (common core (c .crashed))) (λ d. has d (coreOf s) && hasCrash (s .crash d)) (range 1 64)
+      (λ d i. has-common d core (c .crashed) ∙ ap₂ (λ (a b : Bool). a && b) (ap (has d) (sym (g .core-is))) (sym (has-crash d)))
+      ∙ sym (keep-keep (λ d. hasCrash (s .crash d)) (λ d. has d (coreOf s)) (range 1 64)))
+
+  -- the first decisions of the drives that have no CR
+  pub endings-found : (found : ℕ → Ending) → ((d : ℕ) → isDrive n d ≡ true → found d ≡ firstDecision d 1 (applyAll nothingOpen (openingCalls s)) (canonicalRounds s))
+      → map (λ d. cond (has d (c .crashed)) stopped (found d)) (range 1 n) ≡ endings s
+  unfolding endings frame endingOf
+  endings-found found same =
+      map-equal (λ d. cond (has d (c .crashed)) stopped (found d)) (λ d. endingOf s (s .crash d) d) (range 1 n)
+      (λ d i. by-test (has d (c .crashed))
+      (λ t. cond-true _ _ t ∙ sym (ap (λ (q : Crash). endingOf s q d) (crashes-at d t)))
+      (λ t. cond-false _ _ t ∙ (same d (isDrive-range n d ∙ i) ∙ sym (ap (λ (q : Crash). endingOf s q d) (stays-at d t)))))
+      ∙ ap (λ (m : ℕ). map (λ d. endingOf s (s .crash d) d) (range 1 m)) (sym (g .frame-is))
+
+  pub result-is : (found : ℕ → Ending) → ((d : ℕ) → isDrive n d ≡ true → found d ≡ firstDecision d 1 (applyAll nothingOpen (openingCalls s)) (canonicalRounds s))
+      → (stops : ℕ) → stops ≡ size (common core (c .crashed))
+      → _≡_ {A = Outcome Simulated}
+      (result (record { endings = map (λ d. cond (has d (c .crashed)) stopped (found d)) (range 1 n); core = core; stops = stops })) (result (simulatedOf s))
+  result-is found same stops e =
+      ap₂ (λ (es : List Ending) (k : ℕ). result (record { endings = es; core = core; stops = k })) (endings-found found same) (e ∙ stops-counted)
+      ∙ ap (λ (k : ℕ). result (record { endings = endings s; core = k; stops = coreCrashes s })) (sym (g .core-is))
+
+-- ---- the scenario of a call
+
+-- the CR of a drive among the records is the one at its place
+crash-listed : (c : Crashes) (l : List ℕ) (d : ℕ)
+    → crashIn (map (files.crashIn c) l) d ≡ cond (elem d l) (crashes (getD (c .rounds) (d - 1) 0) (getD (c .sends) (d - 1) 0)) stays
+unfolding crashIn elem files.crashIn
+crash-listed c [] d = sym (cond-false _ _ (elem-none d))
+crash-listed c (x ∷ l) d =
+    by-test (eqb x d)
+    (λ t. cond-true _ _ t
+    ∙ (ap (λ (y : ℕ). crashes (getD (c .rounds) (y - 1) 0) (getD (c .sends) (y - 1) 0)) (eqb-true x d t)
+    ∙ sym (cond-true _ _ (any-true (eqb d) x l (eq-eqb d x (sym (eqb-true x d t)))))))
+    (λ t. cond-false _ _ t
+    ∙ (crash-listed c l d
+    ∙ ap (λ (b : Bool). cond b (crashes (getD (c .rounds) (d - 1) 0) (getD (c .sends) (d - 1) 0)) stays)
+    (sym (any-false (eqb d) x l (ne-eqb d x (λ e. eqb-false x d t (sym e)))))))
+
+module _ (n : ℕ) (sets numbers : List ℕ) (c : Crashes) (core : ℕ) (word : c .crashed < 2 ^ 64) (e : chosenCore n sets ≡ result core) where
+  -- the table is accepted, and this is its chosen core
+  record Chose : Type 0 where
+    accepted : normalTable n sets ≡ result (normal sets)
+    table : Accepted n sets
+    core-is : chosen (normal sets) ≡ core
+
+  chose : Chose
+  unfolding chosenCore
+  chose =
+      let first = first-result (normalTable n sets) (λ t. result (chosen t)) e in
+      let table = table-accepted n sets (first .0) (first .1) in
+      record {
+        accepted = first .1 ∙ ap result (table .1);
+        table = table .0;
+        core-is = ap chosen (sym (table .1)) ∙ same-result (first .2);
+      }
+
+  pub chosen-bounds : (n ≤ 64) × (core < 2 ^ n)
+  chosen-bounds = (chose .table .high, subst (λ (x : ℕ). x < 2 ^ n) (chose .core-is) (chosen-core n sets (chose .table) .within))
+
+  pub told : Told n core numbers c (scenario n sets (take n numbers) (files.crashesIn c))
+  unfolding scenario coreOf crashAt files.crashesIn
+  told = record {
+    says = record { frame-is = refl; core-is = chose .core-is; crash-is = crash-is };
+    accepted = chose .accepted;
+    proposal-is = λ d h. let b = drive-bounds n d h in getD-take n numbers (d - 1) 0 (omega (arith, b .0, b .1));
+  }
+    where
+      crash-is : (d : ℕ) → crashIn (files.crashesIn c) d ≡ crashAt c d
+      crash-is d =
+          crash-listed c (drives (c .crashed)) d
+          ∙ ap (λ (b : Bool). cond b (crashes (getD (c .rounds) (d - 1) 0) (getD (c .sends) (d - 1) 0)) stays) (elem-drives d (c .crashed) word)
+
+  -- ---- 11, by the code's test
+
+  module _ {A : Type 0} (b : Bool) (is : b ≡ hits sets (c .crashed)) (next : Outcome A) where
+    pub all-touched : b ≡ true → refused NoneUntouched ≡ refuseIf (hits sets (crashed (files.crashesIn c))) NoneUntouched next
+    all-touched t = sym (cond-true _ _ (ap (hits sets) (crashed-in c word) ∙ (sym is ∙ t)))
+
+    pub some-untouched : b ≡ false → next ≡ refuseIf (hits sets (crashed (files.crashesIn c))) NoneUntouched next
+    some-untouched t = sym (cond-false _ _ (ap (hits sets) (crashed-in c word) ∙ (sym is ∙ t)))
+
+  -- ---- with the chosen core
+
+  pub with-core : (nums : List ℕ) (crs : List CrashRecord)
+      → checkedCrashes n core 0 crs (refuseIf (hits sets (crashed crs)) NoneUntouched (result (simulatedOf (scenario n sets nums crs)))) ≡ simulated n sets nums crs
+  unfolding simulated
+  with-core nums crs =
+      ap (λ (k : ℕ). checkedCrashes n k 0 crs (refuseIf (hits sets (crashed crs)) NoneUntouched (result (simulatedOf (scenario n sets nums crs))))) (sym (chose .core-is))
+      ∙ ap (λ (o : Outcome (List ℕ)). andThen o (λ table. checkedCrashes n (chosen table) 0 crs
+      (refuseIf (hits sets (crashed crs)) NoneUntouched (result (simulatedOf (scenario n sets nums crs)))))) (sym (chose .accepted))
+
+-- a refused table
+pub table-refused : (n : ℕ) (sets nums : List ℕ) (crs : List CrashRecord) (q : Refusal) → chosenCore n sets ≡ refused q → refused q ≡ simulated n sets nums crs
+unfolding simulated chosenCore
+table-refused n sets nums crs q e = go (normalTable n sets) e
+  where
+    go : (o : Outcome (List ℕ)) → andThen o (λ t. result (chosen t)) ≡ refused q → refused q ≡ andThen o (λ table. checkedCrashes n (chosen table) 0 crs
+        (refuseIf (hits sets (crashed crs)) NoneUntouched (result (simulatedOf (scenario n sets nums crs)))))
+    go (refused r) h = cc
+    go (result t) h = absurd (refused-no-result (sym h))

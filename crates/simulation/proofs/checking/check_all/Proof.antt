@@ -1,0 +1,66 @@
+-- The drives with a CR, from the lowest.
+use borrow.Author.Needs.{needs}
+use Rattle.simulation.proofs.CrashChecks.{Checking, check-start, check-turn, check-refused, check-end}
+use Rattle.exchange.proofs.Least.{lowest-bounds, removed-less}
+use Rattle.drive_sets.specs.Masks.{size}
+use Rattle.simulation.proofs.checking.check_all.Statement.{statement}
+use Rattle.simulation.proofs.checking.check_all.Tie as tie
+
+abbrev Inv-loop : tie.InvT-loop
+Inv-loop n core crashes rest₀ last₀ rest last = Checking n core crashes rest (last .0)
+
+abbrev μ-loop : tie.MeasureT-loop
+μ-loop n core crashes rest₀ last₀ rest last = size rest
+
+loop-holds : tie.Need-loop-holds Inv-loop μ-loop
+loop-holds c = let a = c .args in check-start (a .n) (a .core) (a .crashes) (search needs)
+
+lowest-requires : tie.Need-lowest-requires Inv-loop μ-loop
+lowest-requires c κs = search needs
+
+check-one-requires : tie.Need-check-one-requires Inv-loop μ-loop
+check-one-requires c κs = let l = c .before .before .loop in lowest-bounds (l .rest) _ (l .inv .word) (c .before .loop-test .taken) (c .lowest .ensures)
+
+enum-known-answer : tie.Need-enum-known-answer Inv-loop μ-loop
+enum-known-answer c = search needs
+
+returns : tie.Need-returns Inv-loop μ-loop
+returns c =
+    let a = c .before .before .before .before .before .before .before .args in
+    let l = c .before .before .before .before .before .before .loop in
+    check-refused (a .n) (a .core) (a .crashes) (l .rest) (l .last .0) _ (l .inv) (c .before .before .before .before .before .loop-test .taken) (c .before .before .before .before .lowest .ensures) _ (c .before .before .before .check-one .ensures) _ (c .before .answer .given .1)
+
+enum-told : tie.Need-enum-told Inv-loop μ-loop
+enum-told c = search needs
+
+remove-requires : tie.Need-remove-requires Inv-loop μ-loop
+remove-requires c κs = search needs
+
+loop-less : tie.Need-loop-less Inv-loop μ-loop
+loop-less c = let l = c .before .before .before .before .before .before .loop in removed-less (l .rest) _ _ (l .inv .word) (c .before .before .before .before .before .loop-test .taken) (c .before .before .before .before .lowest .ensures) (c .remove .ensures)
+
+loop-again : tie.Need-loop-again Inv-loop μ-loop
+loop-again c =
+    let a = c .before .before .before .before .before .before .before .args in
+    let l = c .before .before .before .before .before .before .loop in
+    check-turn (a .n) (a .core) (a .crashes) (l .rest) (l .last .0) _ (l .inv) (c .before .before .before .before .before .loop-test .taken) (c .before .before .before .before .lowest .ensures) _ (c .before .before .before .check-one .ensures) (c .before .enum-told .given .1) _ (c .remove .ensures)
+
+returns-2 : tie.Need-returns-2 Inv-loop μ-loop
+returns-2 c = let a = c .before .before .args in let l = c .before .loop in check-end (a .n) (a .core) (a .crashes) (l .rest) (l .last .0) (l .inv) (c .loop-test .left)
+
+pub check-all-spec : {M : Type 1} → statement M
+check-all-spec =
+    tie.close
+    (tie.spec
+    Inv-loop
+    μ-loop
+    loop-holds
+    lowest-requires
+    check-one-requires
+    enum-known-answer
+    returns
+    enum-told
+    remove-requires
+    loop-less
+    loop-again
+    returns-2)

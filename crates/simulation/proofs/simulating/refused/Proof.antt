@@ -1,0 +1,16 @@
+-- A refusal says nothing else.
+use Rattle.simulation.specs.Endings.{simulatedOutcome}
+use mathlib.Core.Path.{refl}
+use borrow.Author.Needs.{needs}
+use Rattle.simulation.proofs.simulating.refused.Statement.{statement}
+use Rattle.simulation.proofs.simulating.refused.Tie as tie
+
+nothing-requires : tie.Need-nothing-requires
+nothing-requires c κs = search needs
+
+returns : tie.Need-returns
+unfolding simulatedOutcome
+returns c n = refl
+
+pub refused-spec : {M : Type 1} → statement M
+refused-spec = tie.close (tie.spec nothing-requires returns)

@@ -1,0 +1,28 @@
+-- The first decisions, the core and f.
+use lib.Bits.{bitAnd}
+use Rattle.simulation.proofs.Results.{result-is}
+use Rattle.simulation.specs.Endings.{simulatedOutcome, endingsIn}
+use Rattle.drive_sets.specs.Masks.Sizes.{size-le}
+use Rattle.drive_sets.specs.Masks.{common}
+use native.Mathlib.Omega.{arith}
+use borrow.Author.Needs.{needs}
+use Rattle.simulation.proofs.simulating.result_on.Statement.{statement}
+use Rattle.simulation.proofs.simulating.result_on.Tie as tie
+
+run-requires : tie.Need-run-requires
+run-requires c κs = search needs
+
+size-requires : tie.Need-size-requires
+size-requires c κs = search needs
+
+cast-t10 : tie.Need-cast-t10
+cast-t10 c = let a = c .before .before .args in omega (arith, c .size .ensures, size-le (bitAnd (a .core) (a .crashes .crashed)))
+
+returns : tie.Need-returns
+unfolding simulatedOutcome endingsIn common
+returns c s t =
+    let a = c .before .before .args in
+    result-is (a .n) (a .core) (a .crashes) s (t .says) _ (c .before .run .ensures s t) _ (c .size .ensures)
+
+pub result-on-spec : {M : Type 1} → statement M
+result-on-spec = tie.close (tie.spec run-requires size-requires cast-t10 returns)

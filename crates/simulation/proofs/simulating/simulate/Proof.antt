@@ -1,0 +1,51 @@
+-- The table's refusal, or the call with the chosen core.
+use Rattle.simulation.proofs.Results.{with-core, table-refused}
+use Rattle.run_files.specs.Reading.{crashesIn}
+use Rattle.tables.specs.Answers.{chosenOutcome}
+use lib.ListN.{take}
+use Prim.Native.Nat.{_^_, _<_}
+use mathlib.Core.Path.{sym, ap, _∙_}
+use borrow.Author.Needs.{needs}
+use Rattle.simulation.proofs.simulating.simulate.Statement.{statement}
+use Rattle.simulation.proofs.simulating.simulate.Tie as tie
+
+chosen-core-requires : tie.Need-chosen-core-requires
+chosen-core-requires c κs = search needs
+
+enum-known-chosen : tie.Need-enum-known-chosen
+enum-known-chosen c = search needs
+
+refused-requires : tie.Need-refused-requires
+refused-requires c κs = search needs
+
+enum-known-chosen-2 : tie.Need-enum-known-chosen-2
+enum-known-chosen-2 c = search needs
+
+where-checked-requires : tie.Need-where-checked-requires
+where-checked-requires c κs = sym (c .before .before .before .chosen-core .ensures) ∙ ap chosenOutcome (c .before .chosen2 .given .1)
+
+returns : tie.Need-returns
+returns c =
+    let a = c .before .before .before .before .before .before .args in
+    c .refused .ensures (a .n)
+    ∙ table-refused (a .n) (a .sets .now) (take (a .n) (a .numbers)) (crashesIn (a .crashes)) _ (sym (c .before .before .before .before .chosen-core .ensures) ∙ ap chosenOutcome (c .before .before .chosen .given .1))
+
+returns-2 : tie.Need-returns-2
+returns-2 c =
+    let a = c .before .before .before .before .before .before .args in
+    let word : a .crashes .crashed < 2 ^ 64 = search needs in
+    c .where-checked .ensures
+    ∙ with-core (a .n) (a .sets .now) (a .numbers) (a .crashes) _ word (sym (c .before .before .before .before .chosen-core .ensures) ∙ ap chosenOutcome (c .before .before .chosen2 .given .1))
+    (take (a .n) (a .numbers)) (crashesIn (a .crashes))
+
+pub simulate-spec : {M : Type 1} → statement M
+simulate-spec =
+    tie.close
+    (tie.spec
+    chosen-core-requires
+    enum-known-chosen
+    refused-requires
+    enum-known-chosen-2
+    where-checked-requires
+    returns
+    returns-2)

@@ -1,0 +1,44 @@
+-- The first refusal of a crash, or what comes next.
+use Rattle.simulation.proofs.CrashChecks.{crash-refused, crashes-pass}
+use Rattle.run_files.specs.Reading.{crashesIn}
+use mathlib.Core.Path.{_∙_}
+use borrow.Author.Needs.{needs}
+use Rattle.simulation.proofs.simulating.where_checked.Statement.{statement}
+use Rattle.simulation.proofs.simulating.where_checked.Tie as tie
+
+check-all-requires : tie.Need-check-all-requires
+check-all-requires c κs = search needs
+
+enum-known-checked : tie.Need-enum-known-checked
+enum-known-checked c = search needs
+
+refused-requires : tie.Need-refused-requires
+refused-requires c κs = search needs
+
+enum-told : tie.Need-enum-told
+enum-told c = search needs
+
+where-untouched-requires : tie.Need-where-untouched-requires
+where-untouched-requires c κs = search needs
+
+returns : tie.Need-returns
+returns c =
+    let a = c .before .before .before .before .before .before .args in
+    c .refused .ensures (a .n) ∙ crash-refused (a .n) (a .core) (crashesIn (a .crashes)) (c .before .before .before .before .check-all .result) (c .before .before .before .before .check-all .ensures) _ _ (c .before .before .checked .given .1)
+
+returns-2 : tie.Need-returns-2
+returns-2 c =
+    let a = c .before .before .before .before .before .args in
+    c .where-untouched .ensures ∙ crashes-pass (a .n) (a .core) (crashesIn (a .crashes)) (c .before .before .before .check-all .result) (c .before .before .before .check-all .ensures) _ (c .before .enum-told .given .1)
+
+pub where-checked-spec : {M : Type 1} → statement M
+where-checked-spec =
+    tie.close
+    (tie.spec
+    check-all-requires
+    enum-known-checked
+    refused-requires
+    enum-told
+    where-untouched-requires
+    returns
+    returns-2)

@@ -1,0 +1,36 @@
+-- 11, or the result.
+use Rattle.simulation.proofs.Results.{chosen-bounds, told, all-touched, some-untouched}
+use Prim.Native.Nat.{_^_, _<_}
+use mathlib.Core.Path.{_∙_}
+use borrow.Author.Needs.{needs}
+use Rattle.simulation.proofs.simulating.where_untouched.Statement.{statement}
+use Rattle.simulation.proofs.simulating.where_untouched.Tie as tie
+
+meets-all-requires : tie.Need-meets-all-requires
+meets-all-requires c κs = search needs
+
+refused-requires : tie.Need-refused-requires
+refused-requires c κs = search needs
+
+returns : tie.Need-returns
+returns c =
+    let a = c .before .before .before .before .args in
+    let word : a .crashes .crashed < 2 ^ 64 = search needs in
+    c .refused .ensures (a .n) ∙ all-touched (a .n) (a .sets .now) (a .numbers) (a .crashes) (a .core) word (c .before .before .before .before .pre) _ (c .before .before .meets-all .ensures) _ (c .before .if1 .taken)
+
+result-on-requires : tie.Need-result-on-requires
+result-on-requires c κs =
+    let a = c .before .before .before .args in
+    let word : a .crashes .crashed < 2 ^ 64 = search needs in
+    chosen-bounds (a .n) (a .sets .now) (a .numbers) (a .crashes) (a .core) word (c .before .before .before .pre)
+
+returns-2 : tie.Need-returns-2
+returns-2 c =
+    let a = c .before .before .before .before .args in
+    let word : a .crashes .crashed < 2 ^ 64 = search needs in
+    c .result-on .ensures _ (told (a .n) (a .sets .now) (a .numbers) (a .crashes) (a .core) word (c .before .before .before .before .pre))
+    ∙ some-untouched (a .n) (a .sets .now) (a .numbers) (a .crashes) (a .core) word (c .before .before .before .before .pre) _ (c .before .before .meets-all .ensures) _ (c .before .if1 .left)
+
+pub where-untouched-spec : {M : Type 1} → statement M
+where-untouched-spec =
+    tie.close (tie.spec meets-all-requires refused-requires returns result-on-requires returns-2)

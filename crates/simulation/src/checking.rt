@@ -1,0 +1,45 @@
+// The crashes of a scenario checked in order: 8, 9, 10 of each, rising by drive.
+ghost use mathlib.Core.Path.{_≡_};
+ghost use Prim.Native.Nat.{_≤_};
+ghost use Rattle.drive_sets.specs.Refusals.{result};
+ghost use Rattle.tables.specs.Reading.{outcomeOf};
+ghost use Rattle.runs.specs.CrashRecords.{checkedCrash};
+ghost use Rattle.run_files.specs.Reading.{crashIn, crashesIn};
+ghost use Rattle.simulation.specs.Simulation.{checkedCrashes};
+use crate::crashes;
+use drive_sets::Drive;
+use drive_sets::Round;
+use run_files::crashes::Crashes;
+use tables::reading::Answer;
+
+// The crash of one drive, after that of the last.
+fn check_one(n: u8, core: u64, last: Drive, d: Drive, crashes: Crashes) -> Answer
+    requires { ⌜ (1 ≤ d .0) × (d .0 ≤ 64) ⌝ }
+    ensures { λ r. ⌜ outcomeOf r (crashIn crashes (d .0)) ≡ checkedCrash n core (last .0) (crashIn crashes (d .0)) ⌝ }
+{
+    let rounds = crashes.rounds;
+    let sends = crashes.sends;
+    let round = crashes::byte_at(rounds, d);
+    let made = crashes::byte_at(sends, d);
+    run_files::crashes::check_crash(n, core, last, d, Round(round), made)
+}
+
+// The first refusal that a crash meets.
+pub fn check_all(n: u8, core: u64, crashes: Crashes) -> Answer
+    ensures { λ r. ⌜ outcomeOf r (crashesIn crashes) ≡ checkedCrashes n core 0 (crashesIn crashes) (result (crashesIn crashes)) ⌝ }
+{
+    let mut rest = crashes.crashed;
+    let mut last = Drive(0);
+    while rest != 0 {
+        let d = drive_sets::lowest(rest);
+        let answer = check_one(n, core, last, d, crashes);
+        match answer {
+            Answer::Refused(r) => return Answer::Refused(r),
+            Answer::Accepted => {
+                rest = drive_sets::remove(rest, d);
+                last = d;
+            }
+        }
+    }
+    Answer::Accepted
+}

@@ -1,0 +1,105 @@
+// The simulated exchange as a call.
+ghost use mathlib.Core.Path.{_≡_};
+ghost use Prim.Native.Nat.{ℕ, _^_, _≤_, _<_};
+ghost use lib.ListN.{take};
+ghost use Rattle.drive_sets.specs.Refusals.{refused, result, refuseIf};
+ghost use Rattle.hitting_sets.specs.Hitting.{hits};
+ghost use Rattle.tables.specs.Tables.{chosenCore};
+ghost use Rattle.runs.specs.Scenario.{Scenario};
+ghost use Rattle.runs.specs.CrashRecords.{crashed, scenario};
+ghost use Rattle.run_files.specs.Reading.{crashesIn};
+ghost use Rattle.simulation.specs.Simulation.{checkedCrashes, simulatedOf, simulated};
+ghost use Rattle.simulation.specs.States.{Told};
+ghost use Rattle.simulation.specs.Endings.{simulatedOutcome};
+use crate::checking;
+use crate::noting;
+use crate::running;
+use drive_sets::Refusal;
+use run_files::crashes::Crashes;
+use tables::calls::Chosen;
+use tables::reading::Answer;
+
+// For each drive, drive 1 first, the round in which it decided, 0 where it has not, and the pattern number.
+pub struct Found {
+    pub rounds: [u8; 64],
+    pub numbers: [u16; 64],
+}
+
+// How the drives end, where the call is accepted: a drive with a CR is stopped, and the first decisions of the others; the core, and f.
+pub struct Simulated {
+    pub answer: Answer,
+    pub crashed: u64,
+    pub found: Found,
+    pub core: u64,
+    pub stops: u8,
+}
+
+fn refused(r: Refusal) -> Simulated
+    ensures { λ t. ⌜ ((n : ℕ) → simulatedOutcome n t ≡ refused r) ⌝ }
+{
+    Simulated {
+        answer: Answer::Refused(r),
+        crashed: 0,
+        found: noting::nothing(),
+        core: 0,
+        stops: 0,
+    }
+}
+
+// The simulated exchange of an accepted table with this core, where the crashes pass.
+fn result_on(n: u8, core: u64, numbers: [u16; 64], crashes: Crashes) -> Simulated
+    requires { ⌜ (n ≤ 64) × (core < 2 ^ n) ⌝ }
+    ensures { λ r. ⌜ ((s : Scenario) → Told n core numbers crashes s → simulatedOutcome n r ≡ result (simulatedOf s)) ⌝ }
+{
+    let found = running::run(n, core, numbers, crashes);
+    let crashed = crashes.crashed;
+    let stops = drive_sets::size(core & crashed);
+    Simulated {
+        answer: Answer::Accepted,
+        crashed,
+        found,
+        core,
+        stops: stops as u8,
+    }
+}
+
+// The same, with 11.
+fn where_untouched(
+    n: u8,
+    core: u64,
+    sets: &[u64],
+    numbers: [u16; 64],
+    crashes: Crashes,
+) -> Simulated
+    requires { ⌜ chosenCore n (now sets) ≡ result core ⌝ }
+    ensures { λ r. ⌜ simulatedOutcome n r ≡ refuseIf (hits (now (sets .entry)) (crashed (crashesIn crashes))) Refusal.NoneUntouched (result (simulatedOf (scenario n (now (sets .entry)) (take n numbers) (crashesIn crashes)))) ⌝ }
+{
+    if tables::calls::meets_all(sets, crashes.crashed) {
+        return refused(Refusal::NoneUntouched);
+    }
+    result_on(n, core, numbers, crashes)
+}
+
+// The same, with 8, 9 and 10 of each crash.
+fn where_checked(n: u8, core: u64, sets: &[u64], numbers: [u16; 64], crashes: Crashes) -> Simulated
+    requires { ⌜ chosenCore n (now sets) ≡ result core ⌝ }
+    ensures { λ r. ⌜ simulatedOutcome n r ≡ checkedCrashes n core 0 (crashesIn crashes) (refuseIf (hits (now (sets .entry)) (crashed (crashesIn crashes))) Refusal.NoneUntouched (result (simulatedOf (scenario n (now (sets .entry)) (take n numbers) (crashesIn crashes))))) ⌝ }
+{
+    let checked = checking::check_all(n, core, crashes);
+    match checked {
+        Answer::Refused(r) => refused(r),
+        Answer::Accepted => where_untouched(n, core, sets, numbers, crashes),
+    }
+}
+
+// The simulated exchange: from n and sets, the pattern numbers, drive 1 first, and the crashes. The table's refusals, then those of each
+// crash, then 11.
+pub fn simulate(n: u8, sets: &[u64], numbers: [u16; 64], crashes: Crashes) -> Simulated
+    ensures { λ r. ⌜ simulatedOutcome n r ≡ simulated n (now (sets .entry)) (take n numbers) (crashesIn crashes) ⌝ }
+{
+    let chosen = tables::calls::chosen_core(n, sets);
+    match chosen {
+        Chosen::Refused(r) => refused(r),
+        Chosen::Core(core) => where_checked(n, core, sets, numbers, crashes),
+    }
+}

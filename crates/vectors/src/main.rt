@@ -1,0 +1,54 @@
+// Runs stored inputs through the listings of both programs and prints every text, one after the other. The stored output is what the second
+// program prints for the same inputs; `tests/make_vectors` makes both.
+//
+// An input is: one byte, 0 for the table program and 1 for the run program; its length, 2 bytes, lowest first; its bytes.
+ghost use Prim.Native.Nat.{_≤_};
+use libc::STDIN_FILENO;
+use libc::STDOUT_FILENO;
+use tables::writing::Writing;
+
+// The first bytes, so many or all there are.
+fn first(s: &[u8], size: usize) -> &[u8] {
+    if s.len() < size {
+        return &s[0..];
+    }
+    &s[0..size]
+}
+
+// How many bytes the input at the start has.
+fn width(s: &[u8]) -> usize
+    ensures { λ r. ⌜ r ≤ 65535 ⌝ }
+{
+    (records::field(s, 1, 2) % 65536) as usize
+}
+
+// The text of the input at the start.
+fn list(s: &[u8], text: &mut [u8]) -> Writing {
+    let input = first(tables::files::rest(s, 3), width(s));
+    if records::field(s, 0, 1) == 0 {
+        return listings::programs::table_listing(input, text, 0);
+    }
+    listings::programs::run_listing(input, text, 0)
+}
+
+// Prints the text of the input at the start.
+fn print(s: &[u8]) {
+    let mut text = [0u8; 32768];
+    let w = list(s, &mut text);
+    let size = listings::programs::written(w, &text);
+    io::write_all(STDOUT_FILENO, &text[..size]);
+}
+
+fn print_all(s: &[u8]) {
+    let mut at = 0;
+    while at < s.len() {
+        print(&s[at..]);
+        at += 3 + width(&s[at..]);
+    }
+}
+
+fn main() {
+    let mut input = io::large_buffer();
+    let n = io::read_full(STDIN_FILENO, &mut input);
+    print_all(&input[..n]);
+}
