@@ -10,6 +10,7 @@ use borrow.Author.Tests.{ne-eqb}
 use Rattle.drive_sets.specs.Bools.{cond-true, cond-false}
 use Rattle.drive_sets.specs.Lists.{range}
 use Rattle.records.specs.Marks.{ascii}
+use Rattle.simulation.specs.Endings.{endingBy}
 use Rattle.runs.specs.Canonical.{Ending, decides, undecided, stopped}
 use Rattle.listings.specs.Text.{inBase, decimal, hexadecimal}
 use Rattle.listings.specs.TableListing.{fields, line}
@@ -37,11 +38,11 @@ ending-stopped crashes round number e = ap endingText (cond-true _ _ e)
 
 module _ (crashes : Bool) (round number : ℕ) (e : crashes ≡ false) where
   pub ending-undecided : round ≡ 0 → endingText (endingFor crashes round number) ≡ ascii " undecided"
-  unfolding endingText endingFor
+  unfolding endingText endingFor endingBy
   ending-undecided f = ap endingText (cond-false _ _ e ∙ cond-true _ _ (ap (λ (r : ℕ). eqb r 0) f))
 
   pub ending-decided : (round ≡ 0 → ⊥) → endingText (endingFor crashes round number) ≡ named (ascii " decides") 10 20 number ++ named (ascii " round") 10 20 round
-  unfolding endingFor
+  unfolding endingFor endingBy
   ending-decided f = ap endingText (cond-false _ _ e ∙ cond-false _ _ (ne-eqb round 0 f)) ∙ ending-says number round
 
 -- ---- lines

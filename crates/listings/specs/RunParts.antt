@@ -2,16 +2,16 @@
 use mathlib.Core.Bool.{Bool, cond}
 use mathlib.Core.List.{List, [], _∷_, _++_}
 use Prim.Native.Nat.{ℕ, _-_}
-use lib.Dec.{eqb}
 use lib.ListN.{getD}
 use Rattle.drive_sets.specs.Masks.{has}
-use Rattle.runs.specs.Canonical.{Ending, decides, undecided, stopped}
+use Rattle.runs.specs.Canonical.{Ending, stopped}
+use Rattle.simulation.specs.Endings.{endingBy}
 use Rattle.listings.specs.Text.{inBase}
 use Rattle.listings.specs.RunListing.{driveLine}
 
 -- how a drive ends, from whether it has a CR, the round in which it decided, 0 where it has not, and the pattern number
 unfoldable pub endingFor : Bool → ℕ → ℕ → Ending
-endingFor crashes round number = cond crashes stopped (cond (eqb round 0) undecided (decides number round))
+endingFor crashes round number = cond crashes stopped (endingBy round number)
 
 -- the same from the drives with a CR, and the rounds and numbers by drive
 unfoldable pub endingAt : ℕ → List ℕ → List ℕ → ℕ → Ending

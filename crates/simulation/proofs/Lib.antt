@@ -1,4 +1,5 @@
--- Laws of the code's values: the crashes by drive, and the world of the array of states.
+-- Laws of the code: the crashes by drive, the world of the array of states, a round's closes, messages and calls, the openings, the first
+-- decisions, all rounds, the checks of the crashes, and the result.
 pub mod CrashesByDrive
 pub mod Worlds
 pub mod Walks

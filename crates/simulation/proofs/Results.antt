@@ -33,7 +33,7 @@ use Rattle.runs.specs.Canonical.{openingCalls, canonicalRounds, Ending, stopped
 use Rattle.run_files.specs.declared.crashes.Crashes.{Crashes}
 use Rattle.run_files.specs.Reading as files
 use Rattle.run_files.specs.Reading.Laws.{crashed-in}
-use Rattle.simulation.specs.Simulation.{checkedCrashes, Simulated, simulatedOf, simulated}
+use Rattle.simulation.specs.Simulation.{checkedCrashes, Simulated, simulatedOf, unlessTouched, simulated}
 use Rattle.simulation.specs.States.{crashAt, Says, Told}
 
 -- ---- lists
@@ -150,19 +150,18 @@ module _ (n : ℕ) (sets numbers : List ℕ) (c : Crashes) (core : ℕ) (word : 
   -- ---- with the chosen core
 
   pub with-core : (nums : List ℕ) (crs : List CrashRecord)
-      → checkedCrashes n core 0 crs (refuseIf (hits sets (crashed crs)) NoneUntouched (result (simulatedOf (scenario n sets nums crs)))) ≡ simulated n sets nums crs
+      → checkedCrashes n core 0 crs (unlessTouched n sets nums crs) ≡ simulated n sets nums crs
   unfolding simulated
   with-core nums crs =
-      ap (λ (k : ℕ). checkedCrashes n k 0 crs (refuseIf (hits sets (crashed crs)) NoneUntouched (result (simulatedOf (scenario n sets nums crs))))) (sym (chose .core-is))
-      ∙ ap (λ (o : Outcome (List ℕ)). andThen o (λ table. checkedCrashes n (chosen table) 0 crs
-      (refuseIf (hits sets (crashed crs)) NoneUntouched (result (simulatedOf (scenario n sets nums crs)))))) (sym (chose .accepted))
+      ap (λ (k : ℕ). checkedCrashes n k 0 crs (unlessTouched n sets nums crs)) (sym (chose .core-is))
+      ∙ ap (λ (o : Outcome (List ℕ)). andThen o (λ table. checkedCrashes n (chosen table) 0 crs (unlessTouched n sets nums crs))) (sym (chose .accepted))
 
 -- a refused table
 pub table-refused : (n : ℕ) (sets nums : List ℕ) (crs : List CrashRecord) (q : Refusal) → chosenCore n sets ≡ refused q → refused q ≡ simulated n sets nums crs
 unfolding simulated chosenCore
 table-refused n sets nums crs q e = go (normalTable n sets) e
   where
-    go : (o : Outcome (List ℕ)) → andThen o (λ t. result (chosen t)) ≡ refused q → refused q ≡ andThen o (λ table. checkedCrashes n (chosen table) 0 crs
-        (refuseIf (hits sets (crashed crs)) NoneUntouched (result (simulatedOf (scenario n sets nums crs)))))
+    go : (o : Outcome (List ℕ)) → andThen o (λ t. result (chosen t)) ≡ refused q
+        → refused q ≡ andThen o (λ table. checkedCrashes n (chosen table) 0 crs (unlessTouched n sets nums crs))
     go (refused r) h = cc
     go (result t) h = absurd (refused-no-result (sym h))

@@ -32,9 +32,11 @@ pub record Simulated : Type 0 where
 abbrev pub simulatedOf : Scenario → Simulated
 simulatedOf s = record { endings = endings s; core = coreOf s; stops = coreCrashes s }
 
+-- 11, every survivor set has a drive with a CR; else what the scenario gives
+abbrev pub unlessTouched : ℕ → List ℕ → List ℕ → List CrashRecord → Outcome Simulated
+unlessTouched n sets numbers crs =
+    refuseIf (hits sets (crashed crs)) NoneUntouched (result (simulatedOf (scenario n sets numbers crs)))
+
 unfoldable pub simulated : ℕ → List ℕ → List ℕ → List CrashRecord → Outcome Simulated
 simulated n sets numbers crs =
-    andThen (normalTable n sets) (λ table.
-    checkedCrashes n (chosen table) 0 crs
-    (refuseIf (hits sets (crashed crs)) NoneUntouched
-    (result (simulatedOf (scenario n sets numbers crs)))))
+    andThen (normalTable n sets) (λ table. checkedCrashes n (chosen table) 0 crs (unlessTouched n sets numbers crs))

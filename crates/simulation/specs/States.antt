@@ -1,4 +1,4 @@
--- What the code's values say: the crashes by drive, the world of the array of states, and the drives that close.
+-- What the code's values say: the crashes by drive, the world of the array of states, the calls of a round, and the scenario that they are of.
 use mathlib.Core.Path.{_≡_}
 use mathlib.Core.Bool.{Bool, true, false, not, _&&_, cond}
 use mathlib.Core.List.{List, [], _++_, map}

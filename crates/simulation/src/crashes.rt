@@ -6,9 +6,11 @@ ghost use lib.ListN.{length, take, getD};
 ghost use Rattle.runs.specs.Scenario.{goneBefore, goneBy, cut};
 ghost use Rattle.simulation.specs.States.{crashAt};
 use drive_sets::Drive;
+use drive_sets::MAX_DRIVES;
 use drive_sets::Round;
 use run_files::crashes::Crashes;
 
+// What stands at a drive's place.
 pub fn byte_at(bytes: [u8; 64], d: Drive) -> u8
     requires { ⌜ (1 ≤ d .0) × (d .0 ≤ 64) ⌝ }
     ensures { λ r. ⌜ r ≡ getD bytes (d .0 - 1) 0 ⌝ }
@@ -41,17 +43,17 @@ pub fn gone_by(crashes: Crashes, d: Drive, round: Round) -> bool
     last <= round.0
 }
 
-// How many sends of this round's list the drive makes; 64, more than a list has, where it has no CR for this round.
+// How many sends of this round's list the drive makes; as many as there are drives, more than a list has, where it has no CR for this round.
 pub fn sends_made(crashes: Crashes, d: Drive, round: Round) -> u8
     ensures { λ r. ⌜ ((l : List ℕ) → length l ≤ 64 → cut (crashAt crashes (d .0)) (round .0) l ≡ take r l) ⌝ }
 {
     if !drive_sets::has(d, crashes.crashed) {
-        return 64;
+        return MAX_DRIVES;
     }
     let rounds = crashes.rounds;
     let last = byte_at(rounds, d);
     if last != round.0 {
-        return 64;
+        return MAX_DRIVES;
     }
     let sends = crashes.sends;
     byte_at(sends, d)

@@ -12,6 +12,9 @@ use drive_sets::Drive;
 use exchange::Exchange;
 use tables::writing::Writing;
 
+// Room for the longest message: 12 bytes and 64 numbers.
+const ROOM: usize = 140;
+
 // The bytes to the drives of m, rising, as far as the sends go.
 fn deliver_to(states: [Exchange; 64], bytes: &[u8], m: u64, sends: u8) -> [Exchange; 64]
     ensures { λ r. ⌜ ((n : ℕ) → n ≤ 64 → m < 2 ^ n → worldOf n r ≡ applyAll (worldOf n states) (map (λ e. delivers e (now (bytes .entry))) (take sends (drives m)))) ⌝ }
@@ -78,7 +81,7 @@ pub fn send_from(
     requires { ⌜ (n ≤ 64) × (core < 2 ^ n) ⌝ }
     ensures { λ r. ⌜ worldOf n r ≡ applyAll (worldOf n states) (deliveries (sending x 140 0) (take sends (listFor n core (own .0)))) ⌝ }
 {
-    let mut buf = [0u8; 140];
+    let mut buf = [0u8; ROOM];
     let written = exchange::sending::send(x, &mut buf, 0);
     match written {
         Writing::Refused(_) => states,

@@ -1,14 +1,13 @@
-// The simulated exchange as a call.
+// The simulated exchange as a call. The crashes are handed over by drive, as the run file reader gives them: at most one to a drive, rising.
 ghost use mathlib.Core.Path.{_≡_};
 ghost use Prim.Native.Nat.{ℕ, _^_, _≤_, _<_};
 ghost use lib.ListN.{take};
-ghost use Rattle.drive_sets.specs.Refusals.{refused, result, refuseIf};
-ghost use Rattle.hitting_sets.specs.Hitting.{hits};
+ghost use Rattle.drive_sets.specs.Refusals.{refused, result};
 ghost use Rattle.tables.specs.Tables.{chosenCore};
 ghost use Rattle.runs.specs.Scenario.{Scenario};
-ghost use Rattle.runs.specs.CrashRecords.{crashed, scenario};
+ghost use Rattle.runs.specs.CrashRecords.{crashed};
 ghost use Rattle.run_files.specs.Reading.{crashesIn};
-ghost use Rattle.simulation.specs.Simulation.{checkedCrashes, simulatedOf, simulated};
+ghost use Rattle.simulation.specs.Simulation.{checkedCrashes, simulatedOf, unlessTouched, simulated};
 ghost use Rattle.simulation.specs.States.{Told};
 ghost use Rattle.simulation.specs.Endings.{simulatedOutcome};
 use crate::checking;
@@ -72,7 +71,7 @@ fn where_untouched(
     crashes: Crashes,
 ) -> Simulated
     requires { ⌜ chosenCore n (now sets) ≡ result core ⌝ }
-    ensures { λ r. ⌜ simulatedOutcome n r ≡ refuseIf (hits (now (sets .entry)) (crashed (crashesIn crashes))) Refusal.NoneUntouched (result (simulatedOf (scenario n (now (sets .entry)) (take n numbers) (crashesIn crashes)))) ⌝ }
+    ensures { λ r. ⌜ simulatedOutcome n r ≡ unlessTouched n (now (sets .entry)) (take n numbers) (crashesIn crashes) ⌝ }
 {
     if tables::calls::meets_all(sets, crashes.crashed) {
         return refused(Refusal::NoneUntouched);
@@ -83,7 +82,7 @@ fn where_untouched(
 // The same, with 8, 9 and 10 of each crash.
 fn where_checked(n: u8, core: u64, sets: &[u64], numbers: [u16; 64], crashes: Crashes) -> Simulated
     requires { ⌜ chosenCore n (now sets) ≡ result core ⌝ }
-    ensures { λ r. ⌜ simulatedOutcome n r ≡ checkedCrashes n core 0 (crashesIn crashes) (refuseIf (hits (now (sets .entry)) (crashed (crashesIn crashes))) Refusal.NoneUntouched (result (simulatedOf (scenario n (now (sets .entry)) (take n numbers) (crashesIn crashes))))) ⌝ }
+    ensures { λ r. ⌜ simulatedOutcome n r ≡ checkedCrashes n core 0 (crashesIn crashes) (unlessTouched n (now (sets .entry)) (take n numbers) (crashesIn crashes)) ⌝ }
 {
     let checked = checking::check_all(n, core, crashes);
     match checked {
