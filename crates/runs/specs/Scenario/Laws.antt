@@ -87,6 +87,13 @@ module _ (s : Scenario) (d : ℕ) where
   toCore-core : (e : ℕ) → elem e toCore ≡ true → has e (coreOf s) ≡ true
   toCore-core e h = and-left (has e (coreOf s)) _ (and-right (elem e (frame s)) _ (sym (elem-keep _ e (frame s)) ∙ h))
 
+  -- a first part of the list that has a listener has all the other core drives
+  take-core : (m e c : ℕ) → elem c (frame s) ≡ true → elem e (take m (listOf s d)) ≡ true → has e (coreOf s) ≡ false → has c (coreOf s) ≡ true → c ≢ d
+      → elem c (take m (listOf s d)) ≡ true
+  unfolding listOf
+  take-core m e c f h l i ne =
+      take-past e c m toCore toListeners h (false-of (elem e toCore) (λ t. clash (toCore-core e t) l)) (in-toCore c f i ne)
+
   pub in-listOf : (e : ℕ) → elem e (frame s) ≡ true → e ≢ d → elem e (listOf s d) ≡ true
   unfolding listOf
   in-listOf e f ne =
@@ -109,13 +116,6 @@ module _ (s : Scenario) (d : ℕ) where
       (λ t. clash (eq-eqb d d refl) (not-true (eqb d d) (and-right (has d (coreOf s)) _ (and-right (elem d (frame s)) _ (sym (elem-keep _ d (frame s)) ∙ t)))))
       (λ t. clash c (not-true (has d (coreOf s)) (and-right (elem d (frame s)) _ (sym (elem-keep _ d (frame s)) ∙ t))))
       (elem-append-cases d toCore toListeners h))
-
-  -- a first part of the list that has a listener has all the other core drives
-  take-core : (m e c : ℕ) → elem c (frame s) ≡ true → elem e (take m (listOf s d)) ≡ true → has e (coreOf s) ≡ false → has c (coreOf s) ≡ true → c ≢ d
-      → elem c (take m (listOf s d)) ≡ true
-  unfolding listOf
-  take-core m e c f h l i ne =
-      take-past e c m toCore toListeners h (false-of (elem e toCore) (λ t. clash (toCore-core e t) l)) (in-toCore c f i ne)
 
   pub cut-core : (x : Crash) (r e c : ℕ) → elem c (frame s) ≡ true → elem e (cut x r (listOf s d)) ≡ true → has e (coreOf s) ≡ false → has c (coreOf s) ≡ true → c ≢ d
       → elem c (cut x r (listOf s d)) ≡ true
