@@ -1,0 +1,159 @@
+//! One drive's part in an exchange: opening and message.
+
+use super::cores::bits;
+use super::tables::{accept, full};
+use super::Answer;
+
+pub struct Exchange {
+    n: u8,
+    own: u8,
+    core: u64,
+    round: u8,
+    before: u64,
+    heard: u64,
+    known: u64,
+    start: u64,
+    numbers: [u16; 64],
+    announced: Option<(u8, u16)>,
+    halted: bool,
+}
+
+fn single(drive: u8) -> u64 {
+    1 << (drive - 1)
+}
+
+pub fn open(n: u8, sets: &[u64], own: u8, number: u16) -> Answer<Exchange> {
+    let core = accept(n, sets)?.cores[0];
+    if !(1..=n).contains(&own) {
+        return Err(8);
+    }
+    let known = core & single(own);
+    let mut numbers = [0; 64];
+    if known != 0 {
+        numbers[own as usize - 1] = number;
+    }
+    Ok(Exchange {
+        n,
+        own,
+        core,
+        round: 1,
+        before: core,
+        heard: 0,
+        known,
+        start: known,
+        numbers,
+        announced: None,
+        halted: false,
+    })
+}
+
+impl Exchange {
+    fn is_broken(&self) -> bool {
+        if !(1..=64).contains(&self.n) || self.core == 0 || self.core & !full(self.n) != 0 {
+            return true;
+        }
+        if !(1..=self.n).contains(&self.own) {
+            return true;
+        }
+        let own = single(self.own);
+        let inside = self.before | self.heard | self.known | self.start;
+        (self.core & own != 0 && self.known & self.start & own == 0)
+            || self.round == 0
+            || self.round as u32 > self.core.count_ones()
+            || inside & !self.core != 0
+    }
+
+    pub fn message(&mut self, bytes: &[u8]) -> Answer<()> {
+        if self.is_broken() {
+            return Err(28);
+        }
+        if self.halted {
+            return Err(23);
+        }
+        let (mark, rest) = bytes.split_first_chunk::<2>().ok_or(1u64)?;
+        match mark {
+            b"KN" => self.known(rest),
+            b"DC" => self.decide(rest),
+            _ => Err(2),
+        }
+    }
+
+    /// 22, 26, 24, 21.
+    fn admit(&self, sender: u8, round: u8, mask: u64) -> Answer<u64> {
+        let one = single(sender);
+        if sender == self.own || (one | mask) & !self.core != 0 {
+            return Err(22);
+        }
+        if round != self.round {
+            return Err(26);
+        }
+        if self.before & one == 0 {
+            return Err(24);
+        }
+        if self.heard & one != 0 {
+            return Err(21);
+        }
+        Ok(one)
+    }
+
+    fn known(&mut self, rest: &[u8]) -> Answer<()> {
+        let (head, values) = rest.split_first_chunk::<10>().ok_or(1u64)?;
+        let (sender, round) = (head[0], head[1]);
+        let mask = u64::from_le_bytes(head[2..].try_into().unwrap());
+        if !(1..=self.n).contains(&sender) {
+            return Err(8);
+        }
+        if mask & single(sender) == 0 || mask & !full(self.n) != 0 {
+            return Err(15);
+        }
+        let size = 2 * mask.count_ones() as usize;
+        if values.len() != size {
+            return Err(if values.len() < size { 1 } else { 7 });
+        }
+        let one = self.admit(sender, round, mask)?;
+        let entries = || bits(mask).zip(values.chunks_exact(2));
+        let number = |value: &[u8]| u16::from_le_bytes([value[0], value[1]]);
+        for (drive, value) in entries() {
+            if self.known & drive != 0 && self.numbers[drive.trailing_zeros() as usize] != number(value) {
+                return Err(25);
+            }
+        }
+        for (drive, value) in entries() {
+            self.numbers[drive.trailing_zeros() as usize] = number(value);
+        }
+        self.known |= mask;
+        self.heard |= one;
+        Ok(())
+    }
+
+    fn decide(&mut self, rest: &[u8]) -> Answer<()> {
+        let (head, behind) = rest.split_first_chunk::<4>().ok_or(1u64)?;
+        let (sender, round) = (head[0], head[1]);
+        if !(1..=self.n).contains(&sender) {
+            return Err(8);
+        }
+        if !behind.is_empty() {
+            return Err(7);
+        }
+        self.heard |= self.admit(sender, round, 0)?;
+        if self.announced.is_none_or(|(lowest, _)| sender < lowest) {
+            self.announced = Some((sender, u16::from_le_bytes([head[2], head[3]])));
+        }
+        Ok(())
+    }
+}
+
+/// Opens an exchange and hands it `times` messages of `size` bytes each; how many are accepted.
+pub fn deliver(
+    n: u8,
+    sets: &[u64],
+    own: u8,
+    number: u16,
+    messages: &[u8],
+    times: usize,
+    size: usize,
+) -> Answer<u64> {
+    let mut exchange = open(n, sets, own, number)?;
+    let handed = messages.chunks(size).take(times);
+    Ok(handed.filter(|bytes| exchange.message(bytes).is_ok()).count() as u64)
+}

@@ -1,0 +1,30 @@
+//! The verdict on k: the first k positions, not falling, whose sets share no drive, by as many nested loops.
+
+use super::tables::{accept, full};
+use super::Answer;
+
+/// 0 for a yes, and for a no the positions, one byte each, the first lowest.
+pub fn verdict(k: u8, n: u8, sets: &[u64]) -> Answer<u64> {
+    if !(2..=4).contains(&k) {
+        return Err(12);
+    }
+    let table = accept(n, sets)?.sets;
+    if table.iter().fold(u64::MAX, |shared, set| shared & set) != 0 {
+        return Ok(0);
+    }
+    Ok(disjoint(k, &table, 0, full(n)).unwrap_or(0))
+}
+
+fn disjoint(k: u8, table: &[u64], from: usize, shared: u64) -> Option<u64> {
+    let rest = table[from..].iter().enumerate();
+    if k == 1 {
+        let (place, _) = rest.into_iter().find(|(_, set)| *set & shared == 0)?;
+        return Some((from + place + 1) as u64);
+    }
+    for (place, set) in rest {
+        if let Some(later) = disjoint(k - 1, table, from + place, shared & set) {
+            return Some((from + place + 1) as u64 | later << 8);
+        }
+    }
+    None
+}

@@ -1,0 +1,199 @@
+//! The calls that are timed: each by the library and by the baseline, on the same input.
+
+use crate::baseline::{exchange, tables, verdicts, Answer};
+use crate::inputs::{self, Input, MESSAGES, MESSAGE_SIZE, OWN_NUMBER};
+use crate::library;
+use std::hint::black_box;
+use std::time::Instant;
+
+const ROUNDS: usize = 3;
+const BATCH_SECONDS: f64 = 0.002;
+
+/// What the library answers for a refusal is its number above this.
+const REFUSED: u64 = 1 << 32;
+
+fn code(answer: Answer<u64>) -> u64 {
+    answer.unwrap_or_else(|number| REFUSED + number)
+}
+
+/// The lent memory of a call.
+#[derive(PartialEq)]
+struct Lent {
+    sets: Vec<u64>,
+    bytes: Vec<u8>,
+}
+
+impl Lent {
+    fn new() -> Lent {
+        Lent { sets: vec![7; 1024], bytes: vec![7; 2048] }
+    }
+
+    /// Puts sets into the first places; how many.
+    fn put(&mut self, sets: &[u64]) -> u64 {
+        self.sets[..sets.len()].copy_from_slice(sets);
+        sets.len() as u64
+    }
+}
+
+type Call = Box<dyn FnMut() -> u64>;
+
+/// Seconds a call.
+#[derive(Clone, Copy)]
+pub struct Times {
+    pub ours: f64,
+    pub theirs: f64,
+}
+
+pub struct Case {
+    pub name: String,
+    pub least: Times,
+    result: u64,
+    ours: (Call, u32),
+    theirs: (Call, u32),
+}
+
+fn time(call: &mut Call, calls: u32) -> f64 {
+    let start = Instant::now();
+    for _ in 0..calls {
+        black_box(call());
+    }
+    start.elapsed().as_secs_f64() / f64::from(calls)
+}
+
+/// A call with how many of it fill a batch.
+fn batch(mut call: Call) -> (Call, u32) {
+    let mut calls = 1;
+    while time(&mut call, calls) * f64::from(calls) < BATCH_SECONDS {
+        calls *= 2;
+    }
+    (call, calls)
+}
+
+impl Case {
+    /// Two calls that give the same.
+    fn new(
+        name: String,
+        ours: impl Fn(&mut Lent) -> u64 + 'static,
+        theirs: impl Fn(&mut Lent) -> u64 + 'static,
+    ) -> Case {
+        let (mut left, mut right) = (Lent::new(), Lent::new());
+        let result = ours(&mut left);
+        let same = result == theirs(&mut right) && left == right;
+        assert!(same, "{name}: the library and the baseline differ");
+        Case {
+            name,
+            least: Times { ours: f64::MAX, theirs: f64::MAX },
+            result,
+            ours: batch(Box::new(move || ours(&mut left))),
+            theirs: batch(Box::new(move || theirs(&mut right))),
+        }
+    }
+
+    pub fn pass(&mut self) {
+        for _ in 0..ROUNDS {
+            self.least.ours = self.least.ours.min(time(&mut self.ours.0, self.ours.1));
+            self.least.theirs = self.least.theirs.min(time(&mut self.theirs.0, self.theirs.1));
+        }
+    }
+
+    /// A count, the positions of a verdict that is a no, a byte each with the first lowest, or a refusal.
+    pub fn shown(&self) -> String {
+        match self.result.checked_sub(REFUSED) {
+            Some(number) => format!("refused {number}"),
+            None if self.result < 1 << 16 => self.result.to_string(),
+            None => format!("no {:x}", self.result),
+        }
+    }
+}
+
+fn cores(input: Input) -> Case {
+    let Input { name, n, sets } = input;
+    let same = sets.clone();
+    Case::new(
+        format!("cores, {name}"),
+        move |lent| library::cores(n, black_box(&sets), &mut lent.sets),
+        move |lent| code(tables::accept(n, black_box(&same)).map(|table| lent.put(&table.cores))),
+    )
+}
+
+fn verdict(what: &str, input: Input) -> Case {
+    let Input { n, sets, .. } = input;
+    let same = sets.clone();
+    Case::new(
+        format!("verdict on 4, {what}"),
+        move |_| library::verdict(4, n, black_box(&sets)),
+        move |_| code(verdicts::verdict(4, n, black_box(&same))),
+    )
+}
+
+fn write(input: Input) -> Case {
+    let Input { name, n, sets } = input;
+    let same = sets.clone();
+    Case::new(
+        format!("write a table, {name}"),
+        move |lent| library::write_table(n, black_box(&sets), &mut lent.bytes, 5),
+        move |lent| {
+            let size = tables::write(n, black_box(&same), &mut lent.bytes, 5);
+            code(size.map(|size| size as u64))
+        },
+    )
+}
+
+fn read(input: Input) -> Case {
+    let Input { name, n, sets } = input;
+    let mut file = vec![0; 2048];
+    let size = library::write_table(n, &sets, &mut file, 0);
+    file.truncate(size as usize);
+    let same = file.clone();
+    Case::new(
+        format!("read a table, {name}"),
+        move |lent| library::read_table(black_box(&file), &mut lent.sets),
+        move |lent| code(tables::read(black_box(&same)).map(|table| lent.put(&table.sets))),
+    )
+}
+
+/// Opens the exchange of a core of 64 and hands it so many messages.
+fn deliver(name: &str, times: usize) -> Case {
+    let Input { n, sets, .. } = inputs::single_drives();
+    let messages = inputs::known_messages();
+    let same = (sets.clone(), messages.clone());
+    Case::new(
+        name.to_string(),
+        move |_| {
+            let (sets, messages) = (black_box(&sets), black_box(&messages));
+            library::deliver(n, sets, 1, OWN_NUMBER, messages, times, MESSAGE_SIZE)
+        },
+        move |_| {
+            let (sets, messages) = black_box(&same);
+            code(exchange::deliver(n, sets, 1, OWN_NUMBER, messages, times, MESSAGE_SIZE))
+        },
+    )
+}
+
+/// What one message takes, from an opening and one with all messages.
+pub fn one_message(opening: Times, all: Times) -> Times {
+    let one = |all: f64, opening: f64| (all - opening) / MESSAGES as f64;
+    Times { ours: one(all.ours, opening.ours), theirs: one(all.theirs, opening.theirs) }
+}
+
+/// The last two are an opening, and the same with messages.
+pub fn all() -> Vec<Case> {
+    vec![
+        cores(inputs::all_but_one(45)),
+        cores(inputs::all_but_two(16)),
+        cores(inputs::one_of_each_pair(false)),
+        cores(inputs::cores_1015()),
+        cores(inputs::pairs_and_three()),
+        cores(inputs::late_doom()),
+        cores(inputs::joined_clusters("joined clusters, 31 of 2", 2)),
+        cores(inputs::joined_clusters("joined clusters, 20 of 3", 3)),
+        cores(inputs::level_doom()),
+        verdict("128 sets that share a drive", inputs::one_of_each_pair(true)),
+        verdict("120 sets, 14 of 16", inputs::all_but_two(16)),
+        verdict("128 sets, 7 pairs", inputs::one_of_each_pair(false)),
+        write(inputs::one_of_each_pair(false)),
+        read(inputs::one_of_each_pair(false)),
+        deliver("opening, core of 64", 0),
+        deliver("opening, then 63 messages of 64 numbers", MESSAGES),
+    ]
+}

@@ -1,0 +1,85 @@
+//! The tables and messages that are timed.
+
+use crate::listed::{CORES_1015, LEVEL_DOOM};
+
+/// A name, n and the sets.
+pub struct Input {
+    pub name: &'static str,
+    pub n: u8,
+    pub sets: Vec<u64>,
+}
+
+fn full(n: u8) -> u64 {
+    u64::MAX >> (64 - n)
+}
+
+/// Every drive but one: at most one drops out.
+pub fn all_but_one(n: u8) -> Input {
+    let sets = (0..n).map(|place| full(n) & !(1 << place)).collect();
+    Input { name: "44 of 45", n, sets }
+}
+
+/// Every drive but two.
+pub fn all_but_two(n: u8) -> Input {
+    let pairs = (0..n).flat_map(|low| (low + 1..n).map(move |high| (low, high)));
+    let sets = pairs.map(|(low, high)| full(n) & !(1 << low | 1 << high)).collect();
+    Input { name: "14 of 16", n, sets }
+}
+
+/// One drive of each of seven pairs, in every way: 128 sets, whose cores are the pairs. With a drive that all sets share, if asked for.
+pub fn one_of_each_pair(shared: bool) -> Input {
+    let extra = if shared { 1 << 14 } else { 0 };
+    let choice = |taken: u64| (0..7).map(|pair| 1 << (2 * pair + (taken >> pair & 1))).sum::<u64>();
+    let sets = (0..128).map(|taken| choice(taken) | extra).collect();
+    Input { name: "7 pairs, one of each", n: if shared { 15 } else { 14 }, sets }
+}
+
+/// 32 pairs, and the second of each of the first three.
+pub fn pairs_and_three() -> Input {
+    let mut sets: Vec<u64> = (0..32).map(|pair| 3 << (2 * pair)).collect();
+    sets.push(0b101010);
+    Input { name: "32 pairs and {2, 4, 6}", n: 64, sets }
+}
+
+/// Each of two masters with each cluster.
+pub fn joined_clusters(name: &'static str, size: u32) -> Input {
+    let clusters = (0..62 / size).map(|place| ((1u64 << size) - 1) << (1 + place * size));
+    let sets = clusters.flat_map(|cluster| [cluster | 1, cluster | 1 << 63]).collect();
+    Input { name, n: 64, sets }
+}
+
+/// Thirty pairs with one drive that is also with another, late.
+pub fn late_doom() -> Input {
+    let mut sets: Vec<u64> = (0..30).map(|pair| 3 << (2 * pair) | 1 << 63).collect();
+    sets.extend([3 << 61, 3 << 62]);
+    Input { name: "late doom", n: 64, sets }
+}
+
+pub fn level_doom() -> Input {
+    let pairs = (0..28).map(|pair| 3 << (1 + 2 * pair) | 1 << 63);
+    let last = [0xe00000000000001, 0x8e00000000000000];
+    let sets = LEVEL_DOOM.iter().copied().chain(pairs).chain(last).collect();
+    Input { name: "level doom", n: 64, sets }
+}
+
+pub fn cores_1015() -> Input {
+    Input { name: "39 sets", n: 64, sets: CORES_1015.to_vec() }
+}
+
+/// Each drive alone: a core of all 64.
+pub fn single_drives() -> Input {
+    Input { name: "64 single drives", n: 64, sets: (0..64).map(|place| 1 << place).collect() }
+}
+
+/// What drive 1 opens with.
+pub const OWN_NUMBER: u16 = 1000;
+
+/// A KN of each drive but the first in round 1, each with all 64 numbers.
+pub fn known_messages() -> Vec<u8> {
+    let numbers: Vec<u8> = (0..64).flat_map(|place| (OWN_NUMBER + place).to_le_bytes()).collect();
+    let message = |sender: u8| [&[b'K', b'N', sender, 1], &[0xff; 8][..], &numbers].concat();
+    (2..=64).flat_map(message).collect()
+}
+
+pub const MESSAGES: usize = 63;
+pub const MESSAGE_SIZE: usize = 140;

@@ -1,0 +1,3 @@
+-- What the functions' proofs share.
+mod Handing
+mod Outcomes

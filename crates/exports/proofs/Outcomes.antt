@@ -1,0 +1,109 @@
+-- The answers of the calls as numbers and lent lists.
+use mathlib.Core.Path.{_≡_, refl, sym, ap, _∙_}
+use mathlib.Core.Bool.{true, false}
+use mathlib.Core.List.{List, _++_}
+use Prim.Native.Nat.{ℕ, _-_, _<_}
+use native.Mathlib.Nat.{sub-zero}
+use native.Mathlib.Omega.{arith}
+use lib.ListN.{length, take, drop, length-take}
+use lib.Seq.{take-all}
+use Rattle.drive_sets.specs.Bools.{cond-true, cond-false}
+use Rattle.drive_sets.specs.declared.Refusal.{Refusal}
+use Rattle.drive_sets.specs.Refusals.{Outcome, refused, result, andThen}
+use Rattle.records.specs.Fields.{fromBytes}
+use Rattle.tables.specs.declared.completing.CoreTable.{CoreTable}
+use Rattle.tables.specs.declared.files.TableFile.{TableFile}
+use Rattle.tables.specs.declared.reading.Answer.{Answer}
+use Rattle.tables.specs.declared.reading.Answer.the-variants as answers
+use Rattle.tables.specs.declared.writing.Writing.{Writing}
+use Rattle.tables.specs.Answers.{writingOutcome}
+use Rattle.tables.specs.Complete.{Complete, ReadComplete, completeTable, completeOutcome, readWholeComplete, fileOutcome}
+use Rattle.tables.specs.Reading.{setsOf, outcomeOf}
+use Rattle.tables.specs.Tables.{cores, coreList}
+use Rattle.tables.proofs.Accepts.{accept-taken, asks-refused, asks-taken}
+use Rattle.verdicts.specs.declared.calls.Judgement.{Judgement}
+use Rattle.verdicts.specs.declared.Verdict.{Verdict as Held}
+use Rattle.verdicts.specs.Held.{verdictOf, judgementOf}
+use Rattle.verdicts.specs.Verdicts.{Verdict, verdict}
+use Rattle.exports.specs.Codes.{codeOf, countOf, listAfter, setsRead, verdictCode}
+
+-- ---- the first of a list
+
+pub all-first : (s : List ℕ) (count : ℕ) → length s < count → take (length s - 0) s ≡ take count s
+all-first s count h = take-all (length s - 0) s (omega arith) ∙ sym (take-all count s (omega arith))
+
+pub some-first : (s : List ℕ) (count : ℕ) → take (count - 0) s ≡ take count s
+some-first s count = ap (λ (k : ℕ). take k s) (sub-zero count)
+
+-- ---- lists of sets
+
+pub list-put : (old new part first : List ℕ) → part ≡ first → new ≡ take (length old) part ++ drop (length part) old
+    → (length part ≡ length first) × (new ≡ listAfter old (result first))
+unfolding listAfter
+list-put old new part first e f =
+    (ap length e, f ∙ ap (λ (l : List ℕ). take (length old) l ++ drop (length l) old) e)
+
+-- a number and a list that fit an outcome
+pub told : (o p : Outcome (List ℕ)) → o ≡ p → (r : ℕ) (old new : List ℕ) → r ≡ codeOf (countOf o) → new ≡ listAfter old o
+    → (r ≡ codeOf (countOf p)) × (new ≡ listAfter old p)
+told o p e r old new f g = (f ∙ ap (λ (q : Outcome (List ℕ)). codeOf (countOf q)) e, g ∙ ap (listAfter old) e)
+
+module _ (q : Refusal) (p : Outcome (List ℕ)) (e : refused q ≡ p) (r : ℕ) (old : List ℕ) (f : r ≡ codeOf (refused q)) where
+  pub told-refused : (r ≡ codeOf (countOf p)) × (old ≡ listAfter old p)
+  unfolding listAfter
+  told-refused = told (refused q) p e r old old f refl
+
+module _ (n : ℕ) (sets : List ℕ) (t : CoreTable) (e : completeOutcome t ≡ completeTable n sets) where
+  pub cores-refused : (q : Refusal) → t .answer ≡ answers.Refused q → refused q ≡ coreList n sets
+  unfolding coreList
+  cores-refused q f = asks-refused n sets t e (λ table. result (cores table)) q f
+
+  pub cores-listed : t .answer ≡ answers.Accepted → result (take (t .found) (t .cores)) ≡ coreList n sets
+  unfolding coreList
+  cores-listed f =
+      let u = accept-taken n sets t e f in
+      ap (λ (l : List ℕ). result l) (u .list) ∙ asks-taken n sets t e (λ table. result (cores table)) u
+
+module _ (file : TableFile) (s : List ℕ) (e : fileOutcome file s ≡ readWholeComplete s) where
+  abbrev table : Complete
+  table = record { n = file .complete .table .n; sets = setsOf (file .complete .table); cores = take (file .complete .found) (file .complete .cores) }
+
+  abbrev read : Answer → Outcome ReadComplete
+  read answer = andThen (outcomeOf answer table) (λ t. result (record { table = t; rest = drop (file .used) s }))
+
+  read-as : (a : Answer) → file .complete .answer ≡ a → andThen (read a) (λ t. result (t .table .sets)) ≡ setsRead s
+  unfolding fileOutcome completeOutcome setsRead
+  read-as a f = ap (λ (o : Outcome ReadComplete). andThen o (λ t. result (t .table .sets))) (ap read (sym f) ∙ e)
+
+  pub read-refused : (q : Refusal) → file .complete .answer ≡ answers.Refused q → refused q ≡ setsRead s
+  read-refused q f = read-as (answers.Refused q) f
+
+  pub read-listed : file .complete .answer ≡ answers.Accepted → result (take (file .complete .table .count) (file .complete .table .sets)) ≡ setsRead s
+  unfolding setsOf
+  read-listed f = read-as answers.Accepted f
+
+-- ---- verdicts
+
+module _ (v : Held) (k : ℕ) where
+  pub code-yes : v .shared ≡ true → 0 ≡ codeOf (verdictCode (verdictOf v k))
+  unfolding verdictOf
+  code-yes h = ap (λ (w : Verdict). codeOf (verdictCode w)) (sym (cond-true _ _ h))
+
+  pub code-no : v .shared ≡ false → length (v .positions) ≡ 4 → (first : List ℕ) → first ≡ take k (v .positions) → (r : ℕ) → r ≡ fromBytes (take 8 first)
+      → r ≡ codeOf (verdictCode (verdictOf v k))
+  unfolding verdictOf
+  code-no h four first e r f =
+      f
+      ∙ ap fromBytes (ap (take 8) e ∙ take-all 8 (take k (v .positions)) (omega (arith, length-take k (v .positions))))
+      ∙ ap (λ (w : Verdict). codeOf (verdictCode w)) (sym (cond-false _ _ h))
+
+pub judged-as : (j : Judgement) (k n : ℕ) (sets : List ℕ) → judgementOf j k ≡ verdict k n sets → (a : Answer) → j .answer ≡ a → (r : ℕ)
+    → r ≡ codeOf (andThen (outcomeOf a (verdictOf (j .verdict) k)) verdictCode) → r ≡ codeOf (andThen (verdict k n sets) verdictCode)
+unfolding judgementOf
+judged-as j k n sets e a f r g =
+    g ∙ ap (λ (o : Outcome Verdict). codeOf (andThen o verdictCode)) (ap (λ (b : Answer). outcomeOf b (verdictOf (j .verdict) k)) (sym f) ∙ e)
+
+-- ---- the writer
+
+pub wrote-as : (w v : Writing) (size : Outcome ℕ) → writingOutcome w ≡ size → w ≡ v → (r : ℕ) → r ≡ codeOf (writingOutcome v) → r ≡ codeOf size
+wrote-as w v size e f r g = g ∙ ap codeOf (ap writingOutcome (sym f) ∙ e)

@@ -1,0 +1,3 @@
+-- What the exported functions answer.
+pub mod Codes
+pub mod Deliveries

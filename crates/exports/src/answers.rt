@@ -1,0 +1,58 @@
+// Answers as numbers, and lists of sets put into lent memory.
+ghost use mathlib.Core.Path.{_≡_};
+ghost use lib.ListN.{length, take};
+ghost use Rattle.drive_sets.specs.Refusals.{refused, result};
+ghost use Rattle.verdicts.specs.Held.{verdictOf};
+ghost use Rattle.exports.specs.Codes.{codeOf, listAfter, verdictCode};
+use drive_sets::Refusal;
+use verdicts::Verdict;
+
+const REFUSED: u64 = 0x1_0000_0000;
+
+// A refusal's number above 2 ^ 32.
+pub fn refusal_code(r: Refusal) -> u64
+    ensures { λ c. ⌜ c ≡ codeOf (refused r) ⌝ }
+{
+    REFUSED + r.number() as u64
+}
+
+// The first sets, so many or all there are.
+fn first_sets(sets: &[u64], count: usize) -> &[u64]
+    ensures { λ r. ⌜ now r ≡ take count (now (sets .entry)) ⌝ }
+{
+    if sets.len() < count {
+        return &sets[0..];
+    }
+    &sets[0..count]
+}
+
+// The first sets, so many or all there are, over the first places of out; how many they are.
+pub fn put_list(sets: &[u64], count: usize, out: &mut [u64]) -> u64
+    ensures { λ r. ⌜ r ≡ length (take count (now (sets .entry))) ⌝ }
+    ensures { λ _. ⌜ now (out .exit) ≡ listAfter (now (out .entry)) (result (take count (now (sets .entry)))) ⌝ }
+{
+    let part = first_sets(sets, count);
+    hitting_sets::slices::copy(part, out);
+    part.len() as u64
+}
+
+// The first bytes, so many or all there are.
+pub fn first_bytes(s: &[u8], count: usize) -> &[u8]
+    ensures { λ r. ⌜ now r ≡ take count (now (s .entry)) ⌝ }
+{
+    if s.len() < count {
+        return &s[0..];
+    }
+    &s[0..count]
+}
+
+// 0 for a yes, and for a no the first k positions, one byte each.
+pub fn verdict_code(v: Verdict, k: u8) -> u64
+    ensures { λ r. ⌜ r ≡ codeOf (verdictCode (verdictOf v k)) ⌝ }
+{
+    if v.shared {
+        return 0;
+    }
+    let positions = v.positions;
+    records::from_bytes(first_bytes(&positions, k as usize))
+}

@@ -1,0 +1,100 @@
+// The library for programs in Rust or C: numbers and slices in, one number out. A slice passes as a pointer and a length. A refusal is its
+// number above 2 ^ 32.
+ghost use mathlib.Core.Path.{_≡_};
+ghost use Rattle.drive_sets.specs.Refusals.{andThen};
+ghost use Rattle.tables.specs.Tables.{coreList};
+ghost use Rattle.tables.specs.Files.{writeTable};
+ghost use Rattle.tables.specs.Answers.{writeSize, bufferAfter};
+ghost use Rattle.verdicts.specs.Verdicts.{verdict};
+ghost use Rattle.exports.specs.Codes.{codeOf, countOf, listAfter, setsRead, verdictCode};
+ghost use Rattle.exports.specs.Deliveries.{delivered};
+use drive_sets::Drive;
+use drive_sets::Pattern;
+use tables::reading::Answer;
+use tables::writing::Writing;
+
+mod answers;
+mod deliveries;
+
+// The cores of a table of n drives and some sets into the first places of out, as many as there is room for; how many there are.
+#[no_mangle]
+pub extern "C" fn regdulyn_cores(n: u8, sets: &[u64], out: &mut [u64]) -> u64
+    ensures { λ r. ⌜ r ≡ codeOf (countOf (coreList n (now (sets .entry)))) ⌝ }
+    ensures { λ _. ⌜ now (out .exit) ≡ listAfter (now (out .entry)) (coreList n (now (sets .entry))) ⌝ }
+{
+    let t = tables::completing::accept(n, sets);
+    let answer = t.answer;
+    let cores = t.cores;
+    let found = t.found;
+    match answer {
+        Answer::Refused(r) => answers::refusal_code(r),
+        Answer::Accepted => answers::put_list(&cores, found, out),
+    }
+}
+
+// The sets of the normal table in some bytes into the first places of out, as many as there is room for; how many there are.
+#[no_mangle]
+pub extern "C" fn regdulyn_read_table(s: &[u8], out: &mut [u64]) -> u64
+    ensures { λ r. ⌜ r ≡ codeOf (countOf (setsRead (now (s .entry)))) ⌝ }
+    ensures { λ _. ⌜ now (out .exit) ≡ listAfter (now (out .entry)) (setsRead (now (s .entry))) ⌝ }
+{
+    let file = tables::files::read_whole(s);
+    let complete = file.complete;
+    let answer = complete.answer;
+    let table = complete.table;
+    let sets = table.sets;
+    let count = table.count;
+    match answer {
+        Answer::Refused(r) => answers::refusal_code(r),
+        Answer::Accepted => answers::put_list(&sets, count, out),
+    }
+}
+
+// The normal table of n drives and some sets into buf, from the starting place on; how many bytes.
+#[no_mangle]
+pub extern "C" fn regdulyn_write_table(n: u8, sets: &[u64], buf: &mut [u8], start: usize) -> u64
+    ensures { λ r. ⌜ r ≡ codeOf (writeSize n (now (sets .entry)) start (now (buf .entry))) ⌝ }
+    ensures { λ _. ⌜ now (buf .exit) ≡ bufferAfter (now (buf .entry)) (writeTable n (now (sets .entry)) start (now (buf .entry))) ⌝ }
+{
+    let w = tables::writing::write_table(n, sets, buf, start);
+    match w {
+        Writing::Refused(r) => answers::refusal_code(r),
+        Writing::Wrote(size) => size as u64,
+    }
+}
+
+// The verdict on k: 0 for a yes, and for a no the positions, one byte each, the first lowest.
+#[no_mangle]
+pub extern "C" fn regdulyn_verdict(k: u8, n: u8, sets: &[u64]) -> u64
+    ensures { λ r. ⌜ r ≡ codeOf (andThen (verdict k n (now (sets .entry))) verdictCode) ⌝ }
+{
+    let j = verdicts::calls::judge(k, n, sets);
+    let answer = j.answer;
+    let v = j.verdict;
+    match answer {
+        Answer::Refused(r) => answers::refusal_code(r),
+        Answer::Accepted => answers::verdict_code(v, k),
+    }
+}
+
+// Opens an exchange and hands it so many messages of `size` bytes each, one behind the other; how many are accepted.
+#[no_mangle]
+pub extern "C" fn regdulyn_deliver(
+    n: u8,
+    sets: &[u64],
+    own: u8,
+    number: u16,
+    messages: &[u8],
+    count: usize,
+    size: usize,
+) -> u64
+    ensures { λ r. ⌜ r ≡ codeOf (delivered n (now (sets .entry)) own number count size (now (messages .entry))) ⌝ }
+{
+    let opened = exchange::open(n, sets, Drive(own), Pattern(number));
+    let answer = opened.answer;
+    let state = opened.state;
+    match answer {
+        Answer::Refused(r) => answers::refusal_code(r),
+        Answer::Accepted => deliveries::deliver_all(state, messages, count, size) as u64,
+    }
+}
