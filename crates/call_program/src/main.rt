@@ -49,7 +49,7 @@ fn open_sets(x: Exchange, s: &[u8], sets: &[u64]) -> Exchange {
     let own = Drive(script::byte(s, 3));
     let number = Pattern(script::short(s, 4));
     let listed = script::first_sets(sets, script::count(s));
-    let r = exchange::open(n, listed, own, number);
+    let r = exchange::opening::open(n, listed, own, number);
     let answer = r.answer;
     printing::print_answer(answer);
     opened(x, r)
@@ -108,7 +108,7 @@ fn step(x: Exchange, s: &[u8]) -> Exchange {
             x
         }
         MESSAGE => message(x, s),
-        CLOSE => replied(exchange::close(x)),
+        CLOSE => replied(exchange::closing::close(x)),
         _ => x,
     }
 }

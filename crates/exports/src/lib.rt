@@ -90,7 +90,7 @@ pub extern "C" fn regdulyn_deliver(
 ) -> u64
     ensures { λ r. ⌜ r ≡ codeOf (delivered n (now (sets .entry)) own number count size (now (messages .entry))) ⌝ }
 {
-    let opened = exchange::open(n, sets, Drive(own), Pattern(number));
+    let opened = exchange::opening::open(n, sets, Drive(own), Pattern(number));
     let answer = opened.answer;
     let state = opened.state;
     match answer {

@@ -31,7 +31,7 @@ fn closed(was: Exchange, x: Exchange, crashes: Crashes, d: Drive, round: Round) 
     if !is_closer(was, crashes, d, round) {
         return x;
     }
-    let reply = exchange::close(x);
+    let reply = exchange::closing::close(x);
     reply.state
 }
 

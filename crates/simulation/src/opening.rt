@@ -15,12 +15,12 @@ pub fn open_all(n: u8, core: u64, numbers: [u16; 64]) -> [Exchange; 64]
     requires { ⌜ n ≤ 64 ⌝ }
     ensures { λ r. ⌜ ((d : ℕ) → isDrive n d ≡ true → stateAt r d ≡ initial n core d (getD numbers (d - 1) 0)) ⌝ }
 {
-    let first = exchange::initial(n, core, Drive(1), Pattern(0));
+    let first = exchange::opening::initial(n, core, Drive(1), Pattern(0));
     let mut all = [first; 64];
     let mut i = 0u8;
     while i < n {
         let at = i as usize;
-        let x = exchange::initial(n, core, Drive(i + 1), Pattern(numbers[at]));
+        let x = exchange::opening::initial(n, core, Drive(i + 1), Pattern(numbers[at]));
         all[at] = x;
         i += 1;
     }

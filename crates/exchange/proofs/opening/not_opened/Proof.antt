@@ -1,0 +1,16 @@
+-- A refusal, beside a broken state.
+use mathlib.Core.Path.{refl}
+use Rattle.exchange.specs.Replies.{replyOf, notOpened}
+use borrow.Author.Needs.{needs}
+use Rattle.exchange.proofs.opening.not_opened.Statement.{statement}
+use Rattle.exchange.proofs.opening.not_opened.Tie as tie
+
+initial-requires : tie.Need-initial-requires
+initial-requires c κs = search needs
+
+returns : tie.Need-returns
+unfolding replyOf notOpened
+returns c = record { answer = refl; state = c .initial .ensures }
+
+pub not-opened-spec : {M : Type 1} → statement M
+not-opened-spec = tie.close (tie.spec initial-requires returns)

@@ -1,0 +1,42 @@
+-- A core drive's own number stands at its place.
+use mathlib.Core.Path.{sym, _∙_}
+use native.Mathlib.Omega.{arith}
+use borrow.Author.Tests.{not-true, not-false}
+use Rattle.drive_sets.specs.Bools.{cond-true, cond-false}
+use Rattle.exchange.proofs.Opens.{own-bounds}
+use borrow.Author.Needs.{needs}
+use Rattle.exchange.proofs.opening.own_numbers.Statement.{statement}
+use Rattle.exchange.proofs.opening.own_numbers.Tie as tie
+
+has-requires : tie.Need-has-requires
+has-requires c κs = search needs
+
+returns : tie.Need-returns
+returns c = sym (cond-false _ _ (sym (c .before .has .ensures) ∙ not-true _ (c .if1 .taken)))
+
+sub-numbers : tie.Need-sub-numbers
+sub-numbers c = let s = c .before .before in let w = own-bounds (s .args .own .0) (s .args .core) _ (s .fits .core .fits) (c .before .has .ensures) (c .if1 .left) in omega (arith, w .0, w .1)
+
+cast-numbers : tie.Need-cast-numbers
+cast-numbers c = search needs
+
+mul-numbers : tie.Need-mul-numbers
+mul-numbers c = search needs
+
+array-write-numbers : tie.Need-array-write-numbers
+array-write-numbers c = let s = c .before .before in let w = own-bounds (s .args .own .0) (s .args .core) _ (s .fits .core .fits) (c .before .has .ensures) (c .if1 .left) in omega (arith, w .0, w .1)
+
+returns-2 : tie.Need-returns-2
+returns-2 c = sym (cond-true _ _ (sym (c .before .has .ensures) ∙ not-false _ (c .if1 .left)))
+
+pub own-numbers-spec : {M : Type 1} → statement M
+own-numbers-spec =
+    tie.close
+    (tie.spec
+    has-requires
+    returns
+    sub-numbers
+    cast-numbers
+    mul-numbers
+    array-write-numbers
+    returns-2)

@@ -1,0 +1,95 @@
+// The opening of an exchange from a table, a drive number and a pattern number.
+ghost use mathlib.Core.Path.{_≡_};
+ghost use mathlib.Core.Bool.{cond};
+ghost use Prim.Native.Nat.{_-_};
+ghost use lib.ListN.{set, replicate};
+ghost use Rattle.drive_sets.specs.Masks.{has, single};
+ghost use Rattle.drive_sets.specs.Refusals.{refused};
+ghost use Rattle.exchange.specs.Calls.{initial, opening};
+ghost use Rattle.exchange.specs.Replies.{Replied, notOpened};
+use crate::Announcement;
+use crate::Decision;
+use crate::Exchange;
+use crate::Reply;
+use crate::is_drive;
+use drive_sets::Drive;
+use drive_sets::Pattern;
+use drive_sets::Refusal;
+use drive_sets::Round;
+use tables::calls::Chosen;
+use tables::reading::Answer;
+
+// At opening a core drive knows its own number and a listener knows none.
+fn own_known(own: Drive, core: u64) -> u64
+    ensures { λ r. ⌜ r ≡ cond (has (own .0) core) (single (own .0)) 0 ⌝ }
+{
+    if drive_sets::has(own, core) {
+        return drive_sets::single(own);
+    }
+    0
+}
+
+fn own_numbers(own: Drive, core: u64, number: u16) -> [u16; 64]
+    ensures { λ r. ⌜ r ≡ cond (has (own .0) core) (set (replicate 64 0) (own .0 - 1) number) (replicate 64 0) ⌝ }
+{
+    let mut numbers = [0u16; 64];
+    if !drive_sets::has(own, core) {
+        return numbers;
+    }
+    let i = own.0;
+    numbers[(i - 1) as usize] = number;
+    numbers
+}
+
+// The state at opening.
+pub fn initial(n: u8, core: u64, own: Drive, number: Pattern) -> Exchange
+    ensures { λ r. ⌜ r ≡ initial n core (own .0) (number .0) ⌝ }
+{
+    let known = own_known(own, core);
+    let numbers = own_numbers(own, core, number.0);
+    Exchange {
+        n,
+        own,
+        core,
+        round: Round(1),
+        before: core,
+        heard: 0,
+        known,
+        start: known,
+        numbers,
+        announced: Announcement::Absent,
+        decision: Decision::Undecided,
+        halted: false,
+    }
+}
+
+// A refused opening: there is no state, and the one beside the answer is broken.
+fn not_opened(r: Refusal) -> Reply
+    ensures { λ t. ⌜ Replied (refused r) notOpened t ⌝ }
+{
+    let state = initial(0, 0, Drive(0), Pattern(0));
+    Reply {
+        answer: Answer::Refused(r),
+        state,
+    }
+}
+
+// An exchange from a table, a drive number and a pattern number: the table's refusals, then 8.
+pub fn open(n: u8, sets: &[u64], own: Drive, number: Pattern) -> Reply
+    ensures { λ r. ⌜ Replied (opening n (now (sets .entry)) (own .0) (number .0)) notOpened r ⌝ }
+{
+    let chosen = tables::calls::chosen_core(n, sets);
+    match chosen {
+        Chosen::Refused(r) => not_opened(r),
+        Chosen::Core(core) => {
+            if !is_drive(n, own) {
+                return not_opened(Refusal::DriveNumber);
+            }
+            let state = initial(n, core, own, number);
+            Reply {
+                answer: Answer::Accepted,
+                state,
+            }
+        }
+    }
+}
