@@ -15,16 +15,21 @@ pub fn verdict(k: u8, n: u8, sets: &[u64]) -> Answer<u64> {
     Ok(disjoint(k, &table, 0, full(n)).unwrap_or(0))
 }
 
+/// The innermost two loops.
+fn disjoint_pair(table: &[u64], from: usize, shared: u64) -> Option<u64> {
+    (from..table.len()).find_map(|first| {
+        let common = shared & table[first];
+        let later = table[first..].iter().position(|set| set & common == 0)?;
+        Some((first + 1) as u64 | ((first + later + 1) as u64) << 8)
+    })
+}
+
 fn disjoint(k: u8, table: &[u64], from: usize, shared: u64) -> Option<u64> {
-    let rest = table[from..].iter().enumerate();
-    if k == 1 {
-        let (place, _) = rest.into_iter().find(|(_, set)| *set & shared == 0)?;
-        return Some((from + place + 1) as u64);
+    if k == 2 {
+        return disjoint_pair(table, from, shared);
     }
-    for (place, set) in rest {
-        if let Some(later) = disjoint(k - 1, table, from + place, shared & set) {
-            return Some((from + place + 1) as u64 | later << 8);
-        }
-    }
-    None
+    (from..table.len()).find_map(|first| {
+        let later = disjoint(k - 1, table, first, shared & table[first])?;
+        Some((first + 1) as u64 | later << 8)
+    })
 }

@@ -1,11 +1,11 @@
 // The search for the minimal hitting sets: Berge's method, depth first, with look-ahead. Each is found once; a call goes one drive deeper, so
 // the calls are at most 65 deep, and no list of candidates grows.
 ghost use mathlib.Core.Path.{_≡_};
-ghost use mathlib.Core.Bool.{true, not, _&&_};
+ghost use mathlib.Core.Bool.{true, not};
 ghost use Prim.Native.Nat.{ℕ, _-_, _≤_, _<_};
 ghost use lib.ListN.{length, getD, take, drop};
 ghost use Rattle.drive_sets.specs.Lists.{keep};
-ghost use Rattle.drive_sets.specs.Masks.{minus, meets, subset, drives};
+ghost use Rattle.drive_sets.specs.Masks.{drives};
 ghost use Rattle.hitting_sets.specs.Hitting.{hits, Minimal, alone, search, minimals};
 ghost use Rattle.hitting_sets.specs.LookAhead.{inAll, privates, barred, covered, doomed, goesOn};
 ghost use Rattle.hitting_sets.specs.Missed.{FirstMissed};
@@ -78,23 +78,14 @@ fn barred(sets: &[u64], m: u64) -> u64
     bar
 }
 
-// m misses s, and the drives of s outside the bar are in p.
-fn missed_within(s: u64, m: u64, bar: u64, p: u64) -> bool
-    ensures { λ r. ⌜ r ≡ (not (meets s m) && subset (minus s bar) p) ⌝ }
-{
-    if drive_sets::meets(s, m) {
-        return false;
-    }
-    drive_sets::subset(drive_sets::minus(s, bar), p)
-}
-
-// Some set that m misses has its drives outside the bar in p.
+// Some set that m misses has its drives outside the bar in p: it lies within the bar and p, outside m.
 fn covered(sets: &[u64], m: u64, bar: u64, p: u64) -> bool
     ensures { λ r. ⌜ r ≡ covered (now (sets .entry)) m bar p ⌝ }
 {
+    let within = drive_sets::minus(bar | p, m);
     let mut i = 0;
     while i < sets.len() {
-        if missed_within(sets[i], m, bar, p) {
+        if drive_sets::subset(sets[i], within) {
             return true;
         }
         i += 1;
@@ -150,7 +141,8 @@ fn next_missed(sets: &[u64], pos: usize, m: u64) -> usize
     i
 }
 
-// Each drive of t has a private set among the first `seen` sets, which t meets, and t is not doomed.
+// Each drive of t has a private set among the first `seen` sets, which t meets, and t is not doomed. Where t misses no set there is nothing
+// to look ahead to.
 fn goes_on(sets: &[u64], seen: usize, t: u64) -> bool
     requires { ⌜ (seen ≤ length (now sets)) × (hits (take seen (now sets)) t ≡ true) ⌝ }
     ensures { λ r. ⌜ r ≡ goesOn (now (sets .entry)) seen t ⌝ }
@@ -158,7 +150,11 @@ fn goes_on(sets: &[u64], seen: usize, t: u64) -> bool
     if alone(&sets[0..seen], t) != t {
         return false;
     }
-    !doomed(sets, seen, t)
+    let next = next_missed(sets, seen, t);
+    if next == sets.len() {
+        return true;
+    }
+    !doomed(sets, next, t)
 }
 
 // The minimal hitting sets that the search lists from m on, a minimal hitting set of the sets before `pos`, put into `out` behind the

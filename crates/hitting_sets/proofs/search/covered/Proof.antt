@@ -1,38 +1,50 @@
--- The first set that covers p decides.
+-- The first set that covers p decides; a set covers p where it lies within one set of drives.
 use Rattle.drive_sets.specs.Lists.Laws.{any-true, any-false}
 use borrow.Author.Needs.{needs}
+use Rattle.hitting_sets.proofs.Covers.{covers-within}
 use Rattle.hitting_sets.proofs.Scans.{Ahead, ahead-start, ahead-turn, ahead-found, ahead-end}
 use Rattle.hitting_sets.specs.LookAhead.{covered}
-use Rattle.drive_sets.specs.Masks.{minus, meets, subset}
+use Rattle.drive_sets.specs.Masks.{union, minus, meets, subset}
 use Rattle.drive_sets.specs.Lists.{any}
-use lib.ListN.{length}
-use mathlib.Core.Bool.{not, _&&_}
-use mathlib.Core.Path.{sym, _∙_}
-use Prim.Native.Nat.{_-_}
+use lib.ListN.{length, getD}
+use mathlib.Core.Bool.{Bool, not, _&&_}
+use mathlib.Core.Path.{_≡_, sym, ap, _∙_}
+use Prim.Native.Nat.{ℕ, _-_, _^_, _<_}
 use Rattle.hitting_sets.proofs.search.covered.Statement.{statement}
 use Rattle.hitting_sets.proofs.search.covered.Tie as tie
 
 abbrev Inv-loop : tie.InvT-loop
-Inv-loop sets m bar p i₀ i = Ahead (λ l. any (λ s. not (meets s m) && subset (minus s bar) p) l) sets i
+Inv-loop sets m bar p within i₀ i = Ahead (λ l. any (λ s. not (meets s m) && subset (minus s bar) p) l) sets i
 
 abbrev μ-loop : tie.MeasureT-loop
-μ-loop sets m bar p i₀ i = length sets - i
+μ-loop sets m bar p within i₀ i = length sets - i
+
+minus-requires : tie.Need-minus-requires Inv-loop μ-loop
+minus-requires c κs = search needs
 
 loop-holds : tie.Need-loop-holds Inv-loop μ-loop
 loop-holds c = ahead-start _ _
 
-mul-missed-within : tie.Need-mul-missed-within Inv-loop μ-loop
-mul-missed-within c = search needs
+mul-subset : tie.Need-mul-subset Inv-loop μ-loop
+mul-subset c = search needs
 
-shared-slice-read-missed-within : tie.Need-shared-slice-read-missed-within Inv-loop μ-loop
-shared-slice-read-missed-within c = search needs
+shared-slice-read-subset : tie.Need-shared-slice-read-subset Inv-loop μ-loop
+shared-slice-read-subset c = search needs
 
-missed-within-requires : tie.Need-missed-within-requires Inv-loop μ-loop
-missed-within-requires c κs = search needs
+subset-requires : tie.Need-subset-requires Inv-loop μ-loop
+subset-requires c κs = search needs
+
+-- what the test of one set says
+is : {b : Bool} (s m bar p within : ℕ) → s < 2 ^ 64 → within ≡ minus (union bar p) m → b ≡ subset s within → b ≡ (not (meets s m) && subset (minus s bar) p)
+is s m bar p within word e f = f ∙ (ap (subset s) e ∙ covers-within s m bar p word)
 
 returns : tie.Need-returns Inv-loop μ-loop
-unfolding covered
-returns c = ahead-found _ _ _ (c .before .before .before .before .loop .inv) (c .before .before .before .loop-test .taken) _ (λ l. any-true _ _ l (sym (c .before .missed-within .ensures) ∙ c .if1 .taken))
+unfolding covered union
+returns c =
+    let a = c .before .before .before .before .before .before .before .args in
+    let l = c .before .before .before .before .loop in
+    let told = is (getD (a .sets .now) (l .i) 0) (a .m) (a .bar) (a .p) _ (c .before .before .before .before .before .before .shared-slice-known .given (l .i) .fits) (c .before .before .before .before .before .minus .ensures) (c .before .subset .ensures) in
+    ahead-found _ _ _ (l .inv) (c .before .before .before .loop-test .taken) _ (λ k. any-true _ _ k (sym told ∙ c .if1 .taken))
 
 add-i : tie.Need-add-i Inv-loop μ-loop
 add-i c = search needs
@@ -41,7 +53,12 @@ loop-less : tie.Need-loop-less Inv-loop μ-loop
 loop-less c = search needs
 
 loop-again : tie.Need-loop-again Inv-loop μ-loop
-loop-again c = ahead-turn _ _ _ (c .before .before .before .before .loop .inv) (c .before .before .before .loop-test .taken) (λ l. any-false _ _ l (sym (c .before .missed-within .ensures) ∙ c .if1 .left))
+unfolding union
+loop-again c =
+    let a = c .before .before .before .before .before .before .before .args in
+    let l = c .before .before .before .before .loop in
+    let told = is (getD (a .sets .now) (l .i) 0) (a .m) (a .bar) (a .p) _ (c .before .before .before .before .before .before .shared-slice-known .given (l .i) .fits) (c .before .before .before .before .before .minus .ensures) (c .before .subset .ensures) in
+    ahead-turn _ _ _ (l .inv) (c .before .before .before .loop-test .taken) (λ k. any-false _ _ k (sym told ∙ c .if1 .left))
 
 returns-2 : tie.Need-returns-2 Inv-loop μ-loop
 unfolding covered any
@@ -53,10 +70,11 @@ covered-spec =
     (tie.spec
     Inv-loop
     μ-loop
+    minus-requires
     loop-holds
-    mul-missed-within
-    shared-slice-read-missed-within
-    missed-within-requires
+    mul-subset
+    shared-slice-read-subset
+    subset-requires
     returns
     add-i
     loop-less

@@ -1,5 +1,6 @@
--- A branch goes on: a test after the other, the first on the sets seen.
+-- A branch goes on: a test after the other, the first on the sets seen; where no set is missed, the last is not needed.
 use Rattle.hitting_sets.specs.Hitting.{alone}
+use Rattle.hitting_sets.proofs.Covers.{met-before, misses-none}
 use borrow.Author.Tests.{eq-eqb, ne-eqb}
 use lib.ListN.{take}
 use native.Mathlib.Nat.{sub-zero}
@@ -28,14 +29,30 @@ returns c =
     let e = c .before .alone .ensures ∙ ap (λ (k : ℕ). alone (take k (a .sets .now)) (a .t)) (sub-zero (a .seen)) in
     rw (ne-eqb (alone (take (a .seen) (a .sets .now)) (a .t)) (a .t) (λ q. c .if1 .taken (e ∙ q)))
 
-doomed-requires : tie.Need-doomed-requires
-doomed-requires c κs = search needs
+next-missed-requires : tie.Need-next-missed-requires
+next-missed-requires c κs = search needs
 
 returns-2 : tie.Need-returns-2
 returns-2 c =
-    let a = c .before .before .before .before .before .args in
-    let e = c .before .before .alone .ensures ∙ ap (λ (k : ℕ). alone (take k (a .sets .now)) (a .t)) (sub-zero (a .seen)) in
-    rw (eq-eqb (alone (take (a .seen) (a .sets .now)) (a .t)) (a .t) (sym e ∙ c .before .if1 .left)) (ap not (c .doomed .ensures))
+    let start = c .before .before .before .before .before .before in
+    let a = start .args in
+    let e = c .before .before .before .alone .ensures ∙ ap (λ (k : ℕ). alone (take k (a .sets .now)) (a .t)) (sub-zero (a .seen)) in
+    misses-none (a .sets .now) (a .seen) (a .t) _ (start .fits .t .fits) (start .pre .1) (sym e ∙ c .before .before .if1 .left) (c .before .next-missed .ensures) (c .if2 .taken)
+
+doomed-requires : tie.Need-doomed-requires
+doomed-requires c κs =
+    let start = c .before .before .before .before .before .before in
+    let a = start .args in
+    let e = c .before .before .before .alone .ensures ∙ ap (λ (k : ℕ). alone (take k (a .sets .now)) (a .t)) (sub-zero (a .seen)) in (
+      c .before .next-missed .ensures .within,
+      met-before (a .sets .now) (a .seen) (a .t) _ (start .fits .t .fits) (start .pre .1) (sym e ∙ c .before .before .if1 .left) (c .before .next-missed .ensures),
+    )
+
+returns-3 : tie.Need-returns-3
+returns-3 c =
+    let a = c .before .before .before .before .before .before .before .args in
+    let e = c .before .before .before .before .alone .ensures ∙ ap (λ (k : ℕ). alone (take k (a .sets .now)) (a .t)) (sub-zero (a .seen)) in
+    rw (eq-eqb (alone (take (a .seen) (a .sets .now)) (a .t)) (a .t) (sym e ∙ c .before .before .before .if1 .left)) (ap not (c .doomed .ensures))
 
 pub goes-on-spec : {M : Type 1} → statement M
 goes-on-spec =
@@ -46,5 +63,7 @@ goes-on-spec =
     part-alone-end
     alone-requires
     returns
+    next-missed-requires
+    returns-2
     doomed-requires
-    returns-2)
+    returns-3)
