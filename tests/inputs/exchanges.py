@@ -2,79 +2,19 @@
 calls between, handmade states, and openings.
 """
 
-from dataclasses import replace
-from itertools import cycle
 from random import Random
 from typing import Iterator
 
 from regdulyn import Exchange, Refusal, close, message, opening, send
 
 from .calls import MAX_BYTES, Script
-from .damage import BYTE_DAMAGE
 from .frames import accepted_table, crowded_table, full, places
-from .records import MARKS, UNKNOWN_MARKS
+from .messages import damaged_message, made_message
 from .scenarios import patterns, run_table, stop_rich_table
+from .states import broken_states, fair_state, quiet_state
 
 OPERATIONS = 400
 LARGEST = 2000
-
-
-# Messages
-
-def head(rng: Random, x: Exchange, sender: int) -> bytes:
-    """Sender and round of a message, mostly due ones."""
-    round_number = rng.choice((x.round,) * 8 + (0, x.round + 1, x.round - 1, 64, 255))
-    return bytes([sender % 256, round_number % 256])
-
-
-def some_drives(rng: Random, mask: int) -> int:
-    """Any part of a set, often a small or large one."""
-    chance = rng.choice((0.1, 0.5, 0.9, 1))
-    return sum(1 << place for place in places(mask) if rng.random() < chance)
-
-
-def number_for(rng: Random, x: Exchange, place: int) -> int:
-    """Mostly the number that is held for the drive, known or not."""
-    return x.numbers[place] if rng.random() < 0.97 else rng.randrange(65536)
-
-
-def any_sender(rng: Random, x: Exchange) -> int:
-    """Mostly a core drive that is not oneself."""
-    others = [place + 1 for place in places(x.core) if place + 1 != x.own] or [x.own]
-    odd = (x.own, 0, x.n, x.n + 1, 65, 255, rng.randint(1, 64))
-    return rng.choice(others if rng.random() < 0.85 else odd)
-
-
-def made_known(rng: Random, x: Exchange) -> bytes:
-    """A KN that fits the state, or nearly."""
-    sender = any_sender(rng, x)
-    mask = some_drives(rng, x.core)
-    if rng.random() < 0.95 and 1 <= sender <= 64:
-        mask |= 1 << sender - 1
-    if rng.random() < 0.1:
-        mask |= 1 << rng.choice((rng.randrange(64), min(x.n, 63)))
-    values = [number_for(rng, x, place).to_bytes(2, "little") for place in places(mask)]
-    return b"KN" + head(rng, x, sender) + mask.to_bytes(8, "little") + b"".join(values)
-
-
-def made_decide(rng: Random, x: Exchange) -> bytes:
-    value = rng.choice((0, 65535, rng.randrange(65536)))
-    return b"DC" + head(rng, x, any_sender(rng, x)) + value.to_bytes(2, "little")
-
-
-def made_message(rng: Random, x: Exchange) -> bytes:
-    return (made_known if rng.random() < 0.6 else made_decide)(rng, x)
-
-
-def damaged_message(rng: Random, data: bytes) -> bytes:
-    """Another mark, a cut, more behind, or bytes changed."""
-    if rng.random() < 0.2:
-        data = rng.choice(MARKS + UNKNOWN_MARKS) + data[2:]
-    if rng.random() < 0.2:
-        return data[:rng.choice((0, 1, 2, 3, 4, 5, 6, 11, 12, 13, len(data) - 1))]
-    for _ in range(rng.choice((1, 1, 2))):
-        data = rng.choice(BYTE_DAMAGE)(rng, data)
-    return data
 
 
 # Calls that are mostly refused
@@ -212,52 +152,14 @@ def exchange(rng: Random, script: Script) -> None:
         stray_call(rng, script, seen)
 
 
-# Handmade states
-
-def fair_state(rng: Random) -> Exchange:
-    """A state that keeps every rule, and is otherwise anything."""
-    n = rng.choice((1, 2, 6, 63, 64, rng.randint(1, 64)))
-    core = some_drives(rng, full(n)) or 1 << rng.randrange(n)
-    own = rng.choice(places(core)) + 1 if rng.random() < 0.7 else rng.randint(1, n)
-    itself = core & 1 << own - 1
-    size = core.bit_count()
-    known = some_drives(rng, core) | itself
-    numbers = [rng.randrange(65536) if known >> place & 1 or rng.random() < 0.1 else 0
-               for place in range(64)]
-    heard = some_drives(rng, core)
-    announcement = (rng.choice((0, own, n, 64, 255)), rng.randrange(65536))
-    return Exchange(
-        n=n, own=own, core=core, round=rng.choice((1, size, rng.randint(1, size))),
-        heard_before=rng.choice((core, core, heard | itself, heard, 0, some_drives(rng, core))),
-        heard=rng.choice((0, heard, heard, core)), known=known,
-        known_at_start=rng.choice((known, some_drives(rng, core) | itself)), numbers=numbers,
-        announcement=announcement if rng.random() < 0.3 else None,
-        decision=rng.choice((0, 65535, rng.randrange(65536))) if rng.random() < 0.3 else None,
-        halted=rng.random() < 0.15)
-
-
-def broken_states(rng: Random) -> Iterator[Exchange]:
-    """Fair states with one rule of 28 broken, each rule in turn."""
-    for rule in cycle(range(14)):
-        x = fair_state(rng)
-        itself = 1 << x.own - 1
-        outside = full(64) & ~x.core
-        extra = 1 << rng.choice(places(outside)) if outside else 0
-        above = 1 << rng.randint(x.n, 63) if x.n < 64 else 0
-        yield (
-            replace(x, n=rng.choice((0, 65, 255))), replace(x, n=0), replace(x, core=0),
-            replace(x, core=x.core | above), replace(x, known=x.known & ~itself),
-            replace(x, known_at_start=x.known_at_start & ~itself),
-            replace(x, own=rng.choice((0, x.n + 1, 65, 255))), replace(x, own=0),
-            replace(x, round=rng.choice((0, x.core.bit_count() + 1, 255))),
-            replace(x, heard_before=x.heard_before | extra),
-            replace(x, heard=x.heard | extra), replace(x, known=x.known | extra),
-            replace(x, known_at_start=x.known_at_start | extra),
-            replace(x, core=x.core & ~(1 << rng.choice(places(x.core)))))[rule]
-
+# Scripts
 
 def handmade(rng: Random, script: Script, broken: Iterator[Exchange]) -> None:
     """Calls on a state that no exchange need reach."""
+    if rng.random() < 0.15:
+        script.load(quiet_state(rng))
+        script.close()
+        return
     script.load(next(broken) if rng.random() < 0.3 else fair_state(rng))
     for _ in range(rng.randint(1, 6)):
         chance = rng.random()
@@ -280,8 +182,6 @@ def openings(rng: Random, script: Script) -> None:
             n, sets = accepted_table(rng)
             script.open(n, sets, rng.randint(1, n), rng.choice((0, 65535, rng.randrange(65536))))
 
-
-# Scripts
 
 def scripts(seed: int, count: int) -> Iterator[Script]:
     """Scripts with so many operations in all, or a few more."""
