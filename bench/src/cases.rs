@@ -1,6 +1,6 @@
 //! The calls that are timed: each by the library and by the baseline, on the same input.
 
-use crate::baseline::{exchange, tables, verdicts, Answer};
+use crate::baseline::{exchange, runs, tables, verdicts, Answer};
 use crate::inputs::{self, Input, MESSAGES, MESSAGE_SIZE, OWN_NUMBER};
 use crate::library;
 use std::hint::black_box;
@@ -25,7 +25,7 @@ struct Lent {
 
 impl Lent {
     fn new() -> Lent {
-        Lent { sets: vec![7; 1024], bytes: vec![7; 2048] }
+        Lent { sets: vec![7; 1024], bytes: vec![7; 4096] }
     }
 
     /// Puts sets into the first places; how many.
@@ -170,6 +170,17 @@ fn deliver(name: &str, times: usize) -> Case {
     )
 }
 
+/// The run program's text for a core of 64.
+fn run(name: &str, stops: bool) -> Case {
+    let file = inputs::whole_exchange(stops);
+    let same = file.clone();
+    Case::new(
+        name.to_string(),
+        move |lent| library::run_listing(black_box(&file), &mut lent.bytes),
+        move |lent| runs::listing(black_box(&same), &mut lent.bytes) as u64,
+    )
+}
+
 /// What one message takes, from an opening and one with all messages.
 pub fn one_message(opening: Times, all: Times) -> Times {
     let one = |all: f64, opening: f64| (all - opening) / MESSAGES as f64;
@@ -193,6 +204,8 @@ pub fn all() -> Vec<Case> {
         verdict("128 sets, 7 pairs", inputs::one_of_each_pair(false)),
         write(inputs::one_of_each_pair(false)),
         read(inputs::one_of_each_pair(false)),
+        run("whole exchange, core of 64", false),
+        run("whole exchange, core of 64, 63 stops", true),
         deliver("opening, core of 64", 0),
         deliver("opening, then 63 messages of 64 numbers", MESSAGES),
     ]

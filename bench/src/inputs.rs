@@ -83,3 +83,23 @@ pub fn known_messages() -> Vec<u8> {
 
 pub const MESSAGES: usize = 63;
 pub const MESSAGE_SIZE: usize = 140;
+
+/// A table of 64 single drives and a run file in which each drive but the last stops in the round of its number, if asked for, after one send.
+pub fn whole_exchange(stops: bool) -> Vec<u8> {
+    let mut file = vec![b'F', b'R', 64];
+    for place in 0..64 {
+        file.extend([b'S', b'V']);
+        file.extend((1u64 << place).to_le_bytes());
+    }
+    file.extend([b'E', b'N', 64]);
+    for drive in 1..=64u8 {
+        file.extend([b'P', b'R', drive]);
+        file.extend((OWN_NUMBER - u16::from(drive)).to_le_bytes());
+    }
+    let last = if stops { 63 } else { 0 };
+    for drive in 1..=last {
+        file.extend([b'C', b'R', drive, drive, 1]);
+    }
+    file.extend([b'E', b'N', last]);
+    file
+}

@@ -24,6 +24,13 @@ mod c {
             times: usize,
             size: usize,
         ) -> u64;
+        pub fn regdulyn_run_listing(
+            input: *const u8,
+            length: usize,
+            out: *mut u8,
+            room: usize,
+            start: usize,
+        ) -> u64;
     }
 }
 
@@ -58,4 +65,8 @@ pub fn deliver(n: u8, sets: &[u64], own: u8, number: u16, messages: &[u8], times
             size,
         )
     }
+}
+
+pub fn run_listing(input: &[u8], out: &mut [u8]) -> u64 {
+    unsafe { c::regdulyn_run_listing(input.as_ptr(), input.len(), out.as_mut_ptr(), out.len(), 0) }
 }

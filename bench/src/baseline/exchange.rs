@@ -1,9 +1,10 @@
-//! One drive's part in an exchange: opening and message.
+//! One drive's part in an exchange: opening, send, message and close.
 
 use super::cores::bits;
 use super::tables::{accept, full};
 use super::Answer;
 
+#[derive(Clone)]
 pub struct Exchange {
     n: u8,
     own: u8,
@@ -15,7 +16,8 @@ pub struct Exchange {
     start: u64,
     numbers: [u16; 64],
     announced: Option<(u8, u16)>,
-    halted: bool,
+    pub decision: Option<u16>,
+    pub halted: bool,
 }
 
 fn single(drive: u8) -> u64 {
@@ -27,12 +29,17 @@ pub fn open(n: u8, sets: &[u64], own: u8, number: u16) -> Answer<Exchange> {
     if !(1..=n).contains(&own) {
         return Err(8);
     }
+    Ok(initial(n, core, own, number))
+}
+
+/// The state at opening.
+pub fn initial(n: u8, core: u64, own: u8, number: u16) -> Exchange {
     let known = core & single(own);
     let mut numbers = [0; 64];
     if known != 0 {
         numbers[own as usize - 1] = number;
     }
-    Ok(Exchange {
+    Exchange {
         n,
         own,
         core,
@@ -43,8 +50,9 @@ pub fn open(n: u8, sets: &[u64], own: u8, number: u16) -> Answer<Exchange> {
         start: known,
         numbers,
         announced: None,
+        decision: None,
         halted: false,
-    })
+    }
 }
 
 impl Exchange {
@@ -61,6 +69,63 @@ impl Exchange {
             || self.round == 0
             || self.round as u32 > self.core.count_ones()
             || inside & !self.core != 0
+    }
+
+    /// The message of the round, over what stood in the buffer.
+    pub fn send(&self, buffer: &mut Vec<u8>) -> Answer<()> {
+        if self.is_broken() {
+            return Err(28);
+        }
+        if self.halted {
+            return Err(23);
+        }
+        if self.core & single(self.own) == 0 {
+            return Err(27);
+        }
+        buffer.clear();
+        match self.decision {
+            Some(number) => {
+                buffer.extend([b'D', b'C', self.own, self.round]);
+                buffer.extend(number.to_le_bytes());
+            }
+            None => {
+                buffer.extend([b'K', b'N', self.own, self.round]);
+                buffer.extend(self.start.to_le_bytes());
+                for drive in bits(self.start) {
+                    buffer.extend(self.numbers[drive.trailing_zeros() as usize].to_le_bytes());
+                }
+            }
+        }
+        Ok(())
+    }
+
+    /// The close of the round.
+    pub fn close(&mut self) -> Answer<()> {
+        if self.is_broken() {
+            return Err(28);
+        }
+        if self.halted {
+            return Err(23);
+        }
+        let own = self.core & single(self.own);
+        let heard = self.heard | own;
+        let was = self.decision;
+        if was.is_none() {
+            let smallest = || bits(self.known).map(|drive| self.numbers[drive.trailing_zeros() as usize]).min();
+            self.decision = match self.announced {
+                Some((_, number)) => Some(number),
+                None if heard != 0 && heard == self.before => smallest(),
+                None => None,
+            };
+        }
+        let decided = self.decision.is_some();
+        self.halted = was.is_some() || (own == 0 && decided) || u32::from(self.round) == self.core.count_ones();
+        self.round += u8::from(!self.halted);
+        self.before = heard;
+        self.heard = 0;
+        self.start = self.known;
+        self.announced = None;
+        Ok(())
     }
 
     pub fn message(&mut self, bytes: &[u8]) -> Answer<()> {

@@ -2,6 +2,7 @@
 
 pub mod cores;
 pub mod exchange;
+pub mod runs;
 pub mod tables;
 pub mod verdicts;
 

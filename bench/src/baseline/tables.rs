@@ -59,12 +59,27 @@ pub fn accept(n: u8, sets: &[u64]) -> Answer<Table> {
 }
 
 /// The mark at the start of the bytes, and what stands behind it.
-fn mark(bytes: &[u8]) -> Answer<([u8; 2], &[u8])> {
+pub fn mark(bytes: &[u8]) -> Answer<([u8; 2], &[u8])> {
     bytes.split_first_chunk::<2>().map(|(mark, rest)| (*mark, rest)).ok_or(1)
 }
 
 /// A table and nothing more.
 pub fn read(bytes: &[u8]) -> Answer<Table> {
+    let (n, sets, rest) = listed(bytes)?;
+    if !rest.is_empty() {
+        return Err(7);
+    }
+    complete(n, &sets)
+}
+
+/// A table and what stands behind it.
+pub fn read_with_rest(bytes: &[u8]) -> Answer<(Table, &[u8])> {
+    let (n, sets, rest) = listed(bytes)?;
+    Ok((complete(n, &sets)?, rest))
+}
+
+/// n and the sets as they are listed, and what stands behind them.
+fn listed(bytes: &[u8]) -> Answer<(u8, Vec<u64>, &[u8])> {
     let (first, rest) = mark(bytes)?;
     if &first != b"FR" {
         return Err(2);
@@ -94,10 +109,7 @@ pub fn read(bytes: &[u8]) -> Answer<Table> {
                 if count as usize != sets.len() {
                     return Err(6);
                 }
-                if !behind.is_empty() {
-                    return Err(7);
-                }
-                return complete(n, &sets);
+                return Ok((n, sets, behind));
             }
             _ => return Err(2),
         }

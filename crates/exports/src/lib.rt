@@ -6,6 +6,8 @@ ghost use Rattle.tables.specs.Tables.{coreList};
 ghost use Rattle.tables.specs.Files.{writeTable};
 ghost use Rattle.tables.specs.Answers.{writeSize, bufferAfter};
 ghost use Rattle.verdicts.specs.Verdicts.{verdict};
+ghost use Rattle.listings.specs.RunListing.{runProgram};
+ghost use Rattle.listings.specs.Printing.{printedSize, printedBytes};
 ghost use Rattle.exports.specs.Codes.{codeOf, countOf, listAfter, setsRead, verdictCode};
 ghost use Rattle.exports.specs.Deliveries.{delivered};
 use drive_sets::Drive;
@@ -96,5 +98,18 @@ pub extern "C" fn regdulyn_deliver(
     match answer {
         Answer::Refused(r) => answers::refusal_code(r),
         Answer::Accepted => deliveries::deliver_all(state, messages, count, size) as u64,
+    }
+}
+
+// What the run program prints for some bytes, into out, from the starting place on; how many bytes.
+#[no_mangle]
+pub extern "C" fn regdulyn_run_listing(input: &[u8], out: &mut [u8], start: usize) -> u64
+    ensures { λ r. ⌜ r ≡ codeOf (printedSize (runProgram (now (input .entry))) start (now (out .entry))) ⌝ }
+    ensures { λ _. ⌜ now (out .exit) ≡ bufferAfter (now (out .entry)) (printedBytes (runProgram (now (input .entry))) start (now (out .entry))) ⌝ }
+{
+    let w = listings::programs::run_listing(input, out, start);
+    match w {
+        Writing::Refused(r) => answers::refusal_code(r),
+        Writing::Wrote(size) => size as u64,
     }
 }
