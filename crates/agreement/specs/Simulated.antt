@@ -7,8 +7,8 @@ use Rattle.runs.specs.World.{Call}
 use Rattle.runs.specs.Scenario.{Scenario}
 use Rattle.runs.specs.Runs.{Run}
 use Rattle.runs.specs.Statement.{Valid, Up, Decides, Agreement}
-use Rattle.runs.specs.Canonical.{canonical, decides, endingOf}
-use Rattle.runs.specs.Simulated.{EveryRunGives, EndsAsAgreed, SimulatedAgreement}
+use Rattle.runs.specs.Canonical.{canonical}
+use Rattle.runs.specs.Simulated.{decides, endingOf, EveryRunGives, EndsAsAgreed, SimulatedAgreement}
 use Rattle.agreement.specs.Refinement.Canonical.{canonical-run}
 use Rattle.agreement.specs.Refinement.Endings.{ending-rounds, rounds-ending}
 use Rattle.agreement.specs.Refinement.Runs.{rounds-decide, decides-rounds}

@@ -16,7 +16,7 @@ use Rattle.exchange.specs.declared.Announcement.{Announcement}
 use Rattle.exchange.specs.declared.Announcement.the-variants.{Absent, By}
 use Rattle.exchange.specs.Messages.{knownBytes, decideBytes}
 use Rattle.exchange.specs.Calls.{decisionOn}
-use Rattle.agreement.specs.Rounds.{Instance, InFrame, knows, before, decision}
+use Rattle.sync_crash.specs.Rounds.{Instance, InFrame, knows, before, decision}
 pub mod Numbers
 pub mod Announcements
 pub mod KnownSets

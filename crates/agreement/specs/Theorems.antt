@@ -4,30 +4,24 @@
 use mathlib.Core.Path.{_≡_, sym, ap, _∙_}
 use mathlib.Core.Bool.{true}
 use mathlib.Core.List.{List}
-use mathlib.Core.Logic.{_↔_}
 use Prim.Native.Nat.{ℕ, zero, suc, _<_}
 use native.Mathlib.Omega.{arith}
 use Rattle.drive_sets.specs.Masks.{has, size}
 use Rattle.exchange.specs.Calls.{decisionOn}
+use Rattle.sync_crash.specs.Rounds.Agreement as rounds
+use Rattle.sync_crash.specs.Rounds.Agreement.{failures-below-core}
 use Rattle.runs.specs.World.{Call}
 use Rattle.runs.specs.Scenario.{stays, Scenario, coreOf}
 use Rattle.runs.specs.Runs.{Run}
-use Rattle.runs.specs.Statement.{Valid, Up, coreCrashes, DecidesAfter, Decides, Agreed, Agreement, Tight, RunsExist, SameResult}
+use Rattle.runs.specs.Instance.{instanceOf, correct}
+use Rattle.runs.specs.Statement.{Valid, Up, coreCrashes, Decides, Agreed, Agreement, Tight, RunsExist, ByRules, SameResult}
 use Rattle.runs.specs.Canonical.{canonical}
-use Rattle.agreement.specs.Rounds.{DecidesIn}
-use Rattle.agreement.specs.Rounds.Agreement as rounds
-use Rattle.agreement.specs.Rounds.Agreement.{failures-below-core}
-use Rattle.agreement.specs.Instance.{instanceOf, correct}
-use Rattle.agreement.specs.Instance.Laws.{lawful, core-size, crashes-failures, untouched-core, stay-correct, correct-staysUp, up-inFrame, up-correct}
+use Rattle.agreement.specs.Instance.{lawful, core-size, crashes-failures, untouched-core, stay-correct, correct-staysUp, up-inFrame, up-correct}
 use Rattle.agreement.specs.Tight.Laws.{tight-rounds}
 use Rattle.agreement.specs.Refinement.Canonical.{canonical-run}
 use Rattle.agreement.specs.Refinement.Runs.{final-decision, rounds-decide, decides-rounds}
 
 -- ---- a drive that stays up decides in a round exactly when the rules of document 01 give it
-
-unfoldable pub ByRules : Type 0
-ByRules = (s : Scenario) → Valid s → (calls : List Call) (run : Run s calls) → (d v k : ℕ) → Up s d
-    → DecidesAfter run d v k ↔ ((k < size (coreOf s)) × DecidesIn (instanceOf s) d v k)
 
 pub by-rules : ByRules
 unfolding ByRules

@@ -10,10 +10,10 @@ use lib.ListN.{take}
 use Rattle.drive_sets.specs.Masks.{has, single, minus, drives}
 use Rattle.hitting_sets.specs.Order.{normal}
 use Rattle.tables.specs.Tables.{chosen}
+use Rattle.sync_crash.specs.Rounds.{DecidesIn}
 use Rattle.runs.specs.Scenario.{Crash, stays, crashes, Scenario, coreOf}
+use Rattle.runs.specs.Instance.{instanceOf}
 use Rattle.runs.specs.Statement.{Valid, Untouched, Up, coreCrashes}
-use Rattle.agreement.specs.Rounds.{DecidesIn}
-use Rattle.agreement.specs.Instance.{instanceOf}
 pub mod Turns
 pub mod Laws
 

@@ -1,1 +1,1 @@
-// The rounds of SyncCrash as mathematics, and what is proved of them. No code: definitions and proofs, in specs/.
+// Demand 3 proved: every run of a scenario follows the rounds of SyncCrash, and so reaches agreement. No code: proofs in specs/.

@@ -1,20 +1,20 @@
 -- The marked cases of document 01: one list of inputs and the text that each must give, and one statement that the definitions give it.
 use mathlib.Core.Path.{_≡_, refl}
 use mathlib.Core.List.{List, [], _∷_, _++_}
+use mathlib.Core.Option.{orElse}
 use Prim.Native.Nat.{ℕ, suc}
-use Rattle.drive_sets.specs.Lists.{elem}
+use Rattle.drive_sets.specs.Lists.{elem, firstSome}
 use Rattle.drive_sets.specs.Masks.{outside, ofDrives}
 use Rattle.hitting_sets.specs.Hitting.{hits}
 use Rattle.records.specs.Marks.{ascii}
 use Rattle.tables.specs.Files.{dueAfter, atEnd, readSets, readListed, accepted, readTable, readWhole}
 use Rattle.verdicts.specs.Verdicts.{firstWith, disjoint, blocksOf, verdictOn}
 use Rattle.exchange.specs.Samples.{evaluated}
-use Rattle.runs.specs.World.{nothingOpen, put, afterCall, onState, apply, applyAll, active, decisionOf}
-use Rattle.runs.specs.Scenario.{frame, coreOf, goneBefore, goneBy, hasCrash, listOf, cut, reach}
+use Rattle.sync_crash.specs.Rounds.{start, smallestOf, sends, reaches, adds, known, announces, announced, heard, unchanged, quiet, ifQuiet, decides, halts, closes, closed, step, after}
+use Rattle.runs.specs.Scenario.{frame, coreOf, goneBy, hasCrash, listOf, cut, reach}
 use Rattle.runs.specs.CrashRecords.{crashed, isNext, isRound, mostSends, checkedCrash, crashIn, scenario}
-use Rattle.runs.specs.Runs.{sendingOf, sender, closer}
 use Rattle.runs.specs.Statement.{coreCrashes}
-use Rattle.runs.specs.Canonical.{openingCalls, deliveries, messageCalls, roundCalls, roundsFrom, canonicalRounds, endingOn, firstDecision, endingOf, endings}
+use Rattle.runs.specs.Simulated.{endingAfter, endingFrom, endingOf, endings}
 use Rattle.run_files.specs.RunFiles as runFiles
 use Rattle.run_files.specs.RunFiles.{readProposals, crashAt, readCrashes, untouchedLeft, readRest, readRunFile}
 use Rattle.simulation.specs.Simulation.{checkedCrashes, simulated}
@@ -116,5 +116,5 @@ marked =
     ∷ []
 
 pub marked-cases : AllGiven marked
-unfolding marked sv fileA fileC fileH fileI prs cr onA fileJ evaluated elem outside ofDrives hits dueAfter atEnd readSets readListed accepted readTable readWhole firstWith disjoint blocksOf verdictOn nothingOpen put afterCall onState apply applyAll active decisionOf frame coreOf goneBefore goneBy hasCrash listOf cut reach crashed isNext isRound mostSends checkedCrash crashIn scenario sendingOf sender closer coreCrashes openingCalls deliveries messageCalls roundCalls roundsFrom canonicalRounds endingOn firstDecision endingOf endings readProposals crashAt runFiles.atEnd readCrashes untouchedLeft readRest readRunFile checkedCrashes simulated digit inBase decimal hexadecimal fields line lines verdictLine refusalLine listing tableProgram endingText driveLine endingLines coreLine simulatedWith simulatedFile runProgram
+unfolding marked sv fileA fileC fileH fileI prs cr onA fileJ evaluated orElse elem firstSome outside ofDrives hits dueAfter atEnd readSets readListed accepted readTable readWhole firstWith disjoint blocksOf verdictOn start smallestOf sends reaches adds known announces announced heard unchanged quiet ifQuiet decides halts closes closed step after frame coreOf goneBy hasCrash listOf cut reach crashed isNext isRound mostSends checkedCrash crashIn scenario coreCrashes endingAfter endingFrom endingOf endings readProposals crashAt runFiles.atEnd readCrashes untouchedLeft readRest readRunFile checkedCrashes simulated digit inBase decimal hexadecimal fields line lines verdictLine refusalLine listing tableProgram endingText driveLine endingLines coreLine simulatedWith simulatedFile runProgram
 marked-cases = (refl, (refl, (refl, (refl, (refl, (refl, (refl, (refl, (refl, (refl, tt))))))))))

@@ -5,7 +5,7 @@ use Rattle.drive_sets.specs.Refusals.{Outcome, refused, result, andThen, number
 use Rattle.records.specs.Marks.{ascii}
 use Rattle.tables.specs.Tables.{chosen}
 use Rattle.tables.specs.Files.{ReadTable, readTable}
-use Rattle.runs.specs.Canonical.{Ending, decides, undecided, stopped}
+use Rattle.runs.specs.Simulated.{Ending, decides, undecided, stopped}
 use Rattle.run_files.specs.RunFiles.{RunFile, readRunFile}
 use Rattle.simulation.specs.Simulation.{Simulated, simulated}
 use Rattle.listings.specs.Text.{decimal, hexadecimal}

@@ -4,7 +4,7 @@ use mathlib.Core.List.{List, [], _∷_, _++_}
 use Prim.Native.Nat.{ℕ, _-_}
 use lib.ListN.{getD}
 use Rattle.drive_sets.specs.Masks.{has}
-use Rattle.runs.specs.Canonical.{Ending, stopped}
+use Rattle.runs.specs.Simulated.{Ending, stopped}
 use Rattle.simulation.specs.Endings.{endingBy}
 use Rattle.listings.specs.Text.{inBase}
 use Rattle.listings.specs.RunListing.{driveLine}

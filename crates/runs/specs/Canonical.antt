@@ -1,5 +1,6 @@
--- The canonical order of calls of a scenario: all openings; in each round all sends, then all messages, then all closes, by drive. And what
--- it gives for each drive.
+-- The canonical order of calls of a scenario, in which the code makes them: all openings; in each round all sends, then all messages, then all
+-- closes, by drive. And what it gives for a drive.
+use mathlib.Core.Path.{_≡_}
 use mathlib.Core.List.{List, [], _∷_, _++_, map}
 use Prim.Native.Nat.{ℕ, zero, suc}
 use Rattle.drive_sets.specs.Lists.{keep}
@@ -8,8 +9,10 @@ use Rattle.drive_sets.specs.Refusals.{Outcome, refused, result}
 use Rattle.exchange.specs.declared.Decision.{Decision}
 use Rattle.exchange.specs.declared.Decision.the-variants.{Undecided, Decided}
 use Rattle.runs.specs.World.{Call, opens, sends, delivers, closes, World, nothingOpen, applyAll, decisionOf}
-use Rattle.runs.specs.Scenario.{Crash, stays, crashes, Scenario, frame, coreOf, reach}
+use Rattle.runs.specs.Scenario.{Scenario, frame, coreOf, reach}
 use Rattle.runs.specs.Runs.{sendingOf, sender, closer, joined}
+use Rattle.runs.specs.Statement.{Valid, Up}
+use Rattle.runs.specs.Simulated.{Ending, decides, undecided, endingOf}
 
 -- room for the longest message: 12 bytes and 64 numbers
 abbrev pub room : ℕ
@@ -46,12 +49,7 @@ canonical s = openingCalls s ++ joined (canonicalRounds s)
 
 -- ---- what it gives
 
--- a drive decides on a pattern number in a round, or not at all; a drive with a CR counts as stopped, even if it decided before
-pub data Ending : Type 0 where
-  decides : ℕ → ℕ → Ending  -- the pattern number and the round
-  undecided : Ending
-  stopped : Ending
-
+-- by the decision in its state after round r, or later
 unfoldable pub endingOn : Decision → ℕ → Ending → Ending
 endingOn Undecided r later = later
 endingOn (Decided v) r later = decides (v .0) r
@@ -63,9 +61,10 @@ firstDecision d r w (p ∷ ps) =
     let later = firstDecision d (suc r) (applyAll w p) ps in
     endingOn (decisionOf (applyAll w p d)) r later
 
-unfoldable pub endingOf : Scenario → Crash → ℕ → Ending
-endingOf s stays d = firstDecision d 1 (applyAll nothingOpen (openingCalls s)) (canonicalRounds s)
-endingOf s (crashes r m) d = stopped
+-- how a drive that stays up ends in it
+abbrev pub canonicalEnding : Scenario → ℕ → Ending
+canonicalEnding s d = firstDecision d 1 (applyAll nothingOpen (openingCalls s)) (canonicalRounds s)
 
-unfoldable pub endings : Scenario → List Ending
-endings s = map (λ d. endingOf s (s .crash d) d) (frame s)
+-- it is one of the runs, and gives what the simulated exchange gives
+unfoldable pub CanonicalGives : Type 0
+CanonicalGives = (s : Scenario) → Valid s → (d : ℕ) → Up s d → canonicalEnding s d ≡ endingOf s (s .crash d) d

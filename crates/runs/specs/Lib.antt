@@ -1,8 +1,10 @@
--- Calls and worlds, scenarios, also from lists, runs, the statements about them, the canonical order of calls and what it gives.
+-- Calls and worlds, scenarios, also from lists, runs, scenarios as instances of the rounds, the statements about runs, the simulated exchange,
+-- and the canonical order of calls.
 pub mod World
 pub mod Scenario
 pub mod CrashRecords
 pub mod Runs
+pub mod Instance
 pub mod Statement
-pub mod Canonical
 pub mod Simulated
+pub mod Canonical

@@ -2,6 +2,7 @@
 use mathlib.Core.Path.{_≡_}
 use mathlib.Core.Bool.{Bool, true, false, not, _&&_, _||_}
 use mathlib.Core.List.{List, [], _∷_, _++_}
+use mathlib.Core.Logic.{_↔_}
 use Prim.Native.Nat.{ℕ, zero, suc, _-_, _≤_, _<_}
 use lib.Dec.{eqb}
 use lib.ListN.{length, take, getD}
@@ -12,9 +13,11 @@ use Rattle.hitting_sets.specs.Order.{normal}
 use Rattle.tables.specs.Tables.{chosen, normalTable}
 use Rattle.exchange.specs.declared.Decision.the-variants.{Decided}
 use Rattle.exchange.specs.State.{isDrive, isDecided}
+use Rattle.sync_crash.specs.Rounds.{DecidesIn}
 use Rattle.runs.specs.World.{Call, opens, sends, delivers, closes, World, nothingOpen, apply, applyAll, decisionOf, roundIn}
 use Rattle.runs.specs.Scenario.{Scenario, stays, crashes, coreOf, hasCrash}
 use Rattle.runs.specs.Runs.{Run, joined}
+use Rattle.runs.specs.Instance.{instanceOf}
 pub mod Laws
 
 -- ---- scenarios
@@ -137,7 +140,13 @@ Tight = (n : ℕ) (sets : List ℕ) → normalTable n sets ≡ result (normal se
 unfoldable pub RunsExist : Type 0
 RunsExist = (s : Scenario) → Valid s → (calls : List Call) × Run s calls
 
--- ---- two runs of one scenario leave the same decisions, made in the same rounds, at every drive that stays up
+-- ---- a drive that stays up decides in a round exactly when the rules of document 01 give it: when the rounds do
+
+unfoldable pub ByRules : Type 0
+ByRules = (s : Scenario) → Valid s → (calls : List Call) (run : Run s calls) → (d v k : ℕ) → Up s d
+    → DecidesAfter run d v k ↔ ((k < size (coreOf s)) × DecidesIn (instanceOf s) d v k)
+
+-- ---- so two runs of one scenario leave the same decisions, made in the same rounds, at every drive that stays up
 
 pub record Same {s : Scenario} {calls calls′ : List Call} (run : Run s calls) (run′ : Run s calls′) (d : ℕ) : Type 0 where
   pub decides : (v r : ℕ) → Decides run d v r → Decides run′ d v r

@@ -12,7 +12,8 @@ use Rattle.exchange.specs.declared.Decision.the-variants.{Undecided, Decided}
 use Rattle.exchange.specs.State.{isDrive}
 use Rattle.runs.specs.World.{World, nothingOpen, applyAll, decisionOf}
 use Rattle.runs.specs.Scenario.{Scenario, coreOf}
-use Rattle.runs.specs.Canonical.{openingCalls, roundCalls, roundsFrom, canonicalRounds, Ending, decides, undecided, stopped, endingOn, firstDecision}
+use Rattle.runs.specs.Simulated.{Ending, decides, undecided, stopped}
+use Rattle.runs.specs.Canonical.{openingCalls, roundCalls, roundsFrom, canonicalRounds, endingOn, firstDecision, canonicalEnding}
 use Rattle.run_files.specs.declared.crashes.Crashes.{Crashes}
 use Rattle.simulation.specs.declared.simulating.Found.{Found}
 use Rattle.simulation.specs.States.{stateAt, worldOf, Says}
@@ -95,6 +96,6 @@ module _ (n core : ℕ) (c : Crashes) (states₀ : List Exchange) where
 
 -- all rounds from the opened world are the canonical ones
 pub all-given : (core : ℕ) (s : Scenario) (d : ℕ) → coreOf s ≡ core → (w : World) → w ≡ applyAll nothingOpen (openingCalls s)
-    → given s d (size core) 1 w ≡ firstDecision d 1 (applyAll nothingOpen (openingCalls s)) (canonicalRounds s)
+    → given s d (size core) 1 w ≡ canonicalEnding s d
 unfolding canonicalRounds
 all-given core s d e w f = ap₂ (λ (k : ℕ) (v : World). given s d (size k) 1 v) (sym e) f

@@ -15,7 +15,8 @@ use Rattle.exchange.specs.declared.Decision.{Decision}
 use Rattle.exchange.specs.declared.Decision.the-variants.{Undecided, Decided}
 use Rattle.exchange.specs.State.{isDrive}
 use Rattle.exchange.specs.State.Laws.{drive-bounds}
-use Rattle.runs.specs.Canonical.{Ending, decides, undecided, endingOn}
+use Rattle.runs.specs.Simulated.{Ending, decides, undecided}
+use Rattle.runs.specs.Canonical.{endingOn}
 use Rattle.simulation.specs.States.{blank, stateAt}
 use Rattle.simulation.specs.Endings.{endingBy, orLater}
 

@@ -72,7 +72,7 @@ module _ (n core : ℕ) (numbers : List ℕ) (c : Crashes) (s : Scenario) (g : T
   opening-gives : (d : ℕ) → isDrive n d ≡ true → opening (s .n) (s .sets) d (s .proposal d) ≡ result (first d)
   unfolding coreOf
   opening-gives d h =
-      opening-accepted (s .n) (s .sets) (normal (s .sets)) d (s .proposal d) (g .accepted) (in-frame d h)
+      opening-accepted (s .n) (s .sets) (normal (s .sets)) d (s .proposal d) (g .valid .accepted) (in-frame d h)
       ∙ (ap₂ (λ (m k : ℕ). result (initial m k d (s .proposal d))) (g .says .frame-is) (g .says .core-is)
       ∙ ap (λ (v : ℕ). result (initial n core d v)) (g .proposal-is d h))
 

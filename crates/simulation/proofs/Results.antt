@@ -25,15 +25,17 @@ use Rattle.tables.specs.Tables.{chosen, normalTable, chosenCore}
 use Rattle.tables.specs.Tables.Laws.{Accepted, table-accepted, chosen-core}
 use Rattle.exchange.specs.State.{isDrive}
 use Rattle.exchange.specs.State.Laws.{drive-bounds, isDrive-range}
-use Rattle.runs.specs.World.{nothingOpen, applyAll}
 use Rattle.runs.specs.Scenario.{Crash, stays, crashes, Scenario, frame, coreOf, hasCrash}
 use Rattle.runs.specs.CrashRecords.{CrashRecord, crashed, crashIn, scenario}
-use Rattle.runs.specs.Statement.{coreCrashes}
-use Rattle.runs.specs.Canonical.{openingCalls, canonicalRounds, Ending, stopped, firstDecision, endingOf, endings}
+use Rattle.runs.specs.Statement.{Valid, Up, coreCrashes}
+use Rattle.runs.specs.Simulated.{Ending, stopped, endingOf, endings}
+use Rattle.runs.specs.Canonical.{canonicalEnding, CanonicalGives}
+use Rattle.agreement.specs.Refinement.Endings.{canonical-gives}
 use Rattle.run_files.specs.declared.crashes.Crashes.{Crashes}
 use Rattle.run_files.specs.Reading as files
 use Rattle.run_files.specs.Reading.Laws.{crashed-in}
 use Rattle.simulation.specs.Simulation.{checkedCrashes, Simulated, simulatedOf, unlessTouched, simulated}
+use Rattle.simulation.specs.Simulation.Laws.{checked-valid}
 use Rattle.simulation.specs.States.{crashAt, Says, Told}
 
 -- ---- lists
@@ -68,23 +70,27 @@ module _ (n core : ℕ) (c : Crashes) (s : Scenario) (g : Says n core c s) where
       (λ d i. has-common d core (c .crashed) ∙ ap₂ (λ (a b : Bool). a && b) (ap (has d) (sym (g .core-is))) (sym (has-crash d)))
       ∙ sym (keep-keep (λ d. hasCrash (s .crash d)) (λ d. has d (coreOf s)) (range 1 64)))
 
-  -- the first decisions of the drives that have no CR
-  pub endings-found : (found : ℕ → Ending) → ((d : ℕ) → isDrive n d ≡ true → found d ≡ firstDecision d 1 (applyAll nothingOpen (openingCalls s)) (canonicalRounds s))
+  -- the first decisions of the drives that have no CR, from the canonical order of calls, where the scenario is valid
+  pub endings-found : Valid s → (found : ℕ → Ending) → ((d : ℕ) → isDrive n d ≡ true → found d ≡ canonicalEnding s d)
       → map (λ d. cond (has d (c .crashed)) stopped (found d)) (range 1 n) ≡ endings s
-  unfolding endings frame endingOf
-  endings-found found same =
+  unfolding endings frame endingOf CanonicalGives
+  endings-found ok found same =
       map-equal (λ d. cond (has d (c .crashed)) stopped (found d)) (λ d. endingOf s (s .crash d) d) (range 1 n)
-      (λ d i. by-test (has d (c .crashed))
+      (λ d i. let inside = isDrive-range n d ∙ i in
+      by-test (has d (c .crashed))
       (λ t. cond-true _ _ t ∙ sym (ap (λ (q : Crash). endingOf s q d) (crashes-at d t)))
-      (λ t. cond-false _ _ t ∙ (same d (isDrive-range n d ∙ i) ∙ sym (ap (λ (q : Crash). endingOf s q d) (stays-at d t)))))
+      (λ t. cond-false _ _ t ∙ (same d inside ∙ canonical-gives s ok d (up d inside t))))
       ∙ ap (λ (m : ℕ). map (λ d. endingOf s (s .crash d) d) (range 1 m)) (sym (g .frame-is))
+    where
+      up : (d : ℕ) → isDrive n d ≡ true → has d (c .crashed) ≡ false → Up s d
+      up d i t = record { inFrame = ap (λ (m : ℕ). isDrive m d) (g .frame-is) ∙ i; stay = stays-at d t }
 
-  pub result-is : (found : ℕ → Ending) → ((d : ℕ) → isDrive n d ≡ true → found d ≡ firstDecision d 1 (applyAll nothingOpen (openingCalls s)) (canonicalRounds s))
+  pub result-is : Valid s → (found : ℕ → Ending) → ((d : ℕ) → isDrive n d ≡ true → found d ≡ canonicalEnding s d)
       → (stops : ℕ) → stops ≡ size (common core (c .crashed))
       → _≡_ {A = Outcome Simulated}
       (result (record { endings = map (λ d. cond (has d (c .crashed)) stopped (found d)) (range 1 n); core = core; stops = stops })) (result (simulatedOf s))
-  result-is found same stops e =
-      ap₂ (λ (es : List Ending) (k : ℕ). result (record { endings = es; core = core; stops = k })) (endings-found found same) (e ∙ stops-counted)
+  result-is ok found same stops e =
+      ap₂ (λ (es : List Ending) (k : ℕ). result (record { endings = es; core = core; stops = k })) (endings-found ok found same) (e ∙ stops-counted)
       ∙ ap (λ (k : ℕ). result (record { endings = endings s; core = k; stops = coreCrashes s })) (sym (g .core-is))
 
 -- ---- the scenario of a call
@@ -125,14 +131,21 @@ module _ (n : ℕ) (sets numbers : List ℕ) (c : Crashes) (core : ℕ) (word : 
   pub chosen-bounds : (n ≤ 64) × (core < 2 ^ n)
   chosen-bounds = (chose .table .high, subst (λ (x : ℕ). x < 2 ^ n) (chose .core-is) (chosen-core n sets (chose .table) .within))
 
-  pub told : Told n core numbers c (scenario n sets (take n numbers) (files.crashesIn c))
+  pub told : ((i : ℕ) → getD numbers i 0 < 65536)
+      → checkedCrashes n core 0 (files.crashesIn c) (result (files.crashesIn c)) ≡ result (files.crashesIn c)
+      → Told n core numbers c (scenario n sets (take n numbers) (files.crashesIn c))
   unfolding scenario coreOf crashAt files.crashesIn
-  told = record {
+  told small checks = record {
     says = record { frame-is = refl; core-is = chose .core-is; crash-is = crash-is };
-    accepted = chose .accepted;
-    proposal-is = λ d h. let b = drive-bounds n d h in getD-take n numbers (d - 1) 0 (omega (arith, b .0, b .1));
+    valid = checked-valid n sets (take n numbers) (files.crashesIn c) (chose .accepted)
+        (λ d h. subst (λ (v : ℕ). v < 65536) (sym (proposed d h)) (small (d - 1)))
+        (ap (λ (k : ℕ). checkedCrashes n k 0 (files.crashesIn c) (result (files.crashesIn c))) (chose .core-is) ∙ checks);
+    proposal-is = proposed;
   }
     where
+      proposed : (d : ℕ) → isDrive n d ≡ true → getD (take n numbers) (d - 1) 0 ≡ getD numbers (d - 1) 0
+      proposed d h = let b = drive-bounds n d h in getD-take n numbers (d - 1) 0 (omega (arith, b .0, b .1))
+
       crash-is : (d : ℕ) → crashIn (files.crashesIn c) d ≡ crashAt c d
       crash-is d =
           crash-listed c (drives (c .crashed)) d

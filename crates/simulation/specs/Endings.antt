@@ -8,7 +8,7 @@ use Rattle.drive_sets.specs.Lists.{range}
 use Rattle.drive_sets.specs.Masks.{has}
 use Rattle.drive_sets.specs.Refusals.{Outcome}
 use Rattle.tables.specs.Reading.{outcomeOf}
-use Rattle.runs.specs.Canonical.{Ending, decides, undecided, stopped}
+use Rattle.runs.specs.Simulated.{Ending, decides, undecided, stopped}
 use Rattle.simulation.specs.declared.simulating.Found.{Found}
 use Rattle.simulation.specs.declared.simulating.Simulated as answers
 use Rattle.simulation.specs.Simulation.{Simulated}

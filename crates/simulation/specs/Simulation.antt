@@ -1,5 +1,5 @@
--- The simulated exchange as a call: from n and sets, pattern numbers and CR records the refusals, or how each drive ends, the core and f. It
--- gives what every run of the scenario gives.
+-- The simulated exchange as a call: from n and sets, pattern numbers and CR records the refusals, or how each drive ends by the rounds, the
+-- core and f. Every run of the scenario gives the same.
 use mathlib.Core.List.{List, [], _∷_}
 use Prim.Native.Nat.{ℕ}
 use Rattle.drive_sets.specs.declared.Refusal.the-variants.{NoneUntouched}
@@ -9,7 +9,7 @@ use Rattle.tables.specs.Tables.{chosen, normalTable}
 use Rattle.runs.specs.Scenario.{Scenario, coreOf}
 use Rattle.runs.specs.CrashRecords.{CrashRecord, crashed, checkedCrash, scenario}
 use Rattle.runs.specs.Statement.{coreCrashes}
-use Rattle.runs.specs.Canonical.{Ending, endings}
+use Rattle.runs.specs.Simulated.{Ending, endings}
 pub mod Laws
 
 -- ---- the CR records: 8, 9, 10 of each

@@ -6,9 +6,6 @@ use Prim.Native.Nat.{ℕ, _-_}
 use lib.ListN.{getD}
 use Rattle.drive_sets.specs.Lists.{range, keep}
 use Rattle.drive_sets.specs.Masks.{has, single, minus, outside, drives}
-use Rattle.drive_sets.specs.Refusals.{result}
-use Rattle.hitting_sets.specs.Order.{normal}
-use Rattle.tables.specs.Tables.{normalTable}
 use Rattle.exchange.specs.declared.Exchange.{Exchange}
 use Rattle.exchange.specs.declared.Announcement.the-variants.{Absent}
 use Rattle.exchange.specs.declared.Decision.the-variants.{Undecided}
@@ -17,6 +14,7 @@ use Rattle.exchange.specs.Calls.{sending}
 use Rattle.runs.specs.World.{Call, World, unopened, opened, active}
 use Rattle.runs.specs.Scenario.{Crash, stays, crashes, Scenario, coreOf, goneBefore, goneBy, cut}
 use Rattle.runs.specs.Runs.{joined}
+use Rattle.runs.specs.Statement.{Valid}
 use Rattle.runs.specs.Canonical.{room, deliveries}
 use Rattle.run_files.specs.declared.crashes.Crashes.{Crashes}
 
@@ -76,8 +74,8 @@ pub record Says (n core : ℕ) (c : Crashes) (s : Scenario) : Type 0 where
   pub core-is : coreOf s ≡ core
   pub crash-is : (d : ℕ) → s .crash d ≡ crashAt c d
 
--- and so is what the drives propose; the table is accepted
+-- and so is what the drives propose; the scenario is valid
 pub record Told (n core : ℕ) (numbers : List ℕ) (c : Crashes) (s : Scenario) : Type 0 where
   pub says : Says n core c s
-  pub accepted : normalTable (s .n) (s .sets) ≡ result (normal (s .sets))
+  pub valid : Valid s
   pub proposal-is : (d : ℕ) → isDrive n d ≡ true → s .proposal d ≡ getD numbers (d - 1) 0

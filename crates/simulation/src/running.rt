@@ -3,9 +3,8 @@ ghost use mathlib.Core.Path.{_≡_};
 ghost use mathlib.Core.Bool.{true};
 ghost use Prim.Native.Nat.{ℕ, _^_, _≤_, _<_};
 ghost use Rattle.exchange.specs.State.{isDrive};
-ghost use Rattle.runs.specs.World.{nothingOpen, applyAll};
 ghost use Rattle.runs.specs.Scenario.{Scenario};
-ghost use Rattle.runs.specs.Canonical.{openingCalls, canonicalRounds, firstDecision};
+ghost use Rattle.runs.specs.Canonical.{canonicalEnding};
 ghost use Rattle.simulation.specs.States.{Told};
 ghost use Rattle.simulation.specs.Endings.{foundOf};
 use crate::noting;
@@ -18,7 +17,7 @@ use run_files::crashes::Crashes;
 // The first decisions of the drives 1 to n, where the table has this chosen core.
 pub fn run(n: u8, core: u64, numbers: [u16; 64], crashes: Crashes) -> Found
     requires { ⌜ (n ≤ 64) × (core < 2 ^ n) ⌝ }
-    ensures { λ r. ⌜ ((s : Scenario) → Told n core numbers crashes s → (d : ℕ) → isDrive n d ≡ true → foundOf r d ≡ firstDecision d 1 (applyAll nothingOpen (openingCalls s)) (canonicalRounds s)) ⌝ }
+    ensures { λ r. ⌜ ((s : Scenario) → Told n core numbers crashes s → (d : ℕ) → isDrive n d ≡ true → foundOf r d ≡ canonicalEnding s d) ⌝ }
 {
     let mut states = opening::open_all(n, core, numbers);
     let mut found = noting::nothing();

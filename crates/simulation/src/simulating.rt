@@ -62,7 +62,7 @@ fn result_on(n: u8, core: u64, numbers: [u16; 64], crashes: Crashes) -> Simulate
     }
 }
 
-// The same, with 11.
+// The same, with 11. The crashes pass 8, 9 and 10.
 fn where_untouched(
     n: u8,
     core: u64,
@@ -70,7 +70,7 @@ fn where_untouched(
     numbers: [u16; 64],
     crashes: Crashes,
 ) -> Simulated
-    requires { ⌜ chosenCore n (now sets) ≡ result core ⌝ }
+    requires { ⌜ (chosenCore n (now sets) ≡ result core) × (checkedCrashes n core 0 (crashesIn crashes) (result (crashesIn crashes)) ≡ result (crashesIn crashes)) ⌝ }
     ensures { λ r. ⌜ simulatedOutcome n r ≡ unlessTouched n (now (sets .entry)) (take n numbers) (crashesIn crashes) ⌝ }
 {
     if tables::calls::meets_all(sets, crashes.crashed) {

@@ -6,14 +6,14 @@ use native.Mathlib.Omega.{arith}
 use Rattle.drive_sets.specs.Bools.{clash}
 use Rattle.drive_sets.specs.Masks.{size}
 use Rattle.drive_sets.specs.Refusals.{result}
+use Rattle.sync_crash.specs.Rounds.Steps.{sender-active}
 use Rattle.runs.specs.World.{World}
 use Rattle.runs.specs.Scenario.{Scenario, coreOf}
 use Rattle.runs.specs.Runs.{sendingOf, sender, Run}
+use Rattle.runs.specs.Instance.{instanceOf}
 use Rattle.runs.specs.Canonical.{room, canonical}
 use Rattle.runs.specs.Statement.{Valid}
-use Rattle.agreement.specs.Rounds.Steps.{sender-active}
-use Rattle.agreement.specs.Instance.{instanceOf}
-use Rattle.agreement.specs.Instance.Laws.{lawful}
+use Rattle.agreement.specs.Instance.{lawful}
 use Rattle.agreement.specs.States.{InRound, messageOf}
 use Rattle.agreement.specs.States.Sending.{length-message, sending-state}
 use Rattle.agreement.specs.Refinement.{Begins}

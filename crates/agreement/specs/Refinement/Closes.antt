@@ -11,15 +11,15 @@ use Rattle.drive_sets.specs.Lists.{elem}
 use Rattle.drive_sets.specs.Lists.Laws.{all-elem}
 use Rattle.drive_sets.specs.Masks.{has, size}
 use Rattle.exchange.specs.Calls.{next, closing}
+use Rattle.sync_crash.specs.Rounds.{halted}
+use Rattle.sync_crash.specs.Rounds.Steps.{Closer, reaches-true, closer-active, active-sends}
 use Rattle.runs.specs.World.{Slot, closes, opened, World, put, afterCall, onState}
 use Rattle.runs.specs.World.Laws.{put-same, put-other}
 use Rattle.runs.specs.Scenario.{Scenario, coreOf, frame, reach}
 use Rattle.runs.specs.Runs.{Book, isCalled, settled, sender, closer, arrived, due}
+use Rattle.runs.specs.Instance.{instanceOf}
 use Rattle.runs.specs.Statement.{Valid}
-use Rattle.agreement.specs.Rounds.{halted}
-use Rattle.agreement.specs.Rounds.Steps.{Closer, reaches-true, closer-active, active-sends}
-use Rattle.agreement.specs.Instance.{instanceOf}
-use Rattle.agreement.specs.Instance.Laws.{lawful}
+use Rattle.agreement.specs.Instance.{lawful}
 use Rattle.agreement.specs.States.{stateOf}
 use Rattle.agreement.specs.States.Closing.{closing-state}
 use Rattle.agreement.specs.Refinement.{reachesIn, Begins, HasClosed, Follows}

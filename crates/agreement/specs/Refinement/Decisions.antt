@@ -9,16 +9,16 @@ use Rattle.drive_sets.specs.Masks.{size}
 use Rattle.exchange.specs.declared.Decision.the-variants.{Undecided, Decided}
 use Rattle.exchange.specs.Calls.{decisionOn}
 use Rattle.exchange.specs.Calls.Results.{undecided-none, decided-some, undecided-decided}
+use Rattle.sync_crash.specs.Rounds.{DecidesIn, decision}
+use Rattle.sync_crash.specs.Rounds.Steps.{Closer, closer-active}
 use Rattle.runs.specs.World.{Call, closes, World, apply, applyAll, decisionOf, roundIn}
 use Rattle.runs.specs.World.Laws.{put-same, refused-keeps}
 use Rattle.runs.specs.Scenario.{Scenario, coreOf}
 use Rattle.runs.specs.Runs.{Book, emptyBook, due, roundPart}
 use Rattle.runs.specs.Runs.Books.{closed-by}
+use Rattle.runs.specs.Instance.{instanceOf}
 use Rattle.runs.specs.Statement.{Valid}
-use Rattle.agreement.specs.Rounds.{DecidesIn, decision}
-use Rattle.agreement.specs.Rounds.Steps.{Closer, closer-active}
-use Rattle.agreement.specs.Instance.{instanceOf}
-use Rattle.agreement.specs.Instance.Laws.{lawful}
+use Rattle.agreement.specs.Instance.{lawful}
 use Rattle.agreement.specs.States.{stateOf}
 use Rattle.agreement.specs.States.Closing.{next-decision}
 use Rattle.agreement.specs.Refinement.{Begins, Follows, bookAfter, allowed}

@@ -11,18 +11,18 @@ use Rattle.drive_sets.specs.Bools.{clash, by-test, and-left, and-right, or-righ
 use Rattle.drive_sets.specs.Lists.{elem}
 use Rattle.drive_sets.specs.Masks.{size}
 use Rattle.exchange.specs.Calls.{receiving}
+use Rattle.sync_crash.specs.Rounds.{InFrame}
+use Rattle.sync_crash.specs.Rounds.Steps.{Active, true-reaches}
+use Rattle.sync_crash.specs.Rounds.HeardSets.{sender-was-heard}
 use Rattle.runs.specs.World.{Slot, opened, World, put, afterCall, onState, active}
 use Rattle.runs.specs.World.Laws.{put-same, put-other, idle-message}
 use Rattle.runs.specs.Scenario.{Scenario, coreOf, frame, reach}
 use Rattle.runs.specs.Scenario.Laws.{reach-frame, reach-other}
 use Rattle.runs.specs.Runs.{Book, wroteJust, owes}
 use Rattle.runs.specs.Runs.Books.{sameList-true}
+use Rattle.runs.specs.Instance.{instanceOf}
 use Rattle.runs.specs.Statement.{Valid}
-use Rattle.agreement.specs.Rounds.{InFrame}
-use Rattle.agreement.specs.Rounds.Steps.{Active, true-reaches}
-use Rattle.agreement.specs.Rounds.HeardSets.{sender-was-heard}
-use Rattle.agreement.specs.Instance.{instanceOf}
-use Rattle.agreement.specs.Instance.Laws.{lawful}
+use Rattle.agreement.specs.Instance.{lawful}
 use Rattle.agreement.specs.States.{stateOf, messageOf}
 use Rattle.agreement.specs.States.Receiving.{receiving-state}
 use Rattle.agreement.specs.Refinement.{reachesIn, Begins, HasSent, Follows}

@@ -18,15 +18,15 @@ use Rattle.exchange.specs.State.{isDrive}
 use Rattle.exchange.specs.State.Laws.{isDrive-range}
 use Rattle.exchange.specs.Calls.{initial, opening, decisionOn}
 use Rattle.exchange.specs.Calls.Laws.{opening-accepted}
+use Rattle.sync_crash.specs.Rounds.{InFrame, start, after, decision}
 use Rattle.runs.specs.World.{Call, opens, sends, delivers, closes, driveOf, Slot, opened, World, nothingOpen, put, afterCall, apply, applyAll, refusedIn, decisionOf}
 use Rattle.runs.specs.World.Laws.{put-same, put-other, refused-keeps}
 use Rattle.runs.specs.Scenario.{Scenario, coreOf, frame}
 use Rattle.runs.specs.Runs.{sameList, dueOpening, openingPart}
 use Rattle.runs.specs.Runs.Books.{sameList-true}
+use Rattle.runs.specs.Instance.{instanceOf}
 use Rattle.runs.specs.Statement.{Valid}
-use Rattle.agreement.specs.Rounds.{InFrame, start, after, decision}
-use Rattle.agreement.specs.Instance.{instanceOf}
-use Rattle.agreement.specs.Instance.Laws.{lawful}
+use Rattle.agreement.specs.Instance.{lawful}
 use Rattle.agreement.specs.States.{numbersOf, knownFrom, announcedFrom, stateOf}
 use Rattle.agreement.specs.States.Numbers.{store-one, numbers-none}
 use Rattle.agreement.specs.States.Announcements.{none-announced}

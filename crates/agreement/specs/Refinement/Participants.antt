@@ -7,15 +7,15 @@ use Rattle.drive_sets.specs.Bools.{clash, false-of, and-intro, and-left, and-ri
 use Rattle.drive_sets.specs.Masks.{has, size}
 use Rattle.exchange.specs.State.{isDrive}
 use Rattle.exchange.specs.State.Laws.{isDrive-range}
+use Rattle.sync_crash.specs.Rounds.{InFrame, halted}
+use Rattle.sync_crash.specs.Rounds.Steps.{Active, Sender, Closer, sender-active, closer-active}
 use Rattle.runs.specs.World.{World, active}
 use Rattle.runs.specs.Scenario.{Scenario, coreOf}
 use Rattle.runs.specs.Scenario.Laws.{gone-before}
 use Rattle.runs.specs.Runs.{sender, closer}
+use Rattle.runs.specs.Instance.{instanceOf}
 use Rattle.runs.specs.Statement.{Valid}
-use Rattle.agreement.specs.Rounds.{InFrame, halted}
-use Rattle.agreement.specs.Rounds.Steps.{Active, Sender, Closer, sender-active, closer-active}
-use Rattle.agreement.specs.Instance.{instanceOf}
-use Rattle.agreement.specs.Instance.Laws.{lawful}
+use Rattle.agreement.specs.Instance.{lawful}
 use Rattle.agreement.specs.States.{stateOf}
 use Rattle.agreement.specs.Refinement.{IsUp, Begins}
 

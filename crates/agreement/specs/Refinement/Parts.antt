@@ -12,15 +12,15 @@ use Rattle.drive_sets.specs.Lists.{keep, all}
 use Rattle.drive_sets.specs.Lists.Laws.{first-kept, all-elem}
 use Rattle.drive_sets.specs.Masks.{size}
 use Rattle.exchange.specs.Calls.{decisionOn, next}
+use Rattle.sync_crash.specs.Rounds.{InFrame, halted}
+use Rattle.sync_crash.specs.Rounds.Steps.{Closer, halted-view, active-closed}
 use Rattle.runs.specs.World.{Call, opens, sends, delivers, closes, opened, World, apply, applyAll, active, decisionOf}
 use Rattle.runs.specs.World.Laws.{refused-keeps}
 use Rattle.runs.specs.Scenario.{Scenario, coreOf, frame}
 use Rattle.runs.specs.Runs.{Book, emptyBook, closer, owes, due, noted, complete, roundPart}
+use Rattle.runs.specs.Instance.{instanceOf}
 use Rattle.runs.specs.Statement.{Valid}
-use Rattle.agreement.specs.Rounds.{InFrame, halted}
-use Rattle.agreement.specs.Rounds.Steps.{Closer, halted-view, active-closed}
-use Rattle.agreement.specs.Instance.{instanceOf}
-use Rattle.agreement.specs.Instance.Laws.{lawful}
+use Rattle.agreement.specs.Instance.{lawful}
 use Rattle.agreement.specs.States.{stateOf}
 use Rattle.agreement.specs.States.Closing.{next-decision, next-halted, next-state}
 use Rattle.agreement.specs.Refinement.{reachesIn, IsUp, Begins, Follows, bookAfter, allowed}

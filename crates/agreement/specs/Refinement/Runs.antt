@@ -12,16 +12,16 @@ use borrow.Author.Tests.{ltb-true, ltb-false}
 use Rattle.drive_sets.specs.Bools.{by-test, and-left, and-right}
 use Rattle.drive_sets.specs.Masks.{size}
 use Rattle.exchange.specs.Calls.{decisionOn}
+use Rattle.sync_crash.specs.Rounds.{DecidesIn, decision}
+use Rattle.sync_crash.specs.Rounds.Steps.{Closer, undecided-awake}
 use Rattle.runs.specs.World.{Call, closes, World, nothingOpen, apply, applyAll, decisionOf, roundIn}
 use Rattle.runs.specs.World.Laws.{applyAll-append}
 use Rattle.runs.specs.Scenario.{Scenario, coreOf}
 use Rattle.runs.specs.Runs.{emptyBook, roundPart, roundParts, joined, Run}
+use Rattle.runs.specs.Instance.{instanceOf}
 use Rattle.runs.specs.Statement.{Valid, Up, partAt, callsBefore, DecidesAfter}
 use Rattle.runs.specs.Statement.Laws.{undecided-so-far, undecided-before}
-use Rattle.agreement.specs.Rounds.{DecidesIn, decision}
-use Rattle.agreement.specs.Rounds.Steps.{Closer, undecided-awake}
-use Rattle.agreement.specs.Instance.{instanceOf}
-use Rattle.agreement.specs.Instance.Laws.{lawful, correct-staysUp, up-inFrame, up-correct}
+use Rattle.agreement.specs.Instance.{lawful, correct-staysUp, up-inFrame, up-correct}
 use Rattle.agreement.specs.Refinement.{Begins}
 use Rattle.agreement.specs.Refinement.Opening.{opening-begins}
 use Rattle.agreement.specs.Refinement.Parts.{part-begins}

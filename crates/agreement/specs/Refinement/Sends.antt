@@ -10,13 +10,13 @@ use borrow.Author.Tests.{eqb-true, eq-eqb, leb-true, leb-false, not-true}
 use Rattle.drive_sets.specs.Bools.{clash, by-test, false-of, and-left, and-right, cond-true, cond-false}
 use Rattle.drive_sets.specs.Masks.{size}
 use Rattle.drive_sets.specs.Refusals.{result}
+use Rattle.sync_crash.specs.Rounds.Steps.{Sender, sender-active}
 use Rattle.runs.specs.World.{sends, opened, World}
 use Rattle.runs.specs.Scenario.{Scenario, coreOf}
 use Rattle.runs.specs.Runs.{wrote, Book, isCalled, sendingOf, sentBy, lacksRoom, sender, due, noted}
+use Rattle.runs.specs.Instance.{instanceOf}
 use Rattle.runs.specs.Statement.{Valid}
-use Rattle.agreement.specs.Rounds.Steps.{Sender, sender-active}
-use Rattle.agreement.specs.Instance.{instanceOf}
-use Rattle.agreement.specs.Instance.Laws.{lawful}
+use Rattle.agreement.specs.Instance.{lawful}
 use Rattle.agreement.specs.States.{InRound, stateOf, messageOf}
 use Rattle.agreement.specs.States.Sending.{sending-state, sending-no-room}
 use Rattle.agreement.specs.Refinement.{Begins, HasSent, Follows}

@@ -23,10 +23,10 @@ use Rattle.exchange.specs.Calls as calls
 use Rattle.exchange.specs.Calls.{heardAtClose, decisionOn, quietDecision, decide, decisionAfter, next, closing}
 use Rattle.exchange.specs.Calls.Results.{decided-on}
 use Rattle.exchange.specs.Calls.Laws.{closing-accepted}
-use Rattle.agreement.specs.Rounds as rounds
-use Rattle.agreement.specs.Rounds.{Instance, Lawful, smallestOf, reaches, known, announces, announced, heard, unchanged, quiet, ifQuiet, decides, after, knows, before, decision, halted}
-use Rattle.agreement.specs.Rounds.Steps.{Closer, reaches-true, knows-now, before-now, decision-now, halted-now}
-use Rattle.agreement.specs.Rounds.HeardSets.{heard-core, before-core}
+use Rattle.sync_crash.specs.Rounds as rounds
+use Rattle.sync_crash.specs.Rounds.{Instance, Lawful, smallestOf, reaches, known, announces, announced, heard, unchanged, quiet, ifQuiet, decides, after, knows, before, decision, halted}
+use Rattle.sync_crash.specs.Rounds.Steps.{Closer, reaches-true, knows-now, before-now, decision-now, halted-now}
+use Rattle.sync_crash.specs.Rounds.HeardSets.{heard-core, before-core}
 use Rattle.agreement.specs.States.{Bounded, InRound, numbersOf, announcementOf, knownFrom, announcedFrom, stateOf}
 use Rattle.agreement.specs.States.Announcements.{announced-cases, none-announced}
 use Rattle.agreement.specs.States.KnownSets.{known-core, known-none, known-all}

@@ -13,8 +13,8 @@ use Rattle.drive_sets.specs.Masks.Sizes.{size-le}
 use Rattle.drive_sets.specs.Masks.Tests.{setOf, insert-setOf}
 use Rattle.exchange.specs.State.{isDrive}
 use Rattle.exchange.specs.State.Laws.{isDrive-range}
-use Rattle.agreement.specs.Rounds.{Instance, InFrame, Lawful, before, decision}
-use Rattle.agreement.specs.Rounds.HeardSets.{before-core}
+use Rattle.sync_crash.specs.Rounds.{Instance, InFrame, Lawful, before, decision}
+use Rattle.sync_crash.specs.Rounds.HeardSets.{before-core}
 use Rattle.agreement.specs.States.{Bounded, InRound, announcedFrom}
 use Rattle.agreement.specs.States.Rules.{drive-64, has-core-set}
 

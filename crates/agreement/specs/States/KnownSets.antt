@@ -11,8 +11,8 @@ use Rattle.drive_sets.specs.Bools.{clash, and-intro, and-left, and-right, or-le
 use Rattle.drive_sets.specs.Options.{isSome, none-some, is-none, none-of}
 use Rattle.drive_sets.specs.Lists.{range}
 use Rattle.drive_sets.specs.Lists.Laws.{any-elem, any-intro}
-use Rattle.agreement.specs.Rounds.{Instance, InFrame, Lawful, reaches, adds, known, after, knows, decision}
-use Rattle.agreement.specs.Rounds.Validity.{knows-own, knows-core}
+use Rattle.sync_crash.specs.Rounds.{Instance, InFrame, Lawful, reaches, adds, known, after, knows, decision}
+use Rattle.sync_crash.specs.Rounds.Validity.{knows-own, knows-core}
 use Rattle.agreement.specs.States.{knownFrom}
 
 -- an undecided sender knew x

@@ -9,7 +9,7 @@ use Rattle.drive_sets.specs.Options.{by-option}
 use Rattle.drive_sets.specs.Refusals.{Outcome, result}
 use Rattle.exchange.specs.declared.Exchange.{Exchange}
 use Rattle.exchange.specs.Calls.{receiving}
-use Rattle.agreement.specs.Rounds.{Instance, Lawful, decision}
+use Rattle.sync_crash.specs.Rounds.{Instance, Lawful, decision}
 use Rattle.agreement.specs.States.{Bounded, InRound, stateOf, messageBy, messageOf}
 use Rattle.agreement.specs.States.Incoming.{Incoming}
 use Rattle.agreement.specs.States.ReceivingKnown.{receiving-known}

@@ -18,8 +18,8 @@ use Rattle.exchange.specs.Messages.{decideBytes, senderOf, patternOf}
 use Rattle.exchange.specs.Messages.Laws.{not-known, decide-head, decide-sender, decide-round, decide-pattern, decide-whole}
 use Rattle.exchange.specs.Calls.{decisionOn, wrongMask, outsideCore, differs, lower, acceptKnown, acceptDecide, accept, receiving}
 use Rattle.exchange.specs.Calls.Laws.{Acceptable, receiving-accepted}
-use Rattle.agreement.specs.Rounds.{Instance, Lawful, knows, before, decision}
-use Rattle.agreement.specs.Rounds.Validity.{decision-proposed}
+use Rattle.sync_crash.specs.Rounds.{Instance, Lawful, knows, before, decision}
+use Rattle.sync_crash.specs.Rounds.Validity.{decision-proposed}
 use Rattle.agreement.specs.States.{Bounded, InRound, numbersOf, announcementOf, knownFrom, announcedFrom, stateOf}
 use Rattle.agreement.specs.States.Announcements.{also, lower-also}
 use Rattle.agreement.specs.States.KnownSets.{known-decided}

@@ -20,8 +20,8 @@ use Rattle.exchange.specs.Messages.{knownBytes, isKnown, senderOf, maskOf, entr
 use Rattle.exchange.specs.Messages.Laws.{is-known, entryOf, known-head, known-sender, known-round, known-mask, known-entries, known-whole}
 use Rattle.exchange.specs.Calls.{decisionOn, wrongMask, outsideCore, anyDiffers, differs, stored, acceptKnown, acceptDecide, accept, receiving}
 use Rattle.exchange.specs.Calls.Laws.{none-differs, Acceptable, receiving-accepted}
-use Rattle.agreement.specs.Rounds.{Instance, Lawful, knows, before, decision}
-use Rattle.agreement.specs.Rounds.Validity.{knows-own, knows-core}
+use Rattle.sync_crash.specs.Rounds.{Instance, Lawful, knows, before, decision}
+use Rattle.sync_crash.specs.Rounds.Validity.{knows-own, knows-core}
 use Rattle.agreement.specs.States.{Bounded, InRound, numbersOf, announcementOf, knownFrom, announcedFrom, stateOf}
 use Rattle.agreement.specs.States.Numbers.{stored-numbers}
 use Rattle.agreement.specs.States.KnownSets.{known-core, known-undecided}

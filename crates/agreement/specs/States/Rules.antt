@@ -14,9 +14,9 @@ use Rattle.drive_sets.specs.Masks.Tests.{setOf, upTo, has-setOf, setOf-within, 
 use Rattle.tables.specs.Tables.{isFrame, isSet}
 use Rattle.exchange.specs.State.{inCore, numberOf, broken}
 use Rattle.exchange.specs.State.Laws.{isDrive-range, Sound, sound-unbroken}
-use Rattle.agreement.specs.Rounds.{Instance, InFrame, Lawful, knows, before}
-use Rattle.agreement.specs.Rounds.Validity.{knows-own, knows-core}
-use Rattle.agreement.specs.Rounds.HeardSets.{before-core}
+use Rattle.sync_crash.specs.Rounds.{Instance, InFrame, Lawful, knows, before}
+use Rattle.sync_crash.specs.Rounds.Validity.{knows-own, knows-core}
+use Rattle.sync_crash.specs.Rounds.HeardSets.{before-core}
 use Rattle.agreement.specs.States.{Bounded, InRound, knownFrom, stateOf}
 use Rattle.agreement.specs.States.Numbers.{number-at}
 use Rattle.agreement.specs.States.KnownSets.{known-core, known-own}

@@ -14,8 +14,8 @@ use Rattle.exchange.specs.State.{numberOf}
 use Rattle.exchange.specs.Messages.Laws.{length-known, known-same, length-decide}
 use Rattle.exchange.specs.Calls.{decisionOn, outgoing, sending}
 use Rattle.exchange.specs.Calls.Laws.{sending-accepted, sending-crowded}
-use Rattle.agreement.specs.Rounds.{Instance, Lawful, knows, decision}
-use Rattle.agreement.specs.Rounds.Validity.{knows-core}
+use Rattle.sync_crash.specs.Rounds.{Instance, Lawful, knows, decision}
+use Rattle.sync_crash.specs.Rounds.Validity.{knows-core}
 use Rattle.agreement.specs.States.{Bounded, InRound, stateOf, messageBy, messageOf}
 use Rattle.agreement.specs.States.KnownSets.{knows-known}
 use Rattle.agreement.specs.States.Rules.{has-core-set, state-inCore, state-number, state-unbroken, state-running}

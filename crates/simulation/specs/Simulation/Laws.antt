@@ -105,6 +105,28 @@ named-bounds n core (c ∷ cs) all d h =
     (λ t. named-bounds n core cs (all .1) d t)
     (elem-cases d (c .drive) (named cs) h)
 
+-- ---- the scenario of an accepted table and records that pass
+
+module _ (n : ℕ) (sets numbers : List ℕ) (crs : List CrashRecord)
+    (accepted : normalTable n sets ≡ result (normal sets)) (patterns : (d : ℕ) → isDrive n d ≡ true → getD numbers (d - 1) 0 < 65536) where
+  records-valid : AllChecked n (chosen (normal sets)) crs → Valid (scenario n sets numbers crs)
+  unfolding scenario coreOf isRound mostSends
+  records-valid records = record { accepted = accepted; patterns = patterns; passes = passes }
+    where
+      passes : (d round sends : ℕ) → crashIn crs d ≡ crashes round sends → Passes (scenario n sets numbers crs) d round sends
+      passes d round sends h =
+          let c = found n (chosen (normal sets)) crs records d round sends h in
+          record {
+            inFrame = c .drive;
+            from = leb-true 1 round (and-left (leb 1 round) _ (c .round));
+            upTo = leb-true round (size (chosen (normal sets))) (and-right (leb 1 round) _ (c .round));
+            ofCore = λ t. subst (λ (x : ℕ). sends ≤ x) (cond-true _ _ t) (c .sends);
+            ofListener = λ t. omega (arith, subst (λ (x : ℕ). sends ≤ x) (cond-false _ _ t) (c .sends));
+          }
+
+  pub checked-valid : checkedCrashes n (chosen (normal sets)) 0 crs (result crs) ≡ result crs → Valid (scenario n sets numbers crs)
+  checked-valid e = records-valid (all-checked n (chosen (normal sets)) (result crs) 0 crs e .0)
+
 -- ---- the call
 
 module _ (n : ℕ) (sets numbers : List ℕ) (crs : List CrashRecord) {r : Simulated} (e : simulated n sets numbers crs ≡ result r) where
@@ -134,19 +156,7 @@ module _ (n : ℕ) (sets numbers : List ℕ) (crs : List CrashRecord) {r : Simul
       }
 
   pub simulated-valid : ((d : ℕ) → isDrive n d ≡ true → getD numbers (d - 1) 0 < 65536) → Valid given
-  unfolding scenario coreOf isRound mostSends
-  simulated-valid patterns = record { accepted = accept .accepted; patterns = patterns; passes = passes }
-    where
-      passes : (d round sends : ℕ) → crashIn crs d ≡ crashes round sends → Passes given d round sends
-      passes d round sends h =
-          let c = found n (chosen (normal sets)) crs (accept .records) d round sends h in
-          record {
-            inFrame = c .drive;
-            from = leb-true 1 round (and-left (leb 1 round) _ (c .round));
-            upTo = leb-true round (size (chosen (normal sets))) (and-right (leb 1 round) _ (c .round));
-            ofCore = λ t. subst (λ (x : ℕ). sends ≤ x) (cond-true _ _ t) (c .sends);
-            ofListener = λ t. omega (arith, subst (λ (x : ℕ). sends ≤ x) (cond-false _ _ t) (c .sends));
-          }
+  simulated-valid patterns = records-valid n sets numbers crs (accept .accepted) patterns (accept .records)
 
   pub simulated-untouched : Untouched given
   unfolding scenario hits crashed

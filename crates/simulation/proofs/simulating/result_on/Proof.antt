@@ -22,7 +22,7 @@ returns : tie.Need-returns
 unfolding simulatedOutcome endingsIn common
 returns c s t =
     let a = c .before .before .args in
-    result-is (a .n) (a .core) (a .crashes) s (t .says) _ (c .before .run .ensures s t) _ (c .size .ensures)
+    result-is (a .n) (a .core) (a .crashes) s (t .says) (t .valid) _ (c .before .run .ensures s t) _ (c .size .ensures)
 
 pub result-on-spec : {M : Type 1} → statement M
 result-on-spec = tie.close (tie.spec run-requires size-requires cast-t10 returns)

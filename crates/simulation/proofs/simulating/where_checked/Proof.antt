@@ -1,7 +1,9 @@
 -- The first refusal of a crash, or what comes next.
 use Rattle.simulation.proofs.CrashChecks.{crash-refused, crashes-pass}
 use Rattle.run_files.specs.Reading.{crashesIn}
-use mathlib.Core.Path.{_∙_}
+use Rattle.tables.specs.declared.reading.Answer.{Answer}
+use Rattle.tables.specs.Reading.{outcomeOf}
+use mathlib.Core.Path.{sym, ap, _∙_}
 use borrow.Author.Needs.{needs}
 use Rattle.simulation.proofs.simulating.where_checked.Statement.{statement}
 use Rattle.simulation.proofs.simulating.where_checked.Tie as tie
@@ -19,7 +21,9 @@ enum-told : tie.Need-enum-told
 enum-told c = search needs
 
 where-untouched-requires : tie.Need-where-untouched-requires
-where-untouched-requires c κs = search needs
+where-untouched-requires c κs =
+    let a = c .before .before .before .before .args in
+    (c .before .before .before .before .pre, sym (c .before .before .check-all .ensures) ∙ ap (λ (x : Answer). outcomeOf x (crashesIn (a .crashes))) (c .enum-told .given .1))
 
 returns : tie.Need-returns
 returns c =

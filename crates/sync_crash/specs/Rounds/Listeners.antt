@@ -7,8 +7,8 @@ use Prim.Native.Nat.{ℕ, zero, suc}
 use lib.Dec.{eqb}
 use borrow.Author.Tests.{eqb-true, eqb-false}
 use Rattle.drive_sets.specs.Bools.{clash, by-test, and-left, _⊆_}
-use Rattle.agreement.specs.Rounds.{Instance, Lawful, start, after, knows}
-use Rattle.agreement.specs.Rounds.Steps.{Active, Reaches, Closer, Learnt, knows-stays, closer-active, active-closed, learns, learnt}
+use Rattle.sync_crash.specs.Rounds.{Instance, Lawful, start, after, knows}
+use Rattle.sync_crash.specs.Rounds.Steps.{Active, Reaches, Closer, Learnt, knows-stays, closer-active, active-closed, learns, learnt}
 
 module _ {S : Instance} (L : Lawful S) where
   open Instance S using (core)

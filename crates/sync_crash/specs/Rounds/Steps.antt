@@ -9,7 +9,7 @@ use Rattle.drive_sets.specs.Bools.{clash, by-test, false-of, and-intro, and-lef
 use Rattle.drive_sets.specs.Options.{isSome, by-option, none-some, is-some, is-none, some-of, none-of}
 use Rattle.drive_sets.specs.Lists.{range}
 use Rattle.drive_sets.specs.Lists.Laws.{any-elem, any-intro}
-use Rattle.agreement.specs.Rounds.{Instance, InFrame, Lawful, start, sends, reaches, adds, known, heard, decides, halts, closes, closed, step, after, knows, before, decision, halted}
+use Rattle.sync_crash.specs.Rounds.{Instance, InFrame, Lawful, start, sends, reaches, adds, known, heard, decides, halts, closes, closed, step, after, knows, before, decision, halted}
 
 -- e takes part in round k + 1
 pub record Active (S : Instance) (k e : ℕ) : Type 0 where

@@ -8,13 +8,13 @@ use Prim.Native.Nat.{ℕ, zero, suc}
 use borrow.Author.Tests.{not-true}
 use Rattle.drive_sets.specs.Bools.{clash, by-test}
 use Rattle.drive_sets.specs.Options.{by-option, none-some, same-some, is-some, is-none, some-of}
-use Rattle.agreement.specs.Rounds.{Instance, InFrame, Lawful, start, smallestOf, after, knows, decision, StaysUp}
-use Rattle.agreement.specs.Rounds.Steps.{Closer, undecided-awake, decision-stays}
-use Rattle.agreement.specs.Rounds.Decisions.{Announcement, QuietClose, undecided-other, reached-decides, how-decided, decided-stays}
-use Rattle.agreement.specs.Rounds.HeardSets.{closer-reaches}
-use Rattle.agreement.specs.Rounds.Listeners.{reaches-core}
-use Rattle.agreement.specs.Rounds.QuietRounds.{quiet-undecided, listener-knows-same, quiet-knows-same}
-use Rattle.agreement.specs.Rounds.Invariant.{AllDecided, CoreDecided, NoneHalted, SameKnown, Invariant, SomeDecided, any-decided, agree-stays, core-sends, core-closes, none-halted-next, same-known-next}
+use Rattle.sync_crash.specs.Rounds.{Instance, InFrame, Lawful, start, smallestOf, after, knows, decision, StaysUp}
+use Rattle.sync_crash.specs.Rounds.Steps.{Closer, undecided-awake, decision-stays}
+use Rattle.sync_crash.specs.Rounds.Decisions.{Announcement, QuietClose, undecided-other, reached-decides, how-decided, decided-stays}
+use Rattle.sync_crash.specs.Rounds.HeardSets.{closer-reaches}
+use Rattle.sync_crash.specs.Rounds.Listeners.{reaches-core}
+use Rattle.sync_crash.specs.Rounds.QuietRounds.{quiet-undecided, listener-knows-same, quiet-knows-same}
+use Rattle.sync_crash.specs.Rounds.Invariant.{AllDecided, CoreDecided, NoneHalted, SameKnown, Invariant, SomeDecided, any-decided, agree-stays, core-sends, core-closes, none-halted-next, same-known-next}
 
 module _ {S : Instance} (L : Lawful S) where
   open Instance S using (core, alive)

@@ -13,8 +13,8 @@ use Rattle.drive_sets.specs.Bools.{by-test, cond-true, cond-false}
 use Rattle.drive_sets.specs.Options.{isSome, by-option, none-some, same-some, is-some, some-of}
 use Rattle.drive_sets.specs.Lists.{range}
 use Rattle.drive_sets.specs.Lists.FirstSome.{first-elem, first-none}
-use Rattle.agreement.specs.Rounds.{Instance, Lawful, start, smallestOf, announces, announced, quiet, ifQuiet, decides, reaches, after, knows, decision, DecidesIn}
-use Rattle.agreement.specs.Rounds.Steps.{Reaches, Closer, reaches-true, true-reaches, by-close, knows-now, decision-now, decision-stays}
+use Rattle.sync_crash.specs.Rounds.{Instance, Lawful, start, smallestOf, announces, announced, quiet, ifQuiet, decides, reaches, after, knows, decision, DecidesIn}
+use Rattle.sync_crash.specs.Rounds.Steps.{Reaches, Closer, reaches-true, true-reaches, by-close, knows-now, decision-now, decision-stays}
 
 -- v is announced to e in round k + 1; the value of the lowest-numbered announcer counts
 pub record Announcement (S : Instance) (k e v : ℕ) : Type 0 where

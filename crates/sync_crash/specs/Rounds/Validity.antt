@@ -10,9 +10,9 @@ use Rattle.drive_sets.specs.Options.{by-option, none-some, same-some}
 use Rattle.drive_sets.specs.Lists.{range, keep, elem}
 use Rattle.drive_sets.specs.Lists.Laws.{elem-keep}
 use Rattle.drive_sets.specs.Lists.Smallest.{smallest-some, smallest-elem}
-use Rattle.agreement.specs.Rounds.{Instance, InFrame, Lawful, start, smallestOf, after, knows, decision}
-use Rattle.agreement.specs.Rounds.Steps.{by-close, decision-stays, knows-stays, learnt}
-use Rattle.agreement.specs.Rounds.Decisions.{how-decided}
+use Rattle.sync_crash.specs.Rounds.{Instance, InFrame, Lawful, start, smallestOf, after, knows, decision}
+use Rattle.sync_crash.specs.Rounds.Steps.{by-close, decision-stays, knows-stays, learnt}
+use Rattle.sync_crash.specs.Rounds.Decisions.{how-decided}
 
 -- v is the proposal of a core drive
 pub record Proposed (S : Instance) (v : ℕ) : Type 0 where

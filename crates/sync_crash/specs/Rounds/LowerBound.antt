@@ -8,11 +8,11 @@ use Prim.Native.Nat.{ℕ, zero, suc, _≤_, _<_}
 use native.Mathlib.Omega.{arith}
 use Rattle.drive_sets.specs.Bools.{clash}
 use Rattle.drive_sets.specs.Options.{by-option, none-some}
-use Rattle.agreement.specs.Rounds.{Instance, InFrame, Lawful, start, after, decision}
-use Rattle.agreement.specs.Rounds.Steps.{undecided-awake, heard-cases}
-use Rattle.agreement.specs.Rounds.Decisions.{how-decided}
-use Rattle.agreement.specs.Rounds.QuietRounds.{quiet-hears}
-use Rattle.agreement.specs.Rounds.Invariant.{core-sends}
+use Rattle.sync_crash.specs.Rounds.{Instance, InFrame, Lawful, start, after, decision}
+use Rattle.sync_crash.specs.Rounds.Steps.{undecided-awake, heard-cases}
+use Rattle.sync_crash.specs.Rounds.Decisions.{how-decided}
+use Rattle.sync_crash.specs.Rounds.QuietRounds.{quiet-hears}
+use Rattle.sync_crash.specs.Rounds.Invariant.{core-sends}
 
 -- a core drive crashes in round k + 1 before it makes any send
 pub record LostUnheard (S : Instance) (k : ℕ) : Type 0 where

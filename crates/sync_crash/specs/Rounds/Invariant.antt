@@ -9,8 +9,8 @@ use Rattle.drive_sets.specs.Bools.{clash, by-test, false-of, and-intro, and-lef
 use Rattle.drive_sets.specs.Options.{isSome, same-some, some-of, none-of}
 use Rattle.drive_sets.specs.Lists.{range, any}
 use Rattle.drive_sets.specs.Lists.Laws.{any-elem, any-not}
-use Rattle.agreement.specs.Rounds.{Instance, InFrame, Lawful, smallestOf, knows, decision, halted}
-use Rattle.agreement.specs.Rounds.Steps.{Sender, Closer, awake-now, decision-stays, knows-stays, learnt}
+use Rattle.sync_crash.specs.Rounds.{Instance, InFrame, Lawful, smallestOf, knows, decision, halted}
+use Rattle.sync_crash.specs.Rounds.Steps.{Sender, Closer, awake-now, decision-stays, knows-stays, learnt}
 
 module _ (S : Instance) (k : ℕ) where
   open Instance S using (core, alive)

@@ -11,11 +11,11 @@ use Rattle.drive_sets.specs.Options.{by-option, none-some, is-none}
 use Rattle.drive_sets.specs.Lists.{range, keep, all}
 use Rattle.drive_sets.specs.Lists.Laws.{all-not, any-intro}
 use Rattle.drive_sets.specs.Lists.Counts.{length-keep-le, length-keep-lt, length-keep-split}
-use Rattle.agreement.specs.Rounds.{Instance, InFrame, Lawful, start, announced, heard, unchanged, quiet, after, before, decision, halted, StaysUp, failures}
-use Rattle.agreement.specs.Rounds.Steps.{Closer, before-now, awake-now, undecided-before, undecided-awake}
-use Rattle.agreement.specs.Rounds.Decisions.{undecided-other, decides-announced, reached-decides}
-use Rattle.agreement.specs.Rounds.HeardSets.{closer-reaches, closer-heard, heard-was-heard}
-use Rattle.agreement.specs.Rounds.QuietRounds.{quiet-decides}
+use Rattle.sync_crash.specs.Rounds.{Instance, InFrame, Lawful, start, announced, heard, unchanged, quiet, after, before, decision, halted, StaysUp, failures}
+use Rattle.sync_crash.specs.Rounds.Steps.{Closer, before-now, awake-now, undecided-before, undecided-awake}
+use Rattle.sync_crash.specs.Rounds.Decisions.{undecided-other, decides-announced, reached-decides}
+use Rattle.sync_crash.specs.Rounds.HeardSets.{closer-reaches, closer-heard, heard-was-heard}
+use Rattle.sync_crash.specs.Rounds.QuietRounds.{quiet-decides}
 
 module _ {S : Instance} (L : Lawful S) where
   open Instance S using (n, core)

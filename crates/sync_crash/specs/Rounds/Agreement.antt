@@ -12,11 +12,11 @@ use Rattle.drive_sets.specs.Bools.{and-left}
 use Rattle.drive_sets.specs.Options.{by-option}
 use Rattle.drive_sets.specs.Lists.{range, keep}
 use Rattle.drive_sets.specs.Lists.Counts.{length-keep-lt}
-use Rattle.agreement.specs.Rounds.{Instance, InFrame, Lawful, decision, StaysUp, failures, DecidesIn}
-use Rattle.agreement.specs.Rounds.Decisions.{decision-later, decides-once, decision-round}
-use Rattle.agreement.specs.Rounds.Validity.{Proposed, decision-proposed}
-use Rattle.agreement.specs.Rounds.InvariantSteps.{invariant}
-use Rattle.agreement.specs.Rounds.Bound.{undecided-failures}
+use Rattle.sync_crash.specs.Rounds.{Instance, InFrame, Lawful, decision, StaysUp, failures, DecidesIn}
+use Rattle.sync_crash.specs.Rounds.Decisions.{decision-later, decides-once, decision-round}
+use Rattle.sync_crash.specs.Rounds.Validity.{Proposed, decision-proposed}
+use Rattle.sync_crash.specs.Rounds.InvariantSteps.{invariant}
+use Rattle.sync_crash.specs.Rounds.Bound.{undecided-failures}
 
 -- `correct` is the set of the drives with no CR
 pub record Agreement (S : Instance) (correct : ℕ → Bool) : Type 0 where

@@ -8,12 +8,12 @@ use Prim.Native.Nat.{ℕ, suc}
 use Rattle.drive_sets.specs.Bools.{by-test, and-left, and-right, beq-eq, _⊆_, same-sets}
 use Rattle.drive_sets.specs.Lists.{range, any}
 use Rattle.drive_sets.specs.Lists.Laws.{all-elem, any-elem}
-use Rattle.agreement.specs.Rounds.{Instance, InFrame, Lawful, heard, unchanged, quiet, after, knows, before, decision}
-use Rattle.agreement.specs.Rounds.Steps.{Sender, Closer, knows-stays, closer-active, active-sends, heard-cases, learns, learnt}
-use Rattle.agreement.specs.Rounds.Decisions.{QuietClose, announced-none, decides-quiet}
-use Rattle.agreement.specs.Rounds.Validity.{smallestOf-some, knows-own, knows-core}
-use Rattle.agreement.specs.Rounds.HeardSets.{sender-was-heard}
-use Rattle.agreement.specs.Rounds.Listeners.{listener-knows-less}
+use Rattle.sync_crash.specs.Rounds.{Instance, InFrame, Lawful, heard, unchanged, quiet, after, knows, before, decision}
+use Rattle.sync_crash.specs.Rounds.Steps.{Sender, Closer, knows-stays, closer-active, active-sends, heard-cases, learns, learnt}
+use Rattle.sync_crash.specs.Rounds.Decisions.{QuietClose, announced-none, decides-quiet}
+use Rattle.sync_crash.specs.Rounds.Validity.{smallestOf-some, knows-own, knows-core}
+use Rattle.sync_crash.specs.Rounds.HeardSets.{sender-was-heard}
+use Rattle.sync_crash.specs.Rounds.Listeners.{listener-knows-less}
 
 module _ {S : Instance} (L : Lawful S) where
   open Instance S using (n, core)

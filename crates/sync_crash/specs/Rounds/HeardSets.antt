@@ -7,8 +7,8 @@ use Prim.Native.Nat.{ℕ, zero, suc}
 use lib.Dec.{eqb}
 use borrow.Author.Tests.{eqb-true, eqb-false}
 use Rattle.drive_sets.specs.Bools.{by-test, _⊆_}
-use Rattle.agreement.specs.Rounds.{Instance, InFrame, Lawful, start, heard, after, before}
-use Rattle.agreement.specs.Rounds.Steps.{Active, Sender, Reaches, Closer, by-close, before-now, closer-active, active-closed, sender-active, active-sends, heard-self, heard-reaches, heard-cases}
+use Rattle.sync_crash.specs.Rounds.{Instance, InFrame, Lawful, start, heard, after, before}
+use Rattle.sync_crash.specs.Rounds.Steps.{Active, Sender, Reaches, Closer, by-close, before-now, closer-active, active-closed, sender-active, active-sends, heard-self, heard-reaches, heard-cases}
 
 module _ {S : Instance} (L : Lawful S) where
   open Instance S using (core)
