@@ -1,7 +1,7 @@
 //! The calls that are timed: each by the library and by the baseline, on the same input.
 
 use crate::baseline::{exchange, runs, tables, verdicts, Answer};
-use crate::inputs::{self, Input, MESSAGES, MESSAGE_SIZE, OWN_NUMBER};
+use crate::inputs::{self, Input, Start};
 use crate::library;
 use std::hint::black_box;
 use std::time::Instant;
@@ -152,21 +152,33 @@ fn read(input: Input) -> Case {
     )
 }
 
-/// Opens the exchange of a core of 64 and hands it so many messages.
-fn deliver(name: &str, times: usize) -> Case {
-    let Input { n, sets, .. } = inputs::single_drives();
-    let messages = inputs::known_messages();
-    let same = (sets.clone(), messages.clone());
+/// Opens an exchange and hands it the messages.
+fn deliver(name: &str, start: Start) -> Case {
+    let same = start.clone();
     Case::new(
         name.to_string(),
-        move |_| {
-            let (sets, messages) = (black_box(&sets), black_box(&messages));
-            library::deliver(n, sets, 1, OWN_NUMBER, messages, times, MESSAGE_SIZE)
-        },
-        move |_| {
-            let (sets, messages) = black_box(&same);
-            code(exchange::deliver(n, sets, 1, OWN_NUMBER, messages, times, MESSAGE_SIZE))
-        },
+        move |_| library::deliver(black_box(&start)),
+        move |_| code(exchange::deliver(black_box(&same))),
+    )
+}
+
+/// The same, then so many sends of the next round.
+fn send(name: &str, start: Start, times: u32) -> Case {
+    let same = start.clone();
+    Case::new(
+        name.to_string(),
+        move |lent| library::send(black_box(&start), &mut lent.bytes, 5, times),
+        move |lent| code(exchange::send(black_box(&same), &mut lent.bytes, 5, times)),
+    )
+}
+
+/// The same, then so many closes.
+fn close(name: &str, start: Start, times: u32) -> Case {
+    let same = start.clone();
+    Case::new(
+        name.to_string(),
+        move |_| library::close(black_box(&start), times),
+        move |_| code(exchange::close(black_box(&same), times)),
     )
 }
 
@@ -181,13 +193,22 @@ fn run(name: &str, stops: bool) -> Case {
     )
 }
 
-/// What one message takes, from an opening and one with all messages.
-pub fn one_message(opening: Times, all: Times) -> Times {
-    let one = |all: f64, opening: f64| (all - opening) / MESSAGES as f64;
-    Times { ours: one(all.ours, opening.ours), theirs: one(all.theirs, opening.theirs) }
+/// What one call takes, from a case without and one with so many of it.
+pub fn one_call(without: &Case, with: &Case, calls: u32) -> Times {
+    let one = |with: f64, without: f64| (with - without) / f64::from(calls);
+    Times { ours: one(with.least.ours, without.least.ours), theirs: one(with.least.theirs, without.least.theirs) }
 }
 
-/// The last two are an opening, and the same with messages.
+const MESSAGES: u32 = 63;
+const SENDS: u32 = 1000;
+const CLOSES: u32 = 16;
+
+/// What is timed by difference, in the last cases, which are pairs without and with so many calls of it.
+pub const PAIRS: [(&str, u32); 3] =
+    [("one message of 64 numbers", MESSAGES), ("one send of 64 numbers", SENDS), ("one close", CLOSES)];
+
+/// In the last pairs one KN tells all numbers. Core drive 1 has heard only its sender, so it is undecided and sends all 64. Listener 64 hears
+/// nobody in the later rounds, so it goes on to the last, 16: with a larger core the opening takes too much longer than the closes.
 pub fn all() -> Vec<Case> {
     vec![
         cores(inputs::all_but_one(45)),
@@ -206,7 +227,11 @@ pub fn all() -> Vec<Case> {
         read(inputs::one_of_each_pair(false)),
         run("whole exchange, core of 64", false),
         run("whole exchange, core of 64, 63 stops", true),
-        deliver("opening, core of 64", 0),
-        deliver("opening, then 63 messages of 64 numbers", MESSAGES),
+        deliver("opening, core of 64", inputs::single_drives(64, 1, 0)),
+        deliver("opening, then 63 messages of 64 numbers", inputs::single_drives(64, 1, MESSAGES as usize)),
+        send("opening, core of 64, message, close", inputs::single_drives(64, 1, 1), 0),
+        send("the same, then 1000 sends of 64 numbers", inputs::single_drives(64, 1, 1), SENDS),
+        close("opening, core of 16, message", inputs::single_drives(16, 64, 1), 0),
+        close("the same, then 16 closes", inputs::single_drives(16, 64, 1), CLOSES),
     ]
 }

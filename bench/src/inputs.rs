@@ -66,23 +66,35 @@ pub fn cores_1015() -> Input {
     Input { name: "39 sets", n: 64, sets: CORES_1015.to_vec() }
 }
 
-/// Each drive alone: a core of all 64.
-pub fn single_drives() -> Input {
-    Input { name: "64 single drives", n: 64, sets: (0..64).map(|place| 1 << place).collect() }
-}
-
-/// What drive 1 opens with.
+/// What each drive opens with in the calls of one exchange.
 pub const OWN_NUMBER: u16 = 1000;
 
-/// A KN of each drive but the first in round 1, each with all 64 numbers.
-pub fn known_messages() -> Vec<u8> {
-    let numbers: Vec<u8> = (0..64).flat_map(|place| (OWN_NUMBER + place).to_le_bytes()).collect();
-    let message = |sender: u8| [&[b'K', b'N', sender, 1], &[0xff; 8][..], &numbers].concat();
-    (2..=64).flat_map(message).collect()
+/// An opening, and the messages handed over after it, so many of `size` bytes each.
+#[derive(Clone)]
+pub struct Start {
+    pub n: u8,
+    pub sets: Vec<u64>,
+    pub own: u8,
+    pub messages: Vec<u8>,
+    pub count: usize,
+    pub size: usize,
 }
 
-pub const MESSAGES: usize = 63;
-pub const MESSAGE_SIZE: usize = 140;
+/// Drive `own` of 64, of which the first `core` are each a set alone and so the chosen core, and `count` KNs of the other core drives in round 1,
+/// each with all numbers of the core.
+pub fn single_drives(core: u8, own: u8, count: usize) -> Start {
+    let numbers: Vec<u8> = (0..u16::from(core)).flat_map(|place| (OWN_NUMBER + place).to_le_bytes()).collect();
+    let message = |sender: u8| [&[b'K', b'N', sender, 1], &full(core).to_le_bytes()[..], &numbers].concat();
+    let senders = (1..=core).filter(|&sender| sender != own);
+    Start {
+        n: 64,
+        sets: (0..core).map(|place| 1 << place).collect(),
+        own,
+        messages: senders.take(count).flat_map(message).collect(),
+        count,
+        size: 12 + numbers.len(),
+    }
+}
 
 /// A table of 64 single drives and a run file in which each drive but the last stops in the round of its number, if asked for, after one send.
 pub fn whole_exchange(stops: bool) -> Vec<u8> {

@@ -1,5 +1,7 @@
 //! The calls of the proved library. A slice passes as a pointer and a length.
 
+use crate::inputs::{Start, OWN_NUMBER};
+
 mod c {
     extern "C" {
         pub fn regdulyn_cores(n: u8, sets: *const u64, count: usize, out: *mut u64, room: usize) -> u64;
@@ -21,8 +23,35 @@ mod c {
             number: u16,
             messages: *const u8,
             length: usize,
-            times: usize,
+            handed: usize,
             size: usize,
+        ) -> u64;
+        pub fn regdulyn_close(
+            n: u8,
+            sets: *const u64,
+            count: usize,
+            own: u8,
+            number: u16,
+            messages: *const u8,
+            length: usize,
+            handed: usize,
+            size: usize,
+            times: u32,
+        ) -> u64;
+        pub fn regdulyn_send(
+            n: u8,
+            sets: *const u64,
+            count: usize,
+            own: u8,
+            number: u16,
+            messages: *const u8,
+            length: usize,
+            handed: usize,
+            size: usize,
+            out: *mut u8,
+            room: usize,
+            start: usize,
+            times: u32,
         ) -> u64;
         pub fn regdulyn_run_listing(
             input: *const u8,
@@ -50,19 +79,58 @@ pub fn verdict(k: u8, n: u8, sets: &[u64]) -> u64 {
     unsafe { c::regdulyn_verdict(k, n, sets.as_ptr(), sets.len()) }
 }
 
-/// Opens an exchange and hands it `times` messages of `size` bytes each.
-pub fn deliver(n: u8, sets: &[u64], own: u8, number: u16, messages: &[u8], times: usize, size: usize) -> u64 {
+/// How many of the messages are accepted.
+pub fn deliver(start: &Start) -> u64 {
     unsafe {
         c::regdulyn_deliver(
-            n,
-            sets.as_ptr(),
-            sets.len(),
-            own,
-            number,
-            messages.as_ptr(),
-            messages.len(),
+            start.n,
+            start.sets.as_ptr(),
+            start.sets.len(),
+            start.own,
+            OWN_NUMBER,
+            start.messages.as_ptr(),
+            start.messages.len(),
+            start.count,
+            start.size,
+        )
+    }
+}
+
+/// How many of so many closes are accepted.
+pub fn close(start: &Start, times: u32) -> u64 {
+    unsafe {
+        c::regdulyn_close(
+            start.n,
+            start.sets.as_ptr(),
+            start.sets.len(),
+            start.own,
+            OWN_NUMBER,
+            start.messages.as_ptr(),
+            start.messages.len(),
+            start.count,
+            start.size,
             times,
-            size,
+        )
+    }
+}
+
+/// Closes the round; how many of so many sends are accepted.
+pub fn send(start: &Start, out: &mut [u8], place: usize, times: u32) -> u64 {
+    unsafe {
+        c::regdulyn_send(
+            start.n,
+            start.sets.as_ptr(),
+            start.sets.len(),
+            start.own,
+            OWN_NUMBER,
+            start.messages.as_ptr(),
+            start.messages.len(),
+            start.count,
+            start.size,
+            out.as_mut_ptr(),
+            out.len(),
+            place,
+            times,
         )
     }
 }

@@ -8,7 +8,7 @@ mod inputs;
 mod library;
 mod listed;
 
-use cases::{Case, Times};
+use cases::{Case, Times, PAIRS};
 
 const PASSES: usize = 20;
 
@@ -30,7 +30,10 @@ fn main() {
     for case in &cases {
         print(&case.name, &case.shown(), case.least);
     }
-    if let ([.., opening, all], "") = (&cases[..], &part[..]) {
-        print("one message of 64 numbers, by difference", "", cases::one_message(opening.least, all.least));
+    if part.is_empty() {
+        let pairs = cases[cases.len() - 2 * PAIRS.len()..].chunks_exact(2);
+        for (pair, (name, calls)) in pairs.zip(PAIRS) {
+            print(&format!("{name}, by difference"), "", cases::one_call(&pair[0], &pair[1], calls));
+        }
     }
 }

@@ -3,6 +3,8 @@
 use super::cores::bits;
 use super::tables::{accept, full};
 use super::Answer;
+use crate::inputs::{Start, OWN_NUMBER};
+use std::hint::black_box;
 
 #[derive(Clone)]
 pub struct Exchange {
@@ -71,8 +73,8 @@ impl Exchange {
             || inside & !self.core != 0
     }
 
-    /// The message of the round, over what stood in the buffer.
-    pub fn send(&self, buffer: &mut Vec<u8>) -> Answer<()> {
+    /// The message of the round into the buffer, from the starting place on; how many bytes.
+    pub fn send(&self, buffer: &mut [u8], start: usize) -> Answer<usize> {
         if self.is_broken() {
             return Err(28);
         }
@@ -82,21 +84,22 @@ impl Exchange {
         if self.core & single(self.own) == 0 {
             return Err(27);
         }
-        buffer.clear();
+        let size = self.decision.map_or(12 + 2 * self.start.count_ones() as usize, |_| 6);
+        let part = buffer.get_mut(start..).and_then(|rest| rest.get_mut(..size)).ok_or(14u64)?;
         match self.decision {
             Some(number) => {
-                buffer.extend([b'D', b'C', self.own, self.round]);
-                buffer.extend(number.to_le_bytes());
+                part[..4].copy_from_slice(&[b'D', b'C', self.own, self.round]);
+                part[4..].copy_from_slice(&number.to_le_bytes());
             }
             None => {
-                buffer.extend([b'K', b'N', self.own, self.round]);
-                buffer.extend(self.start.to_le_bytes());
-                for drive in bits(self.start) {
-                    buffer.extend(self.numbers[drive.trailing_zeros() as usize].to_le_bytes());
+                part[..4].copy_from_slice(&[b'K', b'N', self.own, self.round]);
+                part[4..12].copy_from_slice(&self.start.to_le_bytes());
+                for (value, drive) in part[12..].chunks_exact_mut(2).zip(bits(self.start)) {
+                    value.copy_from_slice(&self.numbers[drive.trailing_zeros() as usize].to_le_bytes());
                 }
             }
         }
-        Ok(())
+        Ok(size)
     }
 
     /// The close of the round.
@@ -208,17 +211,27 @@ impl Exchange {
     }
 }
 
-/// Opens an exchange and hands it `times` messages of `size` bytes each; how many are accepted.
-pub fn deliver(
-    n: u8,
-    sets: &[u64],
-    own: u8,
-    number: u16,
-    messages: &[u8],
-    times: usize,
-    size: usize,
-) -> Answer<u64> {
-    let mut exchange = open(n, sets, own, number)?;
-    let handed = messages.chunks(size).take(times);
-    Ok(handed.filter(|bytes| exchange.message(bytes).is_ok()).count() as u64)
+/// The exchange after an opening and its messages, and how many are accepted.
+fn begun(start: &Start) -> Answer<(Exchange, u64)> {
+    let mut exchange = open(start.n, &start.sets, start.own, OWN_NUMBER)?;
+    let handed = start.messages.chunks(start.size).take(start.count);
+    let accepted = handed.filter(|bytes| exchange.message(bytes).is_ok()).count();
+    Ok((exchange, accepted as u64))
+}
+
+pub fn deliver(start: &Start) -> Answer<u64> {
+    Ok(begun(start)?.1)
+}
+
+/// How many of so many closes are accepted.
+pub fn close(start: &Start, times: u32) -> Answer<u64> {
+    let (mut exchange, _) = begun(start)?;
+    Ok((0..times).filter(|_| black_box(&mut exchange).close().is_ok()).count() as u64)
+}
+
+/// Closes the round; how many of so many sends are accepted.
+pub fn send(start: &Start, out: &mut [u8], place: usize, times: u32) -> Answer<u64> {
+    let (mut exchange, _) = begun(start)?;
+    let _ = exchange.close();
+    Ok((0..times).filter(|_| black_box(&exchange).send(out, place).is_ok()).count() as u64)
 }

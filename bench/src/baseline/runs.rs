@@ -73,18 +73,19 @@ fn play(s: &Scenario) -> Vec<Option<(u16, u8)>> {
     let (n, core) = (s.table.n, s.table.cores[0]);
     let mut states: Vec<Exchange> = (1..=n).map(|own| initial(n, core, own, s.numbers[own as usize - 1])).collect();
     let mut found = vec![None; n as usize];
-    let mut bytes = Vec::with_capacity(140);
+    let mut bytes = [0; 140];
     for round in 1..=core.count_ones() as u8 {
         let began: Vec<Exchange> = states.clone();
         for sender in bits(core) {
             let at = sender.trailing_zeros() as usize;
-            if s.crashes[at].is_some_and(|(gone, _)| gone < round) || began[at].send(&mut bytes).is_err() {
+            if s.crashes[at].is_some_and(|(gone, _)| gone < round) {
                 continue;
             }
+            let Ok(size) = began[at].send(&mut bytes, 0) else { continue };
             let sends = s.crashes[at].filter(|(gone, _)| *gone == round).map_or(64, |(_, sends)| sends);
             let list = bits(core & !sender).chain(bits(full(n) & !core));
             for to in list.take(sends as usize) {
-                let _ = states[to.trailing_zeros() as usize].message(&bytes);
+                let _ = states[to.trailing_zeros() as usize].message(&bytes[..size]);
             }
         }
         for (at, state) in states.iter_mut().enumerate() {

@@ -1,23 +1,88 @@
--- Messages handed to one drive, one after the other.
+-- Calls of one drive, one after the other: messages handed over, closes and sends.
 use mathlib.Core.List.{List}
 use Prim.Native.Nat.{ℕ, zero, suc, _+_}
-use lib.ListN.{take, drop}
+use lib.ListN.{length, take, drop}
 use Rattle.drive_sets.specs.Refusals.{Outcome, refused, result, andThen}
 use Rattle.exchange.specs.declared.Exchange.{Exchange}
-use Rattle.exchange.specs.Calls.{opening, receiving}
+use Rattle.exchange.specs.Calls.{opening, sending, bufferAfter, receiving, closing}
 use Rattle.exchange.specs.Replies.{stateAfter}
 
-abbrev pub oneAccepted : Outcome Exchange → ℕ
-oneAccepted (refused r) = 0
-oneAccepted (result x) = 1
+-- ---- a row of calls
 
--- how many of the messages are accepted: so many, of `size` bytes each, one behind the other
-unfoldable pub accepted : ℕ → ℕ → Exchange → List ℕ → ℕ
-accepted zero size x s = 0
-accepted (suc count) size x s =
-    let reply = receiving x (take size s) in
-    oneAccepted reply + accepted count size (stateAfter x reply) (drop size s)
+module _ {A : Type 0} where
+  abbrev pub oneAccepted : Outcome A → ℕ
+  oneAccepted (refused r) = 0
+  oneAccepted (result x) = 1
 
--- the same from an opening on
+-- what a call gives on what it is handed, and what is left for the next
+module _ {A B : Type 0} (call : A → Outcome B) (after : A → Outcome B → A) where
+  -- how many of so many calls are accepted
+  unfoldable pub accepted : ℕ → A → ℕ
+  accepted zero x = 0
+  accepted (suc times) x = oneAccepted (call x) + accepted times (after x (call x))
+
+  -- what they leave
+  unfoldable pub left : ℕ → A → A
+  left zero x = x
+  left (suc times) x = left times (after x (call x))
+
+-- ---- messages: so many, of `size` bytes each, one behind the other
+
+-- a state and the bytes to come
+abbrev pub hand : ℕ → Exchange × List ℕ → Outcome Exchange
+hand size h = receiving (h .0) (take size (h .1))
+
+abbrev pub handedOn : ℕ → Exchange × List ℕ → Outcome Exchange → Exchange × List ℕ
+handedOn size h reply = (stateAfter (h .0) reply, drop size (h .1))
+
+unfoldable pub messagesAccepted : ℕ → ℕ → Exchange → List ℕ → ℕ
+messagesAccepted count size x s = accepted (hand size) (handedOn size) count (x, s)
+
+unfoldable pub stateHanded : ℕ → ℕ → Exchange → List ℕ → Exchange
+stateHanded count size x s = left (hand size) (handedOn size) count (x, s) .0
+
+-- after a close behind them
+unfoldable pub stateClosed : ℕ → ℕ → Exchange → List ℕ → Exchange
+stateClosed count size x s =
+    let state = stateHanded count size x s in
+    stateAfter state (closing state)
+
+-- ---- closes
+
+unfoldable pub closesAccepted : ℕ → Exchange → ℕ
+closesAccepted times x = accepted closing stateAfter times x
+
+-- ---- sends into the same bytes
+
+abbrev pub sendInto : Exchange → ℕ → List ℕ → Outcome (List ℕ)
+sendInto x start buffer = sending x (length buffer) start
+
+abbrev pub sentInto : ℕ → List ℕ → Outcome (List ℕ) → List ℕ
+sentInto start buffer due = bufferAfter due start buffer
+
+unfoldable pub sendsAccepted : ℕ → Exchange → ℕ → List ℕ → ℕ
+sendsAccepted times x start buffer = accepted (sendInto x start) (sentInto start) times buffer
+
+unfoldable pub bufferSent : ℕ → Exchange → ℕ → List ℕ → List ℕ
+bufferSent times x start buffer = left (sendInto x start) (sentInto start) times buffer
+
+-- ---- from an opening on
+
+-- messages
 unfoldable pub delivered : ℕ → List ℕ → ℕ → ℕ → ℕ → ℕ → List ℕ → Outcome ℕ
-delivered n sets own number count size s = andThen (opening n sets own number) (λ x. result (accepted count size x s))
+delivered n sets own number count size s = andThen (opening n sets own number) (λ x. result (messagesAccepted count size x s))
+
+-- messages, then closes
+unfoldable pub closed : ℕ → List ℕ → ℕ → ℕ → ℕ → ℕ → List ℕ → ℕ → Outcome ℕ
+closed n sets own number count size s times =
+    andThen (opening n sets own number) (λ x. result (closesAccepted times (stateHanded count size x s)))
+
+-- messages and a close, then sends
+unfoldable pub sent : ℕ → List ℕ → ℕ → ℕ → ℕ → ℕ → List ℕ → ℕ → ℕ → List ℕ → Outcome ℕ
+sent n sets own number count size s times start buffer =
+    andThen (opening n sets own number) (λ x. result (sendsAccepted times (stateClosed count size x s) start buffer))
+
+-- what the sends leave of the lent bytes
+unfoldable pub sentBytes : ℕ → List ℕ → ℕ → ℕ → ℕ → ℕ → List ℕ → ℕ → ℕ → List ℕ → Outcome (List ℕ)
+sentBytes n sets own number count size s times start buffer =
+    andThen (opening n sets own number) (λ x. result (bufferSent times (stateClosed count size x s) start buffer))

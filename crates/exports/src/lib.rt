@@ -9,7 +9,7 @@ ghost use Rattle.verdicts.specs.Verdicts.{verdict};
 ghost use Rattle.listings.specs.RunListing.{runProgram};
 ghost use Rattle.listings.specs.Printing.{printedSize, printedBytes};
 ghost use Rattle.exports.specs.Codes.{codeOf, countOf, listAfter, setsRead, verdictCode};
-ghost use Rattle.exports.specs.Deliveries.{delivered};
+ghost use Rattle.exports.specs.Deliveries.{delivered, closed, sent, sentBytes};
 use drive_sets::Drive;
 use drive_sets::Pattern;
 use tables::reading::Answer;
@@ -97,7 +97,66 @@ pub extern "C" fn regdulyn_deliver(
     let state = opened.state;
     match answer {
         Answer::Refused(r) => answers::refusal_code(r),
-        Answer::Accepted => deliveries::deliver_all(state, messages, count, size) as u64,
+        Answer::Accepted => {
+            let handed = deliveries::deliver_all(state, messages, count, size);
+            handed.accepted as u64
+        }
+    }
+}
+
+// Opens an exchange, hands it the messages, closes the round and sends so many times into out, from the starting place on; how many sends
+// are accepted.
+#[no_mangle]
+pub extern "C" fn regdulyn_send(
+    n: u8,
+    sets: &[u64],
+    own: u8,
+    number: u16,
+    messages: &[u8],
+    count: usize,
+    size: usize,
+    out: &mut [u8],
+    start: usize,
+    times: u32,
+) -> u64
+    ensures { λ r. ⌜ r ≡ codeOf (sent n (now (sets .entry)) own number count size (now (messages .entry)) times start (now (out .entry))) ⌝ }
+    ensures { λ _. ⌜ now (out .exit) ≡ bufferAfter (now (out .entry)) (sentBytes n (now (sets .entry)) own number count size (now (messages .entry)) times start (now (out .entry))) ⌝ }
+{
+    let opened = exchange::opening::open(n, sets, Drive(own), Pattern(number));
+    let answer = opened.answer;
+    let state = opened.state;
+    match answer {
+        Answer::Refused(r) => answers::refusal_code(r),
+        Answer::Accepted => {
+            let sender = deliveries::close_round(state, messages, count, size);
+            deliveries::send_all(sender, out, start, times as usize) as u64
+        }
+    }
+}
+
+// Opens an exchange, hands it the messages and closes round after round, so many times; how many closes are accepted.
+#[no_mangle]
+pub extern "C" fn regdulyn_close(
+    n: u8,
+    sets: &[u64],
+    own: u8,
+    number: u16,
+    messages: &[u8],
+    count: usize,
+    size: usize,
+    times: u32,
+) -> u64
+    ensures { λ r. ⌜ r ≡ codeOf (closed n (now (sets .entry)) own number count size (now (messages .entry)) times) ⌝ }
+{
+    let opened = exchange::opening::open(n, sets, Drive(own), Pattern(number));
+    let answer = opened.answer;
+    let state = opened.state;
+    match answer {
+        Answer::Refused(r) => answers::refusal_code(r),
+        Answer::Accepted => {
+            let handed = deliveries::deliver_all(state, messages, count, size);
+            deliveries::close_all(handed.state, times as usize) as u64
+        }
     }
 }
 

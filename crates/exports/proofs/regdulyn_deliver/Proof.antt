@@ -1,5 +1,9 @@
 -- The refusal of the opening, or what the opened drive accepts.
 use Rattle.exports.proofs.Handing.{opened-as}
+use Rattle.exports.specs.Codes.{codeOf}
+use Rattle.exports.specs.Deliveries.{messagesAccepted, delivered}
+use Rattle.exchange.specs.declared.Exchange.{Exchange}
+use Prim.Native.Nat.{ℕ}
 use borrow.Author.Needs.{needs}
 use Rattle.exports.proofs.regdulyn_deliver.Statement.{statement}
 use Rattle.exports.proofs.regdulyn_deliver.Tie as tie
@@ -20,10 +24,22 @@ deliver-all-requires : tie.Need-deliver-all-requires
 deliver-all-requires c κs = search needs
 
 returns : tie.Need-returns
-returns c = let a = c .before .before .before .before .before .before .before .before .args in opened-as (a .n) (a .sets .now) (a .own) (a .number) (a .count) (a .size) (a .messages .now) (c .before .before .before .before .before .«open» .result) (c .before .before .before .before .before .«open» .ensures .answer) _ (c .before .before .answer .given .1) _ (c .refusal-code .ensures)
+unfolding delivered
+returns c =
+    let a = c .before .before .before .before .before .before .before .before .args in
+    let o = c .before .before .before .before .before .«open» in
+    let e = c .before .before .answer .given .1 in
+    let f : Exchange → ℕ = λ x. messagesAccepted (a .count) (a .size) x (a .messages .now) in
+    opened-as (a .n) (a .sets .now) (a .own) (a .number) (o .result) (o .ensures .answer) _ e codeOf f _ (c .refusal-code .ensures)
 
 returns-2 : tie.Need-returns-2
-returns-2 c = let a = c .before .before .before .before .before .before .before .args in opened-as (a .n) (a .sets .now) (a .own) (a .number) (a .count) (a .size) (a .messages .now) (c .before .before .before .before .«open» .result) (c .before .before .before .before .«open» .ensures .answer) _ (c .before .enum-told .given .1) _ (c .deliver-all .ensures)
+unfolding delivered
+returns-2 c =
+    let a = c .before .before .before .before .before .before .before .args in
+    let o = c .before .before .before .before .«open» in
+    let e = c .before .enum-told .given .1 in
+    let f : Exchange → ℕ = λ x. messagesAccepted (a .count) (a .size) x (a .messages .now) in
+    opened-as (a .n) (a .sets .now) (a .own) (a .number) (o .result) (o .ensures .answer) _ e codeOf f _ (c .deliver-all .ensures .0)
 
 pub regdulyn-deliver-spec : {M : Type 1} → statement M
 regdulyn-deliver-spec =

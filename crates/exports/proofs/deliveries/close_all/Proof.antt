@@ -1,0 +1,61 @@
+-- The closes are a row of calls; each is handed the state that the one before left.
+use Rattle.exports.proofs.Handing.{Closing, calling-start, closing-turn, closing-end}
+use Rattle.exchange.specs.Calls.{closing}
+use Rattle.exchange.specs.Replies.{stateAfter}
+use Prim.Native.Nat.{_-_}
+use native.Mathlib.Omega.{arith}
+use borrow.Author.Needs.{needs}
+use Rattle.exports.proofs.deliveries.close_all.Statement.{statement}
+use Rattle.exports.proofs.deliveries.close_all.Tie as tie
+
+abbrev Inv-loop : tie.InvT-loop
+Inv-loop times state₀ accepted₀ i₀ state accepted i = Closing times state₀ i accepted state
+
+abbrev μ-loop : tie.MeasureT-loop
+μ-loop times state₀ accepted₀ i₀ state accepted i = times - i
+
+loop-holds : tie.Need-loop-holds Inv-loop μ-loop
+loop-holds c = calling-start closing stateAfter (c .args .times) (c .args .x)
+
+close-requires : tie.Need-close-requires Inv-loop μ-loop
+close-requires c κs = search needs
+
+accepted-by-requires : tie.Need-accepted-by-requires Inv-loop μ-loop
+accepted-by-requires c κs = search needs
+
+add-accepted : tie.Need-add-accepted Inv-loop μ-loop
+add-accepted c = omega (arith, c .before .before .before .before .loop .inv .bound, c .accepted-by .ensures .1)
+
+add-i : tie.Need-add-i Inv-loop μ-loop
+add-i c = search needs
+
+loop-less : tie.Need-loop-less Inv-loop μ-loop
+loop-less c = search needs
+
+loop-again : tie.Need-loop-again Inv-loop μ-loop
+loop-again c =
+    let a = c .before .before .before .before .before .args in
+    let l = c .before .before .before .before .loop in
+    let one = c .accepted-by .ensures in
+    closing-turn (a .times) (a .x) (l .i) (l .accepted) (l .state) (l .inv) (c .before .before .before .loop-test .taken) _ (c .before .before .close .ensures) _ (one .0) (one .1)
+
+returns : tie.Need-returns Inv-loop μ-loop
+returns c =
+    let a = c .before .before .args in
+    let l = c .before .loop in
+    closing-end (a .times) (a .x) (l .i) (l .accepted) (l .state) (l .inv) (c .loop-test .left)
+
+pub close-all-spec : {M : Type 1} → statement M
+close-all-spec =
+    tie.close
+    (tie.spec
+    Inv-loop
+    μ-loop
+    loop-holds
+    close-requires
+    accepted-by-requires
+    add-accepted
+    add-i
+    loop-less
+    loop-again
+    returns)

@@ -1,0 +1,66 @@
+-- The sends are a row of calls; each is handed the bytes that the one before left.
+use Rattle.exports.proofs.Handing.{Sending, calling-start, sending-turn, sending-end}
+use Rattle.exports.specs.Deliveries.{sendInto, sentInto}
+use lib.ListN.{length}
+use Prim.Native.Nat.{_-_}
+use mathlib.Core.Path.{_≡_, refl}
+use native.Mathlib.Omega.{arith}
+use borrow.Author.Needs.{needs}
+use Rattle.exports.proofs.deliveries.send_all.Statement.{statement}
+use Rattle.exports.proofs.deliveries.send_all.Tie as tie
+
+abbrev Inv-loop : tie.InvT-loop
+Inv-loop x out₀ start times accepted₀ i₀ out accepted i = (length out ≡ length out₀) × Sending times x start out₀ i accepted out
+
+abbrev μ-loop : tie.MeasureT-loop
+μ-loop x out₀ start times accepted₀ i₀ out accepted i = times - i
+
+loop-holds : tie.Need-loop-holds Inv-loop μ-loop
+loop-holds c = let a = c .before .args in (refl, calling-start (sendInto (a .x) (a .start)) (sentInto (a .start)) (a .times) (a .out .now))
+
+send-requires : tie.Need-send-requires Inv-loop μ-loop
+send-requires c κs = search needs
+
+written-by-requires : tie.Need-written-by-requires Inv-loop μ-loop
+written-by-requires c κs = search needs
+
+add-accepted : tie.Need-add-accepted Inv-loop μ-loop
+add-accepted c = omega (arith, c .before .before .before .before .before .before .loop .inv .1 .bound, c .written-by .ensures .1)
+
+add-i : tie.Need-add-i Inv-loop μ-loop
+add-i c = search needs
+
+loop-less : tie.Need-loop-less Inv-loop μ-loop
+loop-less c = search needs
+
+loop-again : tie.Need-loop-again Inv-loop μ-loop
+loop-again c =
+    let a = c .before .before .before .before .before .before .before .before .args in
+    let l = c .before .before .before .before .before .before .loop in
+    let one = c .written-by .ensures in
+    (search needs, sending-turn (a .times) (a .x) (a .start) (a .out .now) (l .i) (l .accepted) (l .out) _ (l .inv .1) (c .before .before .before .before .before .loop-test .taken) _ (c .before .before .before .send .ensures) _ (one .0) (one .1))
+
+same-length : tie.Need-same-length Inv-loop μ-loop
+same-length c = search needs
+
+returns : tie.Need-returns Inv-loop μ-loop
+returns c =
+    let a = c .before .before .before .args in
+    let l = c .before .loop in
+    sending-end (a .times) (a .x) (a .start) (a .out .now) (l .i) (l .accepted) (l .out) (l .inv .1) (c .loop-test .left)
+
+pub send-all-spec : {M : Type 1} → statement M
+send-all-spec =
+    tie.close
+    (tie.spec
+    Inv-loop
+    μ-loop
+    loop-holds
+    send-requires
+    written-by-requires
+    add-accepted
+    add-i
+    loop-less
+    loop-again
+    same-length
+    returns)
