@@ -33,13 +33,13 @@ module _ (b p halted gone : Bool) (e : b ≡ p) where
   pub sends-unless-gone : not b ≡ false → halted ≡ false → (g : Bool) → g ≡ gone → not g ≡ (p && not halted && not gone)
   sends-unless-gone h k g f = ap not f ∙ ap₂ (λ (x y : Bool). x && not y && not gone) (sym (not-false b h) ∙ e) (sym k)
 
-module _ (w : World) (b p : Bool) (e : b ≡ p) (calls : List Call) where
-  pub not-sent : not b ≡ true → w ≡ applyAll w (cond p calls [])
+module _ (w : World) {b p : Bool} (e : b ≡ p) (calls : List Call) where
+  pub not-sent : b ≡ false → w ≡ applyAll w (cond p calls [])
   unfolding applyAll
-  not-sent h = ap (applyAll w) (sym (cond-false _ _ (sym e ∙ not-true b h)))
+  not-sent h = ap (applyAll w) (sym (cond-false _ _ (sym e ∙ h)))
 
-  pub sent-all : not b ≡ false → (w' : World) (made : List Call) → w' ≡ applyAll w made → made ≡ calls → w' ≡ applyAll w (cond p calls [])
-  sent-all h w' made f g = f ∙ ap (applyAll w) (g ∙ sym (cond-true _ _ (sym e ∙ not-false b h)))
+  pub sent-all : b ≡ true → applyAll w calls ≡ applyAll w (cond p calls [])
+  sent-all h = ap (applyAll w) (sym (cond-true _ _ (sym e ∙ h)))
 
 -- a list has at most 64 drives
 pub length-list : (n core own : ℕ) → n ≤ 64 → core < 2 ^ n → length (listFor n core own) ≤ 64

@@ -1,7 +1,6 @@
 // One round of the simulated exchange: all sends and their messages, then all closes.
 ghost use mathlib.Core.Path.{_≡_};
-ghost use mathlib.Core.Bool.{not, _&&_, cond};
-ghost use mathlib.Core.List.{[]};
+ghost use mathlib.Core.Bool.{not, _&&_};
 ghost use Prim.Native.Nat.{_^_, _≤_, _<_};
 ghost use Rattle.drive_sets.specs.Masks.{has};
 ghost use Rattle.exchange.specs.Calls.{sending};
@@ -30,7 +29,7 @@ fn is_sender(x: Exchange, core: u64, crashes: Crashes, d: Drive, round: Round) -
     !crashes::gone_before(crashes, d, round)
 }
 
-// The messages of one drive, where x is its state when the round begins.
+// The messages of a sender, where x is its state when the round begins.
 fn sent(
     x: Exchange,
     states: [Exchange; 64],
@@ -41,11 +40,8 @@ fn sent(
     round: Round,
 ) -> [Exchange; 64]
     requires { ⌜ (n ≤ 64) × (core < 2 ^ n) ⌝ }
-    ensures { λ r. ⌜ worldOf n r ≡ applyAll (worldOf n states) (cond (has (d .0) core && active (opened x) && not (goneBefore (crashAt crashes (d .0)) (round .0))) (deliveries (sending x 140 0) (cut (crashAt crashes (d .0)) (round .0) (listFor n core (d .0)))) []) ⌝ }
+    ensures { λ r. ⌜ worldOf n r ≡ applyAll (worldOf n states) (deliveries (sending x 140 0) (cut (crashAt crashes (d .0)) (round .0) (listFor n core (d .0)))) ⌝ }
 {
-    if !is_sender(x, core, crashes, d, round) {
-        return states;
-    }
     let sends = crashes::sends_made(crashes, d, round);
     delivering::send_from(x, states, n, core, d, sends)
 }
@@ -65,8 +61,11 @@ fn send_all(
     let mut i = 0u8;
     while i < n {
         let x = states[i as usize];
-        let told = sent(x, all, n, core, crashes, Drive(i + 1), round);
-        all = told;
+        let d = Drive(i + 1);
+        if is_sender(x, core, crashes, d, round) {
+            let told = sent(x, all, n, core, crashes, d, round);
+            all = told;
+        }
         i += 1;
     }
     all

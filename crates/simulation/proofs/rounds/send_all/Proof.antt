@@ -1,8 +1,12 @@
--- The drives one after the other.
+-- The drives one after the other; one that is no sender changes nothing.
 use borrow.Author.Needs.{needs}
-use Rattle.simulation.proofs.SenderCalls.{Sending, send-turn, send-end}
+use Rattle.simulation.proofs.SenderCalls.{Sending, not-sent, sent-all, send-turn, send-end}
 use Rattle.simulation.proofs.Walks.{walk-start}
+use Rattle.simulation.specs.States.{worldOf}
 use native.Mathlib.Omega.{arith}
+use lib.ListN.{length}
+use mathlib.Core.Logic.{⊎-elim}
+use mathlib.Core.Path.{ap, _∙_}
 use Prim.Native.Nat.{_-_}
 use Rattle.simulation.proofs.rounds.send_all.Statement.{statement}
 use Rattle.simulation.proofs.rounds.send_all.Tie as tie
@@ -25,8 +29,11 @@ mul-x c = search needs
 array-copy-out-x : tie.Need-array-copy-out-x Inv-loop μ-loop
 array-copy-out-x c = search needs
 
-add-t17 : tie.Need-add-t17 Inv-loop μ-loop
-add-t17 c = search needs
+add-t18 : tie.Need-add-t18 Inv-loop μ-loop
+add-t18 c = search needs
+
+is-sender-requires : tie.Need-is-sender-requires Inv-loop μ-loop
+is-sender-requires c κs = search needs
 
 sent-requires : tie.Need-sent-requires Inv-loop μ-loop
 sent-requires c κs = search needs
@@ -39,9 +46,18 @@ loop-less c = search needs
 
 loop-again : tie.Need-loop-again Inv-loop μ-loop
 loop-again c =
-    let a = c .before .before .before .before .args in
-    let l = c .before .before .before .loop in
-    send-turn (a .n) (a .core) (a .crashes) (a .round .0) (a .t1) (l .all) (l .i) _ (l .inv) (omega arith) (search needs) (c .sent .ensures)
+    let a = c .before .before .before .before .before .args in
+    let l = c .before .before .before .before .loop in
+    let sender = c .before .is-sender .ensures in
+    send-turn (a .n) (a .core) (a .crashes) (a .round .0) (a .t1) (l .all) (l .i) (c .if1 .all) (l .inv) (omega arith)
+    (⊎-elim
+    (λ w. ap length (w .2) ∙ search needs)
+    (λ w. ap length (w .1) ∙ l .inv .long)
+    (c .if1 .came))
+    (⊎-elim
+    (λ w. ap (worldOf (a .n)) (w .2) ∙ (w .1 .ensures ∙ sent-all _ sender _ (w .0 .taken)))
+    (λ w. ap (worldOf (a .n)) (w .1) ∙ not-sent _ sender _ (w .0 .left))
+    (c .if1 .came))
 
 returns : tie.Need-returns Inv-loop μ-loop
 returns c =
@@ -59,7 +75,8 @@ send-all-spec =
     cast-x
     mul-x
     array-copy-out-x
-    add-t17
+    add-t18
+    is-sender-requires
     sent-requires
     add-i
     loop-less
