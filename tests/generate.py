@@ -3,7 +3,8 @@
 `table_inputs` and `run_inputs` yield bytes. Both start with a fixed list that
 covers every refusal number, every cut of a file and the limits, and go on at
 random. The same seed gives the same inputs. Somewhat more than half are
-accepted.
+accepted. `long_tables` and `long_runs` yield inputs about as long as the
+programs' buffers, and longer.
 """
 
 from itertools import chain, combinations, islice, product
@@ -17,9 +18,21 @@ from inputs.records import (MARKS, UNKNOWN_MARKS, Crash, Records, crash, frame,
 from inputs.scenarios import accepted_run, spoil_crash, touch_every_set
 
 
+# Long inputs
+
+BUFFER = 4096
+
+
+def around_buffer(start: bytes, more: bytes) -> Iterator[bytes]:
+    """More and more behind a start, cut at the buffer's end and around it."""
+    for length in (BUFFER - 1, BUFFER, BUFFER + 1, BUFFER + len(more), 2 * BUFFER, 70_000):
+        yield (start + more * (length // len(more) + 1))[:length]
+
+
 # Table inputs
 
 EXAMPLE = (6, [1, 2, 0x3C])
+LARGEST_TABLE = table(64, [full(64)] * 128)
 
 
 def fixed_frames() -> Iterator[Frame]:
@@ -77,6 +90,17 @@ def fixed_limits() -> Iterator[bytes]:
     yield table(21, pairs[:-1] + [1 << 20])
     yield table(46, [full(46) & ~(1 << place) for place in range(46)])
     yield table(64, [3 << 2 * pair for pair in range(32)] + [0b101010])
+
+
+def long_tables() -> Iterator[bytes]:
+    """Tables with bytes behind them, and tables that do not end."""
+    whole = table(*EXAMPLE)
+    yield from (LARGEST_TABLE, table(22, [3 << 2 * pair for pair in range(11)]) + bytes(BUFFER))
+    for start, more in ((whole, b"\0"), (whole, whole), (LARGEST_TABLE, b"\0"),
+                        (LARGEST_TABLE, LARGEST_TABLE), (whole[:-1] + b"\2", b"\0"),
+                        (frame(6), survivor(1)), (frame(6) + survivor(1), survivor(0)),
+                        (frame(6), b"\0"), (b"", b"\0"), (b"", frame(6))):
+        yield from around_buffer(start, more)
 
 
 def random_tables(rng: Random) -> Iterator[bytes]:
@@ -165,6 +189,22 @@ def fixed_run_refusals() -> Iterator[bytes]:
     for wrong in (table(0, [1]), table(65, [1]), table(6, [0]), table(6, [0x40]),
                   table(6, [1] * 129), frame(6), frame(6)[:2], b"PR"):
         yield wrong + head + b"EN\0"
+
+
+def long_runs() -> Iterator[bytes]:
+    """Runs with bytes behind them, and runs that do not end."""
+    falling = list(range(64, 0, -1))
+    stops = [Crash(drive, 1, 0) for drive in range(2, 65)]
+    largest = table(64, [1] * 128) + run(falling, stops)
+    touched = table(64, [1] * 128) + run(falling, [Crash(1, 1, 0), *stops])
+    whole = table(*EXAMPLE) + run(MARKED_PATTERNS, [Crash(2, 1, 1)])
+    yield from (largest, touched)
+    for start, more in ((whole, b"\0"), (whole, whole), (largest, b"\0"), (largest, largest),
+                        (touched, b"\0"), (whole[:-1] + b"\2", b"\0"),
+                        (whole[:-3], crash(3, 1, 0)), (LARGEST_TABLE, proposal(1, 7)),
+                        (LARGEST_TABLE, b"\0"), (LARGEST_TABLE, LARGEST_TABLE),
+                        (frame(6), survivor(1)), (b"", b"\0")):
+        yield from around_buffer(start, more)
 
 
 def random_run_records(rng: Random) -> tuple[Records, Records]:

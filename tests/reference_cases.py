@@ -16,7 +16,7 @@ from cases import (calls, definitions, drives, exchanges, files, generated,  # n
                    marked)
 
 GROUPS = (
-    marked.marked_cases,
+    marked.marked_cases, marked.example_cases,
     files.table_refusals, files.rest_cases, files.run_refusals,
     calls.call_refusals, calls.simulate_refusals, calls.back_refusals, calls.writer_cases,
     definitions.table_definitions, definitions.verdict_definitions, definitions.wide_tables,
@@ -24,7 +24,7 @@ GROUPS = (
     drives.opening_cases, drives.state_refusals, drives.send_cases, drives.message_refusals,
     drives.message_cases, drives.close_cases,
     exchanges.exchange_definitions,
-    generated.generator_cases,
+    generated.generator_cases, generated.script_cases,
 )
 
 

@@ -1,4 +1,4 @@
-"""Survivor tables, verdicts and exchanges, written from the documents alone.
+"""Survivor tables, verdicts and exchanges, written from document 01 and the decisions on it.
 
 The second program: its listings are compared with the proved programs'.
 """

@@ -1,8 +1,8 @@
 """Run files and the simulated exchange.
 
 A scenario is the pattern number each drive proposes and the crashes. The
-simulation makes the calls of a run in one fixed order: in each round all
-sends, then the messages, then the closes.
+simulation makes the calls of a run in one fixed order: in each round each
+sender's send and its messages, sender after sender, then the closes.
 """
 
 from dataclasses import dataclass

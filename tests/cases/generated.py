@@ -1,9 +1,13 @@
-"""The generator: it repeats itself, meets every refusal, and accepts half."""
+"""The generators: they repeat themselves, meet every refusal, and are accepted
+often."""
 
+from collections import defaultdict
 from typing import Iterator
 
 import generate
 import regdulyn
+from inputs.calls import MAX_BYTES
+from inputs.scripts import scripts
 
 from . import Case
 
@@ -20,3 +24,35 @@ def generator_cases() -> Iterator[Case]:
         refused = [text for text in texts if text.startswith(b"refused ")]
         yield f"{name} refusals", {int(text.split()[1]) for text in refused}, expected
         yield f"{name} inputs, half accepted", 2 * len(refused) < len(texts), True
+
+
+TABLE_REFUSALS = {2, 3, 4, 5, 13}
+
+# What each operation of the call program can answer, and be refused with.
+CALL_ANSWERS = {
+    "O": ({"accepted"}, TABLE_REFUSALS | {8}),
+    "S": ({"written"}, {14, 23, 27, 28}),
+    "M": ({"accepted"}, {1, 2, 7, 8, 15, 21, 22, 23, 24, 25, 26, 28}),
+    "C": ({"accepted"}, {23, 28}),
+    "B": ({"found"}, {3, 4, 5, 13}),
+    "W": ({"written"}, TABLE_REFUSALS | {14}),
+    "V": ({"yes", "no"}, TABLE_REFUSALS | {12}),
+    "H": ({"meets", "misses"}, TABLE_REFUSALS),
+}
+
+
+def script_cases() -> Iterator[Case]:
+    made = list(scripts(5, 2000))
+    yield ("scripts repeat", [script.data for script in made],
+           [script.data for script in scripts(5, 2000)])
+    yield "scripts fit", max(len(script.data) for script in made) <= MAX_BYTES, True
+    words, refusals = defaultdict(set), defaultdict(set)
+    for script in made:
+        for letter, lines in zip(script.letters, script.lines):
+            word, *values = lines[0].split()
+            if word == "refused":
+                refusals[letter].add(int(values[0]))
+            else:
+                words[letter].add(word)
+    for letter, expected in CALL_ANSWERS.items():
+        yield f"answers of {letter}", (words[letter], refusals[letter]), expected

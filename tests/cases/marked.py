@@ -1,9 +1,10 @@
-"""Document 01's marked cases A to J, through the two scripts."""
+"""Document 01's marked cases A to J, through the two scripts, and their files
+in examples/."""
 
 import subprocess
 from itertools import product
 from pathlib import Path
-from typing import Iterator
+from typing import Iterator, Optional
 
 import regdulyn
 from inputs.frames import full
@@ -11,7 +12,8 @@ from inputs.records import Crash, run, table
 
 from . import A_SETS, PATTERNS, Case
 
-REFERENCE = Path(__file__).resolve().parents[2] / "reference"
+ROOT = Path(__file__).resolve().parents[2]
+EXAMPLES = ROOT / "examples"
 
 LISTING_A = """\
 drives 6
@@ -54,82 +56,81 @@ k 3 no sets 1 2 3 blocks 8 4 3
 k 4 no sets 1 1 2 3 blocks 8 0 4 3
 """
 
-LISTING_D = """\
-drive 1 decides 7 round 2
-drive 2 stopped
-drive 3 decides 7 round 2
-drive 4 decides 7 round 2
-drive 5 decides 7 round 2
-drive 6 decides 7 round 2
-core 7 stops 1
-"""
 
-LISTING_E = """\
-drive 1 decides 5 round 1
-drive 2 stopped
-drive 3 decides 5 round 1
-drive 4 decides 5 round 1
-drive 5 decides 5 round 2
-drive 6 decides 5 round 2
-core 7 stops 1
-"""
+def on_a(endings: list[Optional[tuple[int, int]]]) -> str:
+    """A run's listing on case A's table: the pattern number and round of each
+    drive, none for one that stopped, where only core drives stop."""
+    lines = [f"drive {drive} " + ("decides %d round %d" % end if end else "stopped")
+             for drive, end in enumerate(endings, start=1)]
+    return "\n".join([*lines, f"core 7 stops {endings.count(None)}", ""])
 
-# Drive 1 is gone in round 1 and drive 2 in round 2, both without a send, so
-# drive 2's 5 reaches the rest in round 1.
-LISTING_F = """\
-drive 1 stopped
-drive 2 stopped
-drive 3 decides 5 round 3
-drive 4 decides 5 round 3
-drive 5 decides 5 round 3
-drive 6 decides 5 round 3
-core 7 stops 2
-"""
 
 LISTING_H = ("drives 64\nset ffffffffffffffff\n" +
              "".join(f"core {1 << place:x}\n" for place in range(64)) +
              "chosen 1\nk 2 yes\nk 3 yes\nk 4 yes\n")
 
-LISTING_J = "drive 1 decides 42 round 1\ncore 1 stops 0\n"
+
+def stopped(*crashes: Crash) -> bytes:
+    """Case A's table with case B's pattern numbers."""
+    return table(6, A_SETS) + run(PATTERNS, list(crashes))
 
 
-def script(name: str, data: bytes) -> tuple[str, bytes, int]:
-    done = subprocess.run([str(REFERENCE / name)], input=data, capture_output=True)
-    return done.stdout.decode("ascii"), done.stderr, done.returncode
+# Letter, program, input, listing. In F drive 2 sends in round 1, so that its 5
+# reaches the rest.
+MARKED = (
+    ("a", "table", table(6, A_SETS), LISTING_A),
+    ("b", "run", stopped(Crash(2, 1, 1)), LISTING_B),
+    ("c", "table", table(4, [7, 0xB, 0xC]), LISTING_C),
+    ("d", "run", stopped(Crash(2, 1, 0)), on_a([(7, 2), None] + [(7, 2)] * 4)),
+    ("e", "run", stopped(Crash(2, 1, 3)),
+     on_a([(5, 1), None, (5, 1), (5, 1), (5, 2), (5, 2)])),
+    ("f", "run", stopped(Crash(1, 1, 0), Crash(2, 2, 0)), on_a([None] * 2 + [(5, 3)] * 4)),
+    ("g", "run", stopped(Crash(1, 1, 0), Crash(2, 1, 0), Crash(3, 1, 0)), "refused 11\n"),
+    ("h", "table", table(64, [full(64)]), LISTING_H),
+    ("i", "table", table(65, [1]), "refused 3\n"),
+    ("j", "run", table(1, [1]) + run([4], []), "drive 1 decides 4 round 1\ncore 1 stops 0\n"),
+)
+
+NEIGHBOURS = (
+    ("i as a run", "run", table(65, [1]), "refused 3\n"),
+    ("j as a table", "table", table(1, [1]),
+     "drives 1\nset 1\ncore 1\nchosen 1\nk 2 yes\nk 3 yes\nk 4 yes\n"),
+    ("two sets of one drive, k 3", "table", table(2, [1, 2]),
+     "drives 2\nset 1\nset 2\ncore 3\nchosen 3\nk 2 no sets 1 2 blocks 2 1\n"
+     "k 3 no sets 1 1 2 blocks 2 0 1\nk 4 no sets 1 1 1 2 blocks 2 0 0 1\n"),
+    ("masks of two digits", "table", table(12, [0xC00, 0xA00]),
+     "drives 12\nset a00\nset c00\ncore 800\ncore 600\nchosen 800\n"
+     "k 2 yes\nk 3 yes\nk 4 yes\n"),
+    ("empty table input", "table", b"", "refused 1\n"),
+    ("empty run input", "run", b"", "refused 1\n"),
+)
+
+
+def script(path: Path, data: bytes, *arguments: str) -> tuple[bytes, bytes, int]:
+    done = subprocess.run([str(path), *arguments], input=data, capture_output=True)
+    return done.stdout, done.stderr, done.returncode
 
 
 def marked_cases() -> Iterator[Case]:
-    example = table(6, A_SETS)
+    for name, program, data, listing in MARKED + NEIGHBOURS:
+        yield (f"case {name}", script(ROOT / "reference" / program, data),
+               (listing.encode(), b"", 0))
+    for rounds in product((1, 2, 3), repeat=3):
+        data = stopped(*(Crash(drive, r, 0) for drive, r in enumerate(rounds, start=1)))
+        yield f"case g, rounds {rounds}", regdulyn.run_program(data), b"refused 11\n"
 
-    def stopped(*crashes: Crash) -> bytes:
-        return example + run(PATTERNS, list(crashes))
 
-    rounds = (1, 2, 3)
-    cases = [
-        ("A", "table", example, LISTING_A),
-        ("B", "run", stopped(Crash(2, 1, 1)), LISTING_B),
-        ("C", "table", table(4, [7, 0xB, 0xC]), LISTING_C),
-        ("D", "run", stopped(Crash(2, 1, 0)), LISTING_D),
-        ("E", "run", stopped(Crash(2, 1, 3)), LISTING_E),
-        ("F", "run", stopped(Crash(1, 1, 0), Crash(2, 2, 0)), LISTING_F),
-        ("H", "table", table(64, [full(64)]), LISTING_H),
-        ("I", "table", table(65, [1]), "refused 3\n"),
-        ("I as a run", "run", table(65, [1]), "refused 3\n"),
-        ("J", "run", table(1, [1]) + run([42], []), LISTING_J),
-        ("J as a table", "table", table(1, [1]),
-         "drives 1\nset 1\ncore 1\nchosen 1\nk 2 yes\nk 3 yes\nk 4 yes\n"),
-        ("two sets of one drive, k 3", "table", table(2, [1, 2]),
-         "drives 2\nset 1\nset 2\ncore 3\nchosen 3\nk 2 no sets 1 2 blocks 2 1\n"
-         "k 3 no sets 1 1 2 blocks 2 0 1\nk 4 no sets 1 1 1 2 blocks 2 0 0 1\n"),
-        ("masks of two digits", "table", table(12, [0xC00, 0xA00]),
-         "drives 12\nset a00\nset c00\ncore 800\ncore 600\nchosen 800\n"
-         "k 2 yes\nk 3 yes\nk 4 yes\n"),
-        ("empty table input", "table", b"", "refused 1\n"),
-        ("empty run input", "run", b"", "refused 1\n"),
-    ]
-    for name, program, data, expected in cases:
-        yield f"case {name}", script(program, data), (expected, b"", 0)
-    for a, b, c in product(rounds, repeat=3):
-        data = stopped(Crash(1, a, 0), Crash(2, b, 0), Crash(3, c, 0))
-        yield f"case G {a} {b} {c}", regdulyn.run_program(data), b"refused 11\n"
-    yield "case G, script", script("run", data), ("refused 11\n", b"", 0)
+def example_cases() -> Iterator[Case]:
+    """Each file is what its text makes, and gives its case's listing."""
+    programs = {"table": regdulyn.table_program, "run": regdulyn.run_program}
+    names = {"make"}
+    for letter, program, data, listing in MARKED:
+        path = EXAMPLES / f"{letter}.{program}"
+        text = path.with_name(f"{path.name}.txt")
+        names |= {path.name, text.name}
+        stored = path.read_bytes()
+        yield f"example {letter}", stored, data
+        yield f"example {letter}, listing", programs[program](stored), listing.encode()
+        yield (f"example {letter}, made", script(EXAMPLES / "make", b"", str(text)),
+               (stored, b"", 0))
+    yield "examples", {path.name for path in EXAMPLES.iterdir()}, names

@@ -7,7 +7,8 @@ stands in crates/call_program/src/main.rt.
 
 from typing import Callable
 
-from regdulyn import Exchange, Refusal, close, message, opening, send_into
+from regdulyn import (Exchange, Refusal, Verdict, back, close, meets_all, message, opening,
+                      send_into, verdict, write_table_into)
 
 FILLING = 0xA5
 MAX_BYTES = 65536
@@ -44,45 +45,69 @@ def state_line(x: Exchange) -> str:
             f" numbers {''.join(f'{v:04x}' for v in x.numbers)}")
 
 
+def list_bytes(masks: list[int]) -> bytes:
+    """The list at the end of an operation."""
+    return field(len(masks), 2) + b"".join(field(mask, 8) for mask in masks)
+
+
+def verdict_line(found: Verdict) -> str:
+    """Four positions and four blocks, with zeros where there are none."""
+    unused = [0] * (4 - len(found.positions))
+    positions = " ".join(str(place) for place in [*found.positions, *unused])
+    blocks = " ".join(f"{block:x}" for block in [*found.blocks, *unused])
+    return f"{'yes' if found.yes else 'no'} sets {positions} blocks {blocks}"
+
+
+def answer(call: Callable[[], str]) -> str:
+    """The line that the call gives, or its refusal's."""
+    try:
+        return call()
+    except Refusal as refusal:
+        return f"refused {refusal.number}"
+
+
 class Script:
-    """Operations, the state they have reached, and the lines of each."""
+    """Operations, the state they have reached, and the letter and lines of each."""
 
     def __init__(self) -> None:
         self.data = b""
+        self.letters = ""
         self.lines: list[list[str]] = []
         self.state = blank()
 
     def _add(self, operation: bytes, *lines: str) -> None:
         self.data += operation
+        self.letters += chr(operation[0])
         self.lines.append([*lines, state_line(self.state)])
 
     def _call(self, operation: bytes, call: Callable[[], Exchange]) -> bool:
         """Whether the call is accepted; a refused one keeps the state."""
-        try:
+        def take() -> str:
             self.state = call()
-            answer = "accepted"
-        except Refusal as refusal:
-            answer = f"refused {refusal.number}"
-        self._add(operation, answer)
-        return answer == "accepted"
+            return "accepted"
+        line = answer(take)
+        self._add(operation, line)
+        return line == "accepted"
+
+    def _fill(self, operation: bytes, length: int, start: int,
+              call: Callable[[bytearray], int]) -> None:
+        """A call that fills a lent buffer from the starting place on."""
+        buffer = bytearray([FILLING]) * length
+        line = answer(lambda: f"written {call(buffer) - start}")
+        self._add(operation, line, f"buffer {buffer.hex()}")
 
     def load(self, x: Exchange) -> None:
         self.state = x
         self._add(b"L" + state_bytes(x))
 
     def open(self, n: int, sets: list[int], own: int, pattern: int) -> bool:
-        operation = (b"O" + field(n, 1) + field(len(sets), 1) + field(own, 1) +
-                     field(pattern, 2) + b"".join(field(mask, 8) for mask in sets))
+        operation = (b"O" + field(n, 1) + field(own, 1) + field(pattern, 2) +
+                     list_bytes(sets))
         return self._call(operation, lambda: opening(n, sets, own, pattern))
 
     def send(self, length: int, start: int) -> None:
-        buffer = bytearray([FILLING]) * length
-        try:
-            answer = f"written {send_into(self.state, buffer, start) - start}"
-        except Refusal as refusal:
-            answer = f"refused {refusal.number}"
-        self._add(b"S" + field(length, 2) + field(start, 8), answer,
-                  f"buffer {buffer.hex()}")
+        self._fill(b"S" + field(length, 2) + field(start, 8), length, start,
+                   lambda buffer: send_into(self.state, buffer, start))
 
     def message(self, data: bytes) -> bool:
         return self._call(b"M" + field(len(data), 2) + data,
@@ -90,6 +115,22 @@ class Script:
 
     def close(self) -> bool:
         return self._call(b"C", lambda: close(self.state))
+
+    def back(self, n: int, groups: list[int]) -> None:
+        self._add(b"B" + field(n, 1) + list_bytes(groups), answer(
+            lambda: " ".join(["found", *(f"{mask:x}" for mask in back(n, groups))])))
+
+    def write(self, n: int, sets: list[int], length: int, start: int) -> None:
+        self._fill(b"W" + field(n, 1) + field(length, 2) + field(start, 8) + list_bytes(sets),
+                   length, start, lambda buffer: write_table_into(buffer, start, n, sets))
+
+    def judge(self, k: int, n: int, sets: list[int]) -> None:
+        self._add(b"V" + field(k, 1) + field(n, 1) + list_bytes(sets),
+                  answer(lambda: verdict_line(verdict(k, n, sets))))
+
+    def meet(self, n: int, sets: list[int], group: int) -> None:
+        self._add(b"H" + field(n, 1) + field(group, 8) + list_bytes(sets),
+                  answer(lambda: "meets" if meets_all(n, sets, group) else "misses"))
 
     @property
     def expected(self) -> bytes:

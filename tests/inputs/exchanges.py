@@ -1,4 +1,4 @@
-"""Scripts for the call program: exchanges as one drive sees them, with refused
+"""Operations of the exchange: exchanges as one drive sees them, with refused
 calls between, handmade states, and openings.
 """
 
@@ -7,13 +7,13 @@ from typing import Iterator
 
 from regdulyn import Exchange, Refusal, close, message, opening, send
 
-from .calls import MAX_BYTES, Script
-from .frames import accepted_table, crowded_table, full, places
+from .calls import Script
+from .frames import accepted_table, places
 from .messages import damaged_message, made_message
 from .scenarios import patterns, run_table, stop_rich_table
-from .states import broken_states, fair_state, quiet_state
+from .set_calls import refused_table
+from .states import fair_state, quiet_state
 
-OPERATIONS = 400
 LARGEST = 2000
 
 
@@ -34,25 +34,11 @@ def odd_send(rng: Random, script: Script) -> None:
 
 def refused_opening(rng: Random, script: Script) -> None:
     """A table or a drive number that is refused."""
-    n, sets = accepted_table(rng)
-    own, pattern = rng.randint(1, n), rng.randrange(65536)
-    kind = rng.randrange(8)
-    if kind == 0:
-        n = rng.choice((0, 65, 128, 255))
-    elif kind == 1:
-        sets = []
-    elif kind == 2:
-        sets = (sets * 130)[:rng.choice((129, 130))]
-    elif kind == 3:
-        sets[rng.randrange(len(sets))] = rng.choice((0, 1 << min(n, 63), full(64)))
-        n = min(n, 63)
-    elif kind == 4:
-        n, sets = crowded_table(rng)
-    else:
-        own = rng.choice((0, n + 1, 65, 255))
-    if rng.random() < 0.2:
-        own = rng.choice((0, n + 1)) % 256
-    script.open(n, sets, own, pattern)
+    bad_table = rng.random() < 0.6
+    n, sets = (refused_table if bad_table else accepted_table)(rng)
+    bad_drive = not bad_table or rng.random() < 0.2
+    own = rng.choice((0, n + 1, 65, 255)) % 256 if bad_drive else rng.randint(1, max(n, 1))
+    script.open(n, sets, own, rng.randrange(65536))
 
 
 def stray_call(rng: Random, script: Script, seen: list[bytes]) -> None:
@@ -152,7 +138,7 @@ def exchange(rng: Random, script: Script) -> None:
         stray_call(rng, script, seen)
 
 
-# Scripts
+# Handmade states and openings
 
 def handmade(rng: Random, script: Script, broken: Iterator[Exchange]) -> None:
     """Calls on a state that no exchange need reach."""
@@ -181,23 +167,3 @@ def openings(rng: Random, script: Script) -> None:
         else:
             n, sets = accepted_table(rng)
             script.open(n, sets, rng.randint(1, n), rng.choice((0, 65535, rng.randrange(65536))))
-
-
-def scripts(seed: int, count: int) -> Iterator[Script]:
-    """Scripts with so many operations in all, or a few more."""
-    rng = Random(seed)
-    broken = broken_states(rng)
-    while count > 0:
-        script = Script()
-        script.close()
-        while len(script.lines) < min(count, OPERATIONS) and len(script.data) < MAX_BYTES // 2:
-            chance = rng.random()
-            if chance < 0.3:
-                exchange(rng, script)
-            elif chance < 0.9:
-                handmade(rng, script, broken)
-            else:
-                openings(rng, script)
-        if len(script.data) <= MAX_BYTES:
-            count -= len(script.lines)
-            yield script

@@ -1,4 +1,4 @@
--- A run follows the abstract rounds (section 4 of the proof on paper, "Refinement"): what the world is when a round begins, and what it is, with
+-- A run follows the abstract rounds (section 4 of docs/AGREEMENT.md, "Refinement"): what the world is when a round begins, and what it is, with
 -- the book, at any time in the round's part. Each is stated as equality with a state that the abstract rounds give.
 use mathlib.Core.Path.{_≡_}
 use mathlib.Core.Bool.{Bool, true, false, _||_, cond}

@@ -20,11 +20,11 @@ module _ {s : Scenario} (ok : Valid s) {calls : List Call} (run : Run s calls) {
   ending-decides : {v r : ℕ} → endingOf s (s .crash d) d ≡ decides v r → Decides run d v r
   ending-decides {v} h =
       let t = ending-rounds ok u h in
-      subst (Decides run d v) (sym (t .is)) (rounds-decide ok run u v (t .k) (t .below) (t .decides-in))
+      subst (Decides run d v) (sym (t .is)) (rounds-decide ok run d v (t .k) (t .below) (t .decides-in))
 
   decides-ending : (v r : ℕ) → Decides run d v r → endingOf s (s .crash d) d ≡ decides v r
   decides-ending v zero x = absurd x
-  decides-ending v (suc k) x = let t = decides-rounds ok run u v k x in rounds-ending ok u (t .0) (t .1)
+  decides-ending v (suc k) x = let t = decides-rounds ok run d v k x in rounds-ending ok u (t .0) (t .1)
 
 pub every-run-gives : EveryRunGives
 unfolding EveryRunGives

@@ -1,4 +1,4 @@
--- The states of a run as functions of the abstract rounds (section 4 of the proof on paper, "Refinement"): what a drive holds in round k + 1
+-- The states of a run as functions of the abstract rounds (section 4 of docs/AGREEMENT.md, "Refinement"): what a drive holds in round k + 1
 -- once it has accepted the messages of some senders. It depends on the set of those senders and not on the order in which their messages
 -- came, so that two orders of the same messages leave equal states.
 use mathlib.Core.Path.{_≡_}

@@ -21,21 +21,21 @@ use Rattle.agreement.specs.Tight.Laws.{tight-rounds}
 use Rattle.agreement.specs.Refinement.Canonical.{canonical-run}
 use Rattle.agreement.specs.Refinement.Runs.{final-decision, rounds-decide, decides-rounds}
 
--- ---- a drive that stays up decides in a round exactly when the rules of document 01 give it
+-- ---- a drive decides in a round exactly when the rules of document 01 give it
 
 pub by-rules : ByRules
 unfolding ByRules
-by-rules s ok calls run d v k u = (decides-rounds ok run u v k, λ h. rounds-decide ok run u v k (h .0) (h .1))
+by-rules s ok calls run d v k = (decides-rounds ok run d v k, λ h. rounds-decide ok run d v k (h .0) (h .1))
 
 -- ---- so the order of the calls does not matter
 
 pub same-result : SameResult
 unfolding SameResult
-same-result s ok calls calls′ run run′ d u = record { decides = decides; final = final-decision ok run u ∙ sym (final-decision ok run′ u) }
+same-result s ok calls calls′ run run′ = record { decides = decides; final = λ d u. final-decision ok run u ∙ sym (final-decision ok run′ u) }
   where
-    decides : (v r : ℕ) → Decides run d v r → Decides run′ d v r
-    decides v zero x = absurd x
-    decides v (suc k) x = let r = decides-rounds ok run u v k x in rounds-decide ok run′ u v k (r .0) (r .1)
+    decides : (d v r : ℕ) → Decides run d v r → Decides run′ d v r
+    decides d v zero x = absurd x
+    decides d v (suc k) x = let r = decides-rounds ok run d v k x in rounds-decide ok run′ d v k (r .0) (r .1)
 
 -- ---- agreement
 
@@ -59,7 +59,7 @@ module _ {s : Scenario} (ok : Valid s) (p : ℕ) (in-core : has p (coreOf s) ≡
         record {
           round = suc (r .0);
           upTo = omega (arith, r .1, crashes-failures ok);
-          decides = rounds-decide ok run u (rounds-agree .value) (r .0) (omega (arith, r .1, crashes-failures ok, crashes-below)) (r .2);
+          decides = rounds-decide ok run d (rounds-agree .value) (r .0) (omega (arith, r .1, crashes-failures ok, crashes-below)) (r .2);
         };
     only = only;
     final = λ d u. final-decision ok run u
@@ -68,7 +68,7 @@ module _ {s : Scenario} (ok : Valid s) (p : ℕ) (in-core : has p (coreOf s) ≡
     where
       only : (d v r : ℕ) → Up s d → Decides run d v r → v ≡ rounds-agree .value
       only d v zero u x = absurd x
-      only d v (suc k) u x = rounds-agree .only d k (up-inFrame s u) (up-correct s u) (decides-rounds ok run u v k x .1)
+      only d v (suc k) u x = rounds-agree .only d k (up-inFrame s u) (up-correct s u) (decides-rounds ok run d v k x .1)
 
 pub agreement : Agreement
 unfolding Agreement
@@ -99,6 +99,6 @@ tight n sets accepted proposal patterns f few =
       drive = r .drive;
       up = r .up;
       value = r .value;
-      decides = rounds-decide (r .valid) (canonical-run (r .valid)) (r .up) (r .value) f
+      decides = rounds-decide (r .valid) (canonical-run (r .valid)) (r .drive) (r .value) f
           (omega (arith, r .many, crashes-below (r .valid) (r .drive) (r .inCore) (r .up .stay))) (r .decides);
     }

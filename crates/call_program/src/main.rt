@@ -1,17 +1,22 @@
-// The call program: makes the calls of the exchange that a script on standard input lists, on one state, and prints what each gives, so that
-// a test can hold the calls to a second program.
+// The call program: makes the calls that a script on standard input lists, and prints what each gives, so that a test can hold the calls to a
+// second program. The calls of the exchange are made on one state.
 //
 // A script is a list of operations: one letter, then its fields, lowest byte first.
 //   L  n 1, own 1, core 8, round 1, before 8, heard 8, known 8, start 8, 64 pattern numbers of 2, announced 1 (0: none), its sender 1 and
 //      pattern number 2, decided 1 (0: not) and its pattern number 2, halted 1 (0: not): takes this state
-//   O  n 1, count of sets 1, drive 1, pattern number 2, then the sets, 8 each: opens; sets behind the 130th are left out. A refused
-//      opening leaves the state as it was
+//   O  n 1, drive 1, pattern number 2, list of sets: opens. A refused opening leaves the state as it was
 //   S  length 2, starting place 8: sends into a buffer of that length, at most 256, filled with a5
 //   M  length 2, then so many bytes: hands over a message
 //   C  closes the round
-// Bytes that are not there count as none, and any other letter does nothing. A script has at most 65536 bytes; more are left unread.
+//   B  n 1, list of groups: Back
+//   W  n 1, length 2, starting place 8, list of sets: writes the table into a buffer of that length, at most 1536, filled with a5
+//   V  k 1, n 1, list of sets: the verdict on k
+//   H  n 1, group 8, list of sets: whether the group meets every set
+// A list is its count, 2, then so many masks, 8 each; those behind the 1026th are left out. Bytes that are not there count as none, and any
+// other letter does nothing. A script has at most 65536 bytes; more are left unread.
 //
-// Each call prints a line with its answer, a send another one with its whole buffer, and every operation a line with each field of the state.
+// Each call prints a line with its answer, a send and a writer another one with the whole buffer, and every operation a line with each field
+// of the state.
 ghost use Prim.Native.Nat.{_≤_};
 use drive_sets::Drive;
 use drive_sets::Pattern;
@@ -20,8 +25,11 @@ use exchange::Reply;
 use libc::STDIN_FILENO;
 use tables::reading::Answer;
 
+mod answers;
+mod lists;
 mod printing;
 mod script;
+mod set_calls;
 
 const LOAD: u8 = 76;
 
@@ -33,6 +41,14 @@ const MESSAGE: u8 = 77;
 
 const CLOSE: u8 = 67;
 
+const BACK: u8 = 66;
+
+const WRITE: u8 = 87;
+
+const VERDICT: u8 = 86;
+
+const MEET: u8 = 72;
+
 // The opened state; where the opening is refused, the state before it.
 fn opened(x: Exchange, r: Reply) -> Exchange {
     let answer = r.answer;
@@ -43,21 +59,20 @@ fn opened(x: Exchange, r: Reply) -> Exchange {
     }
 }
 
-// Opens from the first sets, as many as the operation counts.
 fn open_sets(x: Exchange, s: &[u8], sets: &[u64]) -> Exchange {
     let n = script::byte(s, 1);
-    let own = Drive(script::byte(s, 3));
-    let number = Pattern(script::short(s, 4));
-    let listed = script::first_sets(sets, script::count(s));
-    let r = exchange::opening::open(n, listed, own, number);
+    let own = Drive(script::byte(s, 2));
+    let number = Pattern(script::short(s, 3));
+    let r = exchange::opening::open(n, sets, own, number);
     let answer = r.answer;
     printing::print_answer(answer);
     opened(x, r)
 }
 
 fn open(x: Exchange, s: &[u8]) -> Exchange {
-    let sets = script::sets(s);
-    open_sets(x, s, &sets)
+    let list = tables::files::rest(s, 5);
+    let masks = lists::masks(list);
+    open_sets(x, s, lists::first(&masks, lists::count(list)))
 }
 
 // Prints what a send answers and the buffer it leaves.
@@ -97,6 +112,18 @@ fn message(x: Exchange, s: &[u8]) -> Exchange {
     replied(exchange::receiving::message(x, bytes))
 }
 
+// The operations that are no calls of the exchange, and so leave the state as it is.
+fn set_call(s: &[u8]) {
+    let letter = script::byte(s, 0);
+    match letter {
+        BACK => set_calls::back(s),
+        WRITE => set_calls::write(s),
+        VERDICT => set_calls::judge(s),
+        MEET => set_calls::meet(s),
+        _ => {}
+    }
+}
+
 // The state after the operation at the start of the bytes.
 fn step(x: Exchange, s: &[u8]) -> Exchange {
     let letter = script::byte(s, 0);
@@ -109,20 +136,35 @@ fn step(x: Exchange, s: &[u8]) -> Exchange {
         }
         MESSAGE => message(x, s),
         CLOSE => replied(exchange::closing::close(x)),
-        _ => x,
+        _ => {
+            set_call(s);
+            x
+        }
     }
+}
+
+// Where the list at this place ends.
+fn list_end(s: &[u8], at: usize) -> usize
+    requires { ⌜ at ≤ 12 ⌝ }
+    ensures { λ r. ⌜ (at ≤ r) × (r ≤ 524294) ⌝ }
+{
+    at + lists::width(tables::files::rest(s, at))
 }
 
 // How many bytes the operation has: at least its letter.
 fn width(s: &[u8]) -> usize
-    ensures { λ r. ⌜ (1 ≤ r) × (r ≤ 65538) ⌝ }
+    ensures { λ r. ⌜ (1 ≤ r) × (r ≤ 524294) ⌝ }
 {
     let letter = script::byte(s, 0);
     match letter {
         LOAD => 180,
-        OPEN => 6 + 8 * (script::byte(s, 2) as usize),
+        OPEN => list_end(s, 5),
         SEND => 11,
         MESSAGE => 3 + (script::short(s, 1) as usize),
+        BACK => list_end(s, 2),
+        WRITE => list_end(s, 12),
+        VERDICT => list_end(s, 3),
+        MEET => list_end(s, 10),
         _ => 1,
     }
 }

@@ -9,23 +9,23 @@ use libc::STDOUT_FILENO;
 use tables::reading::Answer;
 use tables::writing::Writing;
 
-fn print(text: &[u8]) {
+pub fn print(text: &[u8]) {
     io::write_all(STDOUT_FILENO, text);
 }
 
 // A word and a number in decimal.
-fn print_count(word: &[u8], x: u64) {
+pub fn print_count(word: &[u8], x: u64) {
     print(word);
     io::print_decimal(STDOUT_FILENO, x);
 }
 
 // A word and a mask in hexadecimal.
-fn print_mask(word: &[u8], m: u64) {
+pub fn print_mask(word: &[u8], m: u64) {
     print(word);
     io::print_hex(STDOUT_FILENO, m, 1);
 }
 
-fn print_refused(r: Refusal) {
+pub fn print_refused(r: Refusal) {
     print_count(b"refused ", r.number() as u64);
     print(b"\n");
 }
@@ -80,9 +80,9 @@ fn put_digits(text: &mut [u8], s: &[u8]) {
     }
 }
 
-// At most 256 bytes, two digits each.
+// At most 1536 bytes, two digits each.
 fn print_digits(s: &[u8]) {
-    let mut text = [0u8; 512];
+    let mut text = [0u8; 3072];
     put_digits(&mut text, s);
     print(script::first(&text, 2 * s.len()));
 }

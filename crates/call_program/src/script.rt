@@ -26,30 +26,6 @@ pub fn first(s: &[u8], size: usize) -> &[u8] {
     &s[0..size]
 }
 
-// The first sets, so many or all there are.
-pub fn first_sets(sets: &[u64], count: usize) -> &[u64] {
-    if sets.len() < count {
-        return &sets[0..];
-    }
-    &sets[0..count]
-}
-
-// How many sets an opening lists.
-pub fn count(s: &[u8]) -> usize {
-    byte(s, 2) as usize
-}
-
-// The sets of an opening, and what stands behind them.
-pub fn sets(s: &[u8]) -> [u64; 130] {
-    let mut sets = [0u64; 130];
-    let mut i = 0;
-    while i < 130 {
-        sets[i] = wide(s, 6 + 8 * i);
-        i += 1;
-    }
-    sets
-}
-
 fn numbers(s: &[u8]) -> [u16; 64] {
     let mut numbers = [0u16; 64];
     let mut i = 0;

@@ -1,7 +1,11 @@
 -- The rules of 28, and tests like them, one after the other as the code asks them.
 use mathlib.Core.Path.{_≡_, refl, sym, ap, _∙_}
 use mathlib.Core.Bool.{Bool, true, false, not, _&&_, _||_}
-use Rattle.drive_sets.specs.Bools.{clash}
+use mathlib.Core.Logic.{⊎-elim}
+use Prim.Native.Nat.{ℕ, _^_, _<_}
+use Rattle.drive_sets.specs.Bools.{clash, same-test, and-intro, and-left, and-right, or-right, or-cases}
+use Rattle.drive_sets.specs.Masks.{has, union, subset}
+use Rattle.drive_sets.specs.Masks.Laws.{has-union, union-lt, subset-has, has-subset, subset-trans, subset-union}
 
 -- where the first test holds, the other two must too: a core drive knows its own number, a KN's mask has the sender and is of the frame
 pub not-asked : (a b c t : Bool) → t ≡ a → not t ≡ true → false ≡ (a && not (b && c))
@@ -18,27 +22,22 @@ third-asked false b c t u v e h f g k = absurd (clash refl (ap not (sym e) ∙ h
 third-asked true false c t u v e h f g k = absurd (clash refl (ap not (sym f) ∙ g))
 third-asked true true c t u v e h f g k = ap not k
 
--- four tests that must all hold
-pub fails-first : (a b c d t : Bool) → t ≡ a → not t ≡ true → false ≡ (a && b && c && d)
-fails-first true b c d t e h = absurd (clash (ap not (sym e) ∙ h) refl)
-fails-first false b c d t e h = refl
+-- a union is inside where both parts are
+union-inside : (a b c : ℕ) → a < 2 ^ 64 → b < 2 ^ 64 → subset (union a b) c ≡ (subset a c && subset b c)
+union-inside a b c p q =
+    same-test (subset (union a b) c) (subset a c && subset b c)
+    (λ e. and-intro (subset-trans 64 a (union a b) c p (subset-union 64 a b p) e)
+    (has-subset 64 b c q (λ d h. subset-has d (union a b) c e (has-union d a b ∙ or-right (has d a) h))))
+    (λ e. has-subset 64 (union a b) c (union-lt 64 a b p q) (λ d h.
+    ⊎-elim (subset-has d a c (and-left (subset a c) (subset b c) e)) (subset-has d b c (and-right (subset a c) (subset b c) e))
+    (or-cases (has d a) (has d b) (sym (has-union d a b) ∙ h))))
 
-pub fails-second : (a b c d t : Bool) → t ≡ b → not t ≡ true → false ≡ (a && b && c && d)
-fails-second false b c d t e h = refl
-fails-second true true c d t e h = absurd (clash (ap not (sym e) ∙ h) refl)
-fails-second true false c d t e h = refl
-
-pub fails-third : (a b c d t : Bool) → t ≡ c → not t ≡ true → false ≡ (a && b && c && d)
-fails-third false b c d t e h = refl
-fails-third true false c d t e h = refl
-fails-third true true true d t e h = absurd (clash (ap not (sym e) ∙ h) refl)
-fails-third true true false d t e h = refl
-
-pub last-left : (a b c d t u v w : Bool) → t ≡ a → not t ≡ false → u ≡ b → not u ≡ false → v ≡ c → not v ≡ false → w ≡ d → w ≡ (a && b && c && d)
-last-left false b c d t u v w e h f g k l m = absurd (clash refl (ap not (sym e) ∙ h))
-last-left true false c d t u v w e h f g k l m = absurd (clash refl (ap not (sym f) ∙ g))
-last-left true true false d t u v w e h f g k l m = absurd (clash refl (ap not (sym k) ∙ l))
-last-left true true true d t u v w e h f g k l m = m
+pub four-inside : (a b c d m : ℕ) → a < 2 ^ 64 → b < 2 ^ 64 → c < 2 ^ 64 → d < 2 ^ 64
+    → subset (union (union (union a b) c) d) m ≡ (subset a m && subset b m && subset c m && subset d m)
+four-inside a b c d m p q r s =
+    union-inside (union (union a b) c) d m (union-lt 64 (union a b) c (union-lt 64 a b p q) r) s
+    ∙ ap (λ (t : Bool). t && subset d m)
+    (union-inside (union a b) c m (union-lt 64 a b p q) r ∙ ap (λ (t : Bool). t && subset c m) (union-inside a b m p q))
 
 -- the state by its rules: frame, core, own number forgotten, drive, round, sets
 abbrev pub rules : Bool → Bool → Bool → Bool → Bool → Bool → Bool

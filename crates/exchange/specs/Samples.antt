@@ -12,7 +12,7 @@ use Rattle.drive_sets.specs.Refusals.{Outcome, refused, result, number, andThen
 use Rattle.hitting_sets.specs.Hitting.{alone, forEach, search, minimals}
 use Rattle.hitting_sets.specs.Order.{byMask, bySize, insert, sort, dropRepeats, holdsAnother, normal}
 use Rattle.records.specs.Fields.{fromBytes, toBytes, written, writtenAt}
-use Rattle.records.specs.Marks.{ascii, markText, mark, bodyWidth, kindOf, isDue, headOf}
+use Rattle.records.specs.Marks.{ascii, markText, mark, bodyWidth, kindOf, isKind, isDue, headOf}
 use Rattle.tables.specs.Tables.{isFrame, isSet, isEmpty, cores, chosen, uncrowded, normalTable}
 use Rattle.exchange.specs.declared.Exchange.{Exchange}
 use Rattle.exchange.specs.declared.Announcement.the-variants.{Absent}
@@ -24,7 +24,7 @@ use Rattle.exchange.specs.Calls.{initial, opening, outgoing, sending, bu
 
 -- all that a call computes with: an `unfolding` line that names this opens it
 unfoldable pub evaluated : Unit {0}
-unfolding onesIn range keep all any smaller smallest has single full union common minus meets subset size drives alone forEach search minimals byMask bySize insert sort dropRepeats holdsAnother normal fromBytes toBytes written writtenAt ascii markText mark bodyWidth kindOf isDue headOf isFrame isSet isEmpty cores chosen uncrowded normalTable isDrive inCore numberOf isDecided broken numberBytes knownBytes decideBytes isKnown fieldAt senderOf roundOf maskOf patternOf entriesFrom entries lengthOf initial opening outgoing sending bufferAfter wrongMask outsideCore anyDiffers differs stored acceptKnown lower acceptDecide accept admitting receivingOf receiving heardAtClose quiet decisionOn quietDecision decide decisionAfter halts next closing
+unfolding onesIn range keep all any smaller smallest has single full union common minus meets subset size drives alone forEach search minimals byMask bySize insert sort dropRepeats holdsAnother normal fromBytes toBytes written writtenAt ascii markText mark bodyWidth kindOf isKind isDue headOf isFrame isSet isEmpty cores chosen uncrowded normalTable isDrive inCore numberOf isDecided broken numberBytes knownBytes decideBytes isKnown fieldAt senderOf roundOf maskOf patternOf entriesFrom entries lengthOf initial opening outgoing sending bufferAfter wrongMask outsideCore anyDiffers differs stored acceptKnown lower acceptDecide accept admitting receivingOf receiving heardAtClose quiet decisionOn quietDecision decide decisionAfter halts next closing
 evaluated = tt
 
 -- the number that a call gives, 0 where it is not refused, and the number that is due

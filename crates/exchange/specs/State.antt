@@ -18,7 +18,7 @@ isDrive n d = leb 1 d && leb d n
 unfoldable pub inCore : Exchange → Bool
 inCore x = has (x .own .0) (x .core)
 
--- the pattern number of a drive; 0 where it is not known
+-- the pattern number held for a drive; it counts where the drive is known
 unfoldable pub numberOf : Exchange → ℕ → ℕ
 numberOf x d = getD (x .numbers) (d - 1) 0
 

@@ -48,7 +48,7 @@ pub struct Exchange {
     pub known: u64,
     // The drives whose pattern numbers were known when the round began: what is sent.
     pub start: u64,
-    // The pattern numbers, drive 1 first; 0 where the number is not known.
+    // The pattern numbers, drive 1 first; one counts where its drive is known.
     pub numbers: [u16; 64],
     // The decision announced in this round.
     pub announced: Announcement,
@@ -76,13 +76,7 @@ pub fn is_drive(n: u8, d: Drive) -> bool
 fn forgets_own(own: Drive, core: u64, known: u64, start: u64) -> bool
     ensures { λ r. ⌜ r ≡ (has (own .0) core && not (has (own .0) known && has (own .0) start)) ⌝ }
 {
-    if !drive_sets::has(own, core) {
-        return false;
-    }
-    if !drive_sets::has(own, known) {
-        return true;
-    }
-    !drive_sets::has(own, start)
+    drive_sets::has(own, core) && !drive_sets::has(own, known & start)
 }
 
 // A round of an exchange whose core this is: 1 to the core's size.
@@ -97,16 +91,7 @@ fn is_round(round: u8, core: u64) -> bool
 fn all_inside(before: u64, heard: u64, known: u64, start: u64, core: u64) -> bool
     ensures { λ r. ⌜ r ≡ (subset before core && subset heard core && subset known core && subset start core) ⌝ }
 {
-    if !drive_sets::subset(before, core) {
-        return false;
-    }
-    if !drive_sets::subset(heard, core) {
-        return false;
-    }
-    if !drive_sets::subset(known, core) {
-        return false;
-    }
-    drive_sets::subset(start, core)
+    drive_sets::subset(before | heard | known | start, core)
 }
 
 // 28: the state breaks a rule.

@@ -2,13 +2,15 @@
 use mathlib.Core.Path.{_≡_, refl, sym, ap, _∙_}
 use mathlib.Core.Bool.{true, false}
 use mathlib.Core.List.{List, _++_}
-use Prim.Native.Nat.{ℕ, _-_, _<_}
+use Prim.Native.Nat.{ℕ, _-_, _≤_, _<_}
 use native.Mathlib.Nat.{sub-zero}
 use native.Mathlib.Omega.{arith}
 use lib.ListN.{length, take, drop, length-take}
 use lib.Seq.{take-all}
+use borrow.Author.Tests.{lt-ltb, le-ltb}
 use Rattle.drive_sets.specs.Bools.{cond-true, cond-false}
 use Rattle.drive_sets.specs.declared.Refusal.{Refusal}
+use Rattle.drive_sets.specs.declared.Refusal.the-variants.{NoRoom}
 use Rattle.drive_sets.specs.Refusals.{Outcome, refused, result, andThen}
 use Rattle.records.specs.Fields.{fromBytes}
 use Rattle.tables.specs.declared.completing.CoreTable.{CoreTable}
@@ -25,7 +27,7 @@ use Rattle.verdicts.specs.declared.calls.Judgement.{Judgement}
 use Rattle.verdicts.specs.declared.Verdict.{Verdict as Held}
 use Rattle.verdicts.specs.Held.{verdictOf, judgementOf}
 use Rattle.verdicts.specs.Verdicts.{Verdict, verdict}
-use Rattle.exports.specs.Codes.{codeOf, countOf, listAfter, setsRead, verdictCode}
+use Rattle.exports.specs.Codes.{codeOf, countOf, fitting, listAfter, setsRead, verdictCode}
 
 -- ---- the first of a list
 
@@ -37,20 +39,33 @@ some-first s count = ap (λ (k : ℕ). take k s) (sub-zero count)
 
 -- ---- lists of sets
 
-pub list-put : (old new part first : List ℕ) → part ≡ first → new ≡ take (length old) part ++ drop (length part) old
-    → (length part ≡ length first) × (new ≡ listAfter old (result first))
-unfolding listAfter
-list-put old new part first e f =
-    (ap length e, f ∙ ap (λ (l : List ℕ). take (length old) l ++ drop (length l) old) e)
+-- a number and a lent list say an outcome
+abbrev pub Told : List ℕ → Outcome (List ℕ) → ℕ → List ℕ → Type 0
+Told old o r new = (r ≡ codeOf (countOf (fitting old o))) × (new ≡ listAfter old (fitting old o))
 
--- a number and a list that fit an outcome
-pub told : (o p : Outcome (List ℕ)) → o ≡ p → (r : ℕ) (old new : List ℕ) → r ≡ codeOf (countOf o) → new ≡ listAfter old o
-    → (r ≡ codeOf (countOf p)) × (new ≡ listAfter old p)
-told o p e r old new f g = (f ∙ ap (λ (q : Outcome (List ℕ)). codeOf (countOf q)) e, g ∙ ap (listAfter old) e)
+module _ (old part first : List ℕ) (e : part ≡ first) where
+  pub list-full : length old < length part → (r : ℕ) → r ≡ codeOf (refused NoRoom) → Told old (result first) r old
+  unfolding fitting listAfter
+  list-full h r f =
+      let none : refused NoRoom ≡ fitting old (result first) = sym (cond-true _ _ (lt-ltb (length old) (length first) (omega (arith, h, ap length e)))) in
+      (f ∙ ap (λ (q : Outcome (List ℕ)). codeOf (countOf q)) none, ap (listAfter old) none)
+
+  pub list-put : length part ≤ length old → (new : List ℕ) → new ≡ take (length old) part ++ drop (length part) old → Told old (result first) (length part) new
+  unfolding fitting listAfter
+  list-put h new f =
+      let all : result part ≡ fitting old (result first) =
+      ap (λ (l : List ℕ). result l) e ∙ sym (cond-false _ _ (le-ltb (length old) (length first) (omega (arith, h, ap length e)))) in (
+        ap (λ (q : Outcome (List ℕ)). codeOf (countOf q)) all,
+        f ∙ (ap (λ (l : List ℕ). l ++ drop (length part) old) (take-all (length old) part h) ∙ ap (listAfter old) all),
+      )
+
+pub told : (o p : Outcome (List ℕ)) → o ≡ p → (r : ℕ) (old new : List ℕ) → r ≡ codeOf (countOf (fitting old o)) → new ≡ listAfter old (fitting old o) → Told old p r new
+told o p e r old new f g =
+    (f ∙ ap (λ (q : Outcome (List ℕ)). codeOf (countOf (fitting old q))) e, g ∙ ap (λ (q : Outcome (List ℕ)). listAfter old (fitting old q)) e)
 
 module _ (q : Refusal) (p : Outcome (List ℕ)) (e : refused q ≡ p) (r : ℕ) (old : List ℕ) (f : r ≡ codeOf (refused q)) where
-  pub told-refused : (r ≡ codeOf (countOf p)) × (old ≡ listAfter old p)
-  unfolding listAfter
+  pub told-refused : Told old p r old
+  unfolding fitting listAfter
   told-refused = told (refused q) p e r old old f refl
 
 module _ (n : ℕ) (sets : List ℕ) (t : CoreTable) (e : completeOutcome t ≡ completeTable n sets) where

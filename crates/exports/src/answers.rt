@@ -3,7 +3,7 @@ ghost use mathlib.Core.Path.{_≡_};
 ghost use lib.ListN.{length, take};
 ghost use Rattle.drive_sets.specs.Refusals.{refused, result};
 ghost use Rattle.verdicts.specs.Held.{verdictOf};
-ghost use Rattle.exports.specs.Codes.{codeOf, listAfter, verdictCode};
+ghost use Rattle.exports.specs.Codes.{codeOf, countOf, fitting, listAfter, verdictCode};
 use drive_sets::Refusal;
 use verdicts::Verdict;
 
@@ -26,12 +26,15 @@ fn first_sets(sets: &[u64], count: usize) -> &[u64]
     &sets[0..count]
 }
 
-// The first sets, so many or all there are, over the first places of out; how many they are.
+// The first sets, so many or all there are, over the first places of out; how many they are. 14 where there are too few places.
 pub fn put_list(sets: &[u64], count: usize, out: &mut [u64]) -> u64
-    ensures { λ r. ⌜ r ≡ length (take count (now (sets .entry))) ⌝ }
-    ensures { λ _. ⌜ now (out .exit) ≡ listAfter (now (out .entry)) (result (take count (now (sets .entry)))) ⌝ }
+    ensures { λ r. ⌜ r ≡ codeOf (countOf (fitting (now (out .entry)) (result (take count (now (sets .entry)))))) ⌝ }
+    ensures { λ _. ⌜ now (out .exit) ≡ listAfter (now (out .entry)) (fitting (now (out .entry)) (result (take count (now (sets .entry))))) ⌝ }
 {
     let part = first_sets(sets, count);
+    if out.len() < part.len() {
+        return refusal_code(Refusal::NoRoom);
+    }
     hitting_sets::slices::copy(part, out);
     part.len() as u64
 }

@@ -1,5 +1,6 @@
-// The library for programs in Rust or C: numbers and slices in, one number out. A slice passes as a pointer and a length. A refusal is its
-// number above 2 ^ 32.
+// Calls of the library for programs in Rust or C: numbers and slices in, one number out. A slice passes as a pointer and a length. A refusal is
+// its number above 2 ^ 32. A state cannot pass so: `regdulyn_deliver`, `regdulyn_send` and `regdulyn_close` open an exchange, make a row of calls
+// on it and count those that are accepted, for timing.
 ghost use mathlib.Core.Path.{_≡_};
 ghost use Rattle.drive_sets.specs.Refusals.{andThen};
 ghost use Rattle.tables.specs.Tables.{coreList};
@@ -8,7 +9,7 @@ ghost use Rattle.tables.specs.Answers.{writeSize, bufferAfter};
 ghost use Rattle.verdicts.specs.Verdicts.{verdict};
 ghost use Rattle.listings.specs.RunListing.{runProgram};
 ghost use Rattle.listings.specs.Printing.{printedSize, printedBytes};
-ghost use Rattle.exports.specs.Codes.{codeOf, countOf, listAfter, setsRead, verdictCode};
+ghost use Rattle.exports.specs.Codes.{codeOf, countOf, fitting, listAfter, setsRead, verdictCode};
 ghost use Rattle.exports.specs.Deliveries.{delivered, closed, sent, sentBytes};
 use drive_sets::Drive;
 use drive_sets::Pattern;
@@ -18,11 +19,11 @@ use tables::writing::Writing;
 mod answers;
 mod deliveries;
 
-// The cores of a table of n drives and some sets into the first places of out, as many as there is room for; how many there are.
+// The cores of a table of n drives and some sets into the first places of out; how many there are. 14 comes last.
 #[no_mangle]
 pub extern "C" fn regdulyn_cores(n: u8, sets: &[u64], out: &mut [u64]) -> u64
-    ensures { λ r. ⌜ r ≡ codeOf (countOf (coreList n (now (sets .entry)))) ⌝ }
-    ensures { λ _. ⌜ now (out .exit) ≡ listAfter (now (out .entry)) (coreList n (now (sets .entry))) ⌝ }
+    ensures { λ r. ⌜ r ≡ codeOf (countOf (fitting (now (out .entry)) (coreList n (now (sets .entry))))) ⌝ }
+    ensures { λ _. ⌜ now (out .exit) ≡ listAfter (now (out .entry)) (fitting (now (out .entry)) (coreList n (now (sets .entry)))) ⌝ }
 {
     let t = tables::completing::accept(n, sets);
     let answer = t.answer;
@@ -34,11 +35,11 @@ pub extern "C" fn regdulyn_cores(n: u8, sets: &[u64], out: &mut [u64]) -> u64
     }
 }
 
-// The sets of the normal table in some bytes into the first places of out, as many as there is room for; how many there are.
+// The sets of the normal table in some bytes into the first places of out; how many there are. 14 comes last.
 #[no_mangle]
 pub extern "C" fn regdulyn_read_table(s: &[u8], out: &mut [u64]) -> u64
-    ensures { λ r. ⌜ r ≡ codeOf (countOf (setsRead (now (s .entry)))) ⌝ }
-    ensures { λ _. ⌜ now (out .exit) ≡ listAfter (now (out .entry)) (setsRead (now (s .entry))) ⌝ }
+    ensures { λ r. ⌜ r ≡ codeOf (countOf (fitting (now (out .entry)) (setsRead (now (s .entry))))) ⌝ }
+    ensures { λ _. ⌜ now (out .exit) ≡ listAfter (now (out .entry)) (fitting (now (out .entry)) (setsRead (now (s .entry)))) ⌝ }
 {
     let file = tables::files::read_whole(s);
     let complete = file.complete;

@@ -6,8 +6,8 @@ use Prim.Native.Nat.{ℕ, _-_, _≤_, _<_}
 use native.Mathlib.Nat.{sub-zero}
 use native.Mathlib.Omega.{arith}
 use lib.Dec.{leb}
-use borrow.Author.Tests.{leb-true}
-use Rattle.drive_sets.specs.Bools.{and-left}
+use borrow.Author.Tests.{leb-true, leb-false}
+use Rattle.drive_sets.specs.Bools.{by-test, and-left}
 use lib.ListN.{length, take, drop}
 use lib.Seq.{take-at, length-take-le}
 use Rattle.drive_sets.specs.Filled.{Filled}
@@ -16,23 +16,30 @@ use Rattle.hitting_sets.specs.Found.{Found}
 use Rattle.hitting_sets.specs.Order.{sort, sortFirst, Rearranged}
 use Rattle.hitting_sets.specs.Order.Places.{rearranged-elem}
 use Rattle.hitting_sets.specs.Order.Strict.{Strict}
-use Rattle.hitting_sets.specs.Order.Sort.{length-sort, sort-same, sortFirst-fits}
-use Rattle.drive_sets.specs.Lists.{elem}
+use Rattle.hitting_sets.specs.Order.Sort.{length-sort, times-sort, sort-same, sortFirst-fits, sortFirst-over}
+use Rattle.drive_sets.specs.Lists.{elem, times}
 use Rattle.hitting_sets.specs.Hitting.Laws.{Below}
 use Rattle.hitting_sets.specs.Hitting.Found.{minimals-same-elements}
 use Rattle.hitting_sets.specs.Hitting.Distinct.{minimals-distinct}
 
 module _ (before : ℕ → ℕ → Bool) (sets out mid : List ℕ) (r : ℕ) (same : length mid ≡ length out) (f : Filled out mid 0 r (minimals sets)) where
   pub found-more : length mid < r → Found before sets out mid r
-  found-more h = record { total = omega (arith, f .total); listed = λ p q. absurd (omega arith) }
+  found-more h = record { total = omega (arith, f .total); held = λ p x. absurd (omega arith); listed = λ p q. absurd (omega arith) }
 
-  pub found-sorted : (new : List ℕ) → r ≤ length mid → new ≡ sortFirst before r mid → Found before sets out new r
-  found-sorted new h e = record {
-    total = omega (arith, f .total);
-    listed = λ p q.
-        ap (take r) (e ∙ sortFirst-fits before r mid (omega arith) h)
-        ∙ (take-at (sort before (take r mid)) (drop r mid) r (length-sort before (take r mid) ∙ length-take-le r mid h) ∙ ap (sort before) (f .kept p));
-  }
+  module _ (new : List ℕ) (h : r ≤ length mid) (e : new ≡ sortFirst before r mid) where
+    sorted : r ≤ 1024 → take r new ≡ sort before (minimals sets)
+    sorted q =
+        ap (take r) (e ∙ sortFirst-fits before r mid q h)
+        ∙ (take-at (sort before (take r mid)) (drop r mid) r (length-sort before (take r mid) ∙ length-take-le r mid h) ∙ ap (sort before) (f .kept (omega arith)))
+
+    rearranged : (x : ℕ) → times x (take r new) ≡ times x (minimals sets)
+    rearranged x =
+        by-test (leb r 1024)
+        (λ t. ap (times x) (sorted (leb-true r 1024 t)) ∙ times-sort before x (minimals sets))
+        (λ t. ap (λ (l : List ℕ). times x (take r l)) (e ∙ sortFirst-over before r mid (leb-false r 1024 t)) ∙ ap (times x) (f .kept (omega arith)))
+
+    pub found-sorted : Found before sets out new r
+    found-sorted = record { total = omega (arith, f .total); held = λ p x. rearranged x; listed = λ p q. sorted q }
 
 -- what is found among the same sets in another order
 module _ (before : ℕ → ℕ → Bool) (strict : Strict before) (sets other : List ℕ) (below : Below 64 sets) (same : (x : ℕ) → elem x other ≡ elem x sets) where
@@ -47,8 +54,15 @@ module _ (before : ℕ → ℕ → Bool) (strict : Strict before) (sets other : 
   same-count : length (minimals other) ≡ length (minimals sets)
   same-count = sym (length-sort before (minimals other)) ∙ (ap length same-list ∙ length-sort before (minimals sets))
 
+  same-times : (x : ℕ) → times x (minimals other) ≡ times x (minimals sets)
+  same-times x = sym (times-sort before x (minimals other)) ∙ (ap (times x) same-list ∙ times-sort before x (minimals sets))
+
   pub found-among : {out new : List ℕ} {r : ℕ} → Found before other out new r → Found before sets out new r
-  found-among f = record { total = omega (arith, f .total, same-count); listed = λ p q. f .listed p q ∙ same-list }
+  found-among f = record {
+    total = omega (arith, f .total, same-count);
+    held = λ p x. f .held p x ∙ same-times x;
+    listed = λ p q. f .listed p q ∙ same-list;
+  }
 
 -- the sets in level order, as a part from the start on
 module _ (sets old new : List ℕ) (done : Bool) (r : Rearranged sets old new done) (h : done ≡ true) where

@@ -22,7 +22,8 @@ use Rattle.hitting_sets.specs.Hitting.Found.{minimals-minimal, minimal-f
 use Rattle.hitting_sets.specs.Hitting.Distinct.{minimals-distinct}
 use Rattle.hitting_sets.specs.Order.{byMask, sort}
 use Rattle.hitting_sets.specs.Order.Strict.{byMask-strict}
-use Rattle.hitting_sets.specs.Order.Sort.{elem-sort, sort-unique}
+use Rattle.hitting_sets.specs.Order.Sort.{sort-unique}
+use Rattle.hitting_sets.specs.Order.Minimals.{listed-minimal, minimal-listed}
 use Rattle.hitting_sets.specs.Order.Normal.{Antichain}
 
 -- `cores` lists the cores of `sets`, a family of sets of the drives 1 to n
@@ -110,8 +111,8 @@ module _ (n : ℕ) (sets : List ℕ) (frame : n ≤ 64) (within : Below n sets) 
       record {
         frame = frame;
         within = within;
-        minimal = λ c e. minimals-minimal sets c (below-64 sets within) (sym (elem-sort before c (minimals sets)) ∙ e);
-        listed = λ c min. elem-sort before c (minimals sets) ∙ minimal-found sets c (below-64 sets within) min;
+        minimal = listed-minimal before sets (below-64 sets within);
+        listed = minimal-listed before sets (below-64 sets within);
       }
 
   -- Back of a normal table's cores, in any order, is the table

@@ -7,8 +7,8 @@ use crate::sorting;
 use crate::sorting::Order;
 
 // The minimal hitting sets of the sets in the first places of out, as many as the result says; one more than the room says that there
-// are more. Out behind them, and all of it where there are more, is left free. The search goes through the sets in level order, which
-// changes nothing but its time.
+// are more. More than 1024 stand in no order. Out behind them, and all of it where there are more than the room, is left free. The search
+// goes through the sets in level order, which changes nothing but its time.
 pub fn find(order: Order, sets: &[u64], out: &mut [u64]) -> usize
     ensures { λ r. ⌜ Found (precedes order) (now (sets .entry)) (now (out .entry)) (now (out .exit)) r ⌝ }
 {

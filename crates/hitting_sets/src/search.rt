@@ -186,7 +186,7 @@ fn search_from(sets: &[u64], pos: usize, m: u64, out: &mut [u64], count: usize) 
 
 // The minimal hitting sets of the sets, each once, in the search's order: into `out`, as long as there is room, and their number; one
 // more than the room says that there are more.
-pub fn minimal_hitting_sets(sets: &[u64], out: &mut [u64]) -> usize
+pub(crate) fn minimal_hitting_sets(sets: &[u64], out: &mut [u64]) -> usize
     ensures { λ r. ⌜ Filled (now (out .entry)) (now (out .exit)) 0 r (minimals (now (sets .entry))) ⌝ }
 {
     search_from(sets, 0, 0, out, 0)

@@ -1,5 +1,4 @@
 -- The text of the table program, from what the complete reader gives.
-use mathlib.Core.Bool.{Bool, true, false, not}
 use mathlib.Core.Path.{_≡_, refl, sym, ap, _∙_, subst}
 use mathlib.Core.List.{List, [], _∷_}
 use Prim.Native.Nat.{ℕ, _-_, _≤_, min}
@@ -9,15 +8,14 @@ use lib.ListN.{length, take, drop, length-take}
 use lib.Seq.{take-all}
 use borrow.Author.Tests.{leb-true, leb-false}
 use Rattle.drive_sets.specs.Bools.{by-test}
-use Rattle.drive_sets.specs.Refusals.{Outcome, refused, result, refuseIf, andThen, number}
-use Rattle.drive_sets.specs.Refusals.Laws.{first-result, passed, same-result}
+use Rattle.drive_sets.specs.Refusals.{Outcome, refused, result, andThen, number}
+use Rattle.drive_sets.specs.Refusals.Laws.{first-result, same-result}
 use Rattle.drive_sets.specs.declared.Refusal.{Refusal}
 use Rattle.records.specs.Marks.{ascii}
 use Rattle.listings.specs.Text.{inBase, decimal}
-use Rattle.drive_sets.specs.declared.Refusal.the-variants.{TrailingBytes}
-use Rattle.tables.specs.Tables.{isEmpty, cores, uncrowded}
-use Rattle.tables.specs.Files.{ReadTable, readListed, accepted, readWhole}
-use Rattle.tables.specs.Complete.{Complete, ReadComplete, withCores, completeSets, completeOutcome, acceptedWith, readWholeComplete, fileOutcome}
+use Rattle.tables.specs.Tables.{cores}
+use Rattle.tables.specs.Files.{ReadTable, readWhole}
+use Rattle.tables.specs.Complete.{Complete, ReadComplete, withCores, completeOutcome, readWithCores, readWholeComplete, fileOutcome}
 use Rattle.tables.specs.Reading.{setsOf, outcomeOf}
 use Rattle.tables.specs.declared.completing.CoreTable.{CoreTable}
 use Rattle.tables.specs.declared.files.TableFile.{TableFile}
@@ -29,39 +27,19 @@ use Rattle.listings.specs.TableListing.{fields, line, refusalLine, listi
 abbrev pub bare : ReadComplete → Outcome ReadTable
 bare t = result (record { n = t .table .n; sets = t .table .sets; rest = t .rest })
 
-pub bare-accepted : (t : ReadTable) → andThen (acceptedWith t) bare ≡ accepted t
-unfolding acceptedWith completeSets withCores accepted
-bare-accepted t = go (uncrowded (t .sets))
-  where
-    go : (o : Outcome (List ℕ))
-        → andThen (andThen (andThen o (λ table. result (withCores (t .n) table))) (λ table. result (record { table = table; rest = t .rest }))) bare
-        ≡ andThen o (λ table. result (record { n = t .n; sets = table; rest = t .rest }))
-    go (refused r) = refl
-    go (result table) = refl
-
--- the two whole readers read the same
-pub bare-whole : (s : List ℕ) → andThen (readWholeComplete s) bare ≡ readWhole s
-unfolding readWholeComplete readWhole
-bare-whole s = go (readListed s)
-  where
-    test : (b : Bool) (t : ReadTable) → andThen (refuseIf b TrailingBytes (acceptedWith t)) bare ≡ refuseIf b TrailingBytes (accepted t)
-    test true t = refl
-    test false t = bare-accepted t
-
-    go : (o : Outcome ReadTable)
-        → andThen (andThen o (λ t. refuseIf (not (isEmpty (t .rest))) TrailingBytes (acceptedWith t))) bare
-        ≡ andThen o (λ t. refuseIf (not (isEmpty (t .rest))) TrailingBytes (accepted t))
-    go (refused r) = refl
-    go (result t) = test (not (isEmpty (t .rest))) t
+pub bare-read : (o : Outcome ReadTable) → andThen (andThen o readWithCores) bare ≡ o
+unfolding readWithCores withCores
+bare-read (refused r) = refl
+bare-read (result t) = refl
 
 -- the text of a refusal, and of a table
 pub program-refused : (s : List ℕ) (r : Refusal) → readWholeComplete s ≡ refused r → tableProgram s ≡ refusalLine (number r)
-unfolding tableProgram
-program-refused s r e = ap listingOf (sym (bare-whole s) ∙ ap (λ (o : Outcome ReadComplete). andThen o bare) e)
+unfolding tableProgram readWholeComplete
+program-refused s r e = ap listingOf (sym (bare-read (readWhole s)) ∙ ap (λ (o : Outcome ReadComplete). andThen o bare) e)
 
 pub program-accepted : (s : List ℕ) (t : ReadComplete) → readWholeComplete s ≡ result t → tableProgram s ≡ listing (t .table .n) (t .table .sets)
-unfolding tableProgram
-program-accepted s t e = ap listingOf (sym (bare-whole s) ∙ ap (λ (o : Outcome ReadComplete). andThen o bare) e)
+unfolding tableProgram readWholeComplete
+program-accepted s t e = ap listingOf (sym (bare-read (readWhole s)) ∙ ap (λ (o : Outcome ReadComplete). andThen o bare) e)
 
 -- the line of a refusal, with its number
 pub refused-line : (r : Refusal) (k : ℕ) → k ≡ number r → refusalLine (number r) ≡ line (ascii "refused") (fields (inBase 10 20) (k ∷ []))
@@ -69,25 +47,14 @@ unfolding refusalLine decimal
 refused-line r k e = ap (λ (j : ℕ). line (ascii "refused") (fields (inBase 10 20) (j ∷ []))) (sym e)
 
 -- the cores that were read with a table are its cores
-pub accepted-cores : (u : ReadTable) (t : ReadComplete) → acceptedWith u ≡ result t → t .table .cores ≡ cores (t .table .sets)
-unfolding acceptedWith completeSets withCores
-accepted-cores u t e =
-    let made = first-result (completeSets (u .n) (u .sets)) (λ table. result (record { table = table; rest = u .rest })) e in
-    let whole = first-result (uncrowded (u .sets)) (λ table. result (withCores (u .n) table)) (made .1) in
-    let same : record { table = withCores (u .n) (whole .0); rest = u .rest } ≡ t = ap (λ (c : Complete). record { table = c; rest = u .rest }) (same-result (whole .2)) ∙ same-result (made .2) in
-    subst (λ (x : ReadComplete). x .table .cores ≡ cores (x .table .sets)) same refl
-
-pub program-cores : (s : List ℕ) (t : ReadComplete) → readWholeComplete s ≡ result t → t .table .cores ≡ cores (t .table .sets)
-unfolding readWholeComplete
-program-cores s t e =
-    let listed = first-result (readListed s) (λ u. refuseIf (not (isEmpty (u .rest))) TrailingBytes (acceptedWith u)) e in
-    let u = listed .0 in
-    accepted-cores u t (passed (not (isEmpty (u .rest))) TrailingBytes (acceptedWith u) (listed .2) .1)
+pub read-cores : (o : Outcome ReadTable) (t : ReadComplete) → andThen o readWithCores ≡ result t → t .table .cores ≡ cores (t .table .sets)
+unfolding readWithCores withCores
+read-cores o t e = subst (λ (x : ReadComplete). x .table .cores ≡ cores (x .table .sets)) (same-result (first-result o readWithCores e .2)) refl
 
 -- ---- the answer of the reader
 
 -- the first k of a list that is as long as there is room
-taken-most : (l : List ℕ) (k most j : ℕ) → length l ≡ most → j ≡ min k most → take (j - 0) l ≡ take k l
+pub taken-most : (l : List ℕ) (k most j : ℕ) → length l ≡ most → j ≡ min k most → take (j - 0) l ≡ take k l
 taken-most l k most j e f =
     by-test (leb k most)
     (λ h. let few = leb-true k most h in let same : j - 0 ≡ k = omega arith in ap (λ (i : ℕ). take i l) same)
@@ -138,4 +105,5 @@ module _ (file : TableFile) (s : List ℕ) (e : fileOutcome file s ≡ readWhole
   file-listing f = program-accepted s _ (read-accepted file s _ e f)
 
   pub file-cores : file .complete .answer ≡ answers.Accepted → take (file .complete .found) (file .complete .cores) ≡ cores (setsOf (file .complete .table))
-  file-cores f = program-cores s _ (read-accepted file s _ e f)
+  unfolding readWholeComplete
+  file-cores f = read-cores (readWhole s) _ (read-accepted file s _ e f)

@@ -8,7 +8,6 @@ use Rattle.drive_sets.specs.Lists.Places.{length-range}
 use Rattle.drive_sets.specs.Refusals.{Outcome, refused, result, number}
 use Rattle.drive_sets.specs.Refusals.Laws.{first-result}
 use Rattle.records.specs.Marks.{ascii}
-use Rattle.tables.specs.Tables.{chosen}
 use Rattle.tables.specs.Files.{readTable}
 use Rattle.tables.specs.Files.Laws.{table-read}
 use Rattle.runs.specs.Scenario.{Scenario, frame}
@@ -73,7 +72,7 @@ run-program-length input = go (simulatedFile input) refl
     go (result r) e =
         let table = first-result (readTable input) _ e in
         let t = table .0 in
-        let file = first-result (readRunFile (t .n) (chosen (t .sets)) (t .sets) (t .rest)) _ (table .2) in
+        let file = first-result (readRunFile (t .n) (t .sets) (t .rest)) _ (table .2) in
         let f = file .0 in
         let given = simulated-gives (t .n) (t .sets) (f .numbers) (f .crashes) (file .2) in
         let many = ap length (ap (λ (x : Simulated). x .endings) given) ∙ endings-count (scenario (t .n) (t .sets) (f .numbers) (f .crashes)) in

@@ -1,17 +1,14 @@
 -- The text of the run program, from what the readers and the simulated exchange give.
-use mathlib.Core.Path.{_≡_, refl, sym, ap, ap₂, _∙_}
+use mathlib.Core.Path.{_≡_, sym, ap, _∙_}
 use mathlib.Core.List.{List, _++_}
 use Prim.Native.Nat.{ℕ, _≤_}
-use lib.ListN.{getD, take, drop}
+use lib.ListN.{take, drop}
 use Rattle.drive_sets.specs.Lists.{range}
-use Rattle.drive_sets.specs.Masks.{has}
-use Rattle.drive_sets.specs.Refusals.{Outcome, refused, result, andThen, number}
-use Rattle.drive_sets.specs.Refusals.Laws.{first-result}
+use Rattle.drive_sets.specs.Refusals.{Outcome, andThen, number}
 use Rattle.drive_sets.specs.declared.Refusal.{Refusal}
-use Rattle.tables.specs.Tables.{cores, chosen}
-use Rattle.tables.specs.Files.{ReadTable, readListed, accepted, readTable}
+use Rattle.tables.specs.Files.{ReadTable, readTable}
 use Rattle.tables.specs.Files.Laws.{table-read}
-use Rattle.tables.specs.Complete.{ReadComplete, acceptedWith, readComplete, fileOutcome}
+use Rattle.tables.specs.Complete.{ReadComplete, readComplete, fileOutcome}
 use Rattle.tables.specs.Reading.{setsOf, outcomeOf}
 use Rattle.tables.specs.declared.files.TableFile.{TableFile}
 use Rattle.tables.specs.declared.reading.Answer.{Answer}
@@ -25,56 +22,45 @@ use Rattle.simulation.specs.declared.simulating.Simulated as simulations
 use Rattle.listings.specs.TableListing.{refusalLine}
 use Rattle.listings.specs.RunListing.{coreLine, runText, simulatedWith, simulatedFile, runProgram}
 use Rattle.listings.specs.RunParts.{endingFor, endingAt, driveLines}
-use Rattle.listings.proofs.ProgramTexts.{bare, bare-accepted, accepted-cores, table, read-refused, read-accepted}
+use Rattle.listings.proofs.ProgramTexts.{bare, bare-read, read-refused, read-accepted}
 use Rattle.listings.proofs.RunTexts.{drives-endings}
 
 -- ---- the table
 
-bare-table : (s : List ℕ) → andThen (readComplete s) bare ≡ readTable s
-unfolding readComplete readTable
-bare-table s = go (readListed s)
-  where
-    go : (o : Outcome ReadTable) → andThen (andThen o acceptedWith) bare ≡ andThen o accepted
-    go (refused r) = refl
-    go (result t) = bare-accepted t
-
 module _ (file : TableFile) (s : List ℕ) (e : fileOutcome file s ≡ readComplete s) where
   pub run-refused : (q : Refusal) → file .complete .answer ≡ answers.Refused q → runProgram s ≡ refusalLine (number q)
-  unfolding runProgram simulatedFile
+  unfolding runProgram simulatedFile readComplete
   run-refused q f =
-      ap (λ (o : Outcome ReadTable). runText (andThen o (λ t. simulatedWith (t .n) (chosen (t .sets)) (t .sets) (t .rest))))
-      (sym (bare-table s) ∙ ap (λ (o : Outcome ReadComplete). andThen o bare) (read-refused file s _ e q f))
+      ap (λ (o : Outcome ReadTable). runText (andThen o (λ t. simulatedWith (t .n) (t .sets) (t .rest))))
+      (sym (bare-read (readTable s)) ∙ ap (λ (o : Outcome ReadComplete). andThen o bare) (read-refused file s _ e q f))
 
   -- what an accepted table gives the run file
   pub record Tabled : Type 0 where
     pub high : file .complete .table .n ≤ 64
-    pub groups : take (file .complete .found) (file .complete .cores) ≡ cores (setsOf (file .complete .table))
-    pub text : runProgram s ≡ runText (simulatedWith (file .complete .table .n) (chosen (setsOf (file .complete .table))) (setsOf (file .complete .table)) (drop (file .used) s))
+    pub text : runProgram s ≡ runText (simulatedWith (file .complete .table .n) (setsOf (file .complete .table)) (drop (file .used) s))
 
   pub run-accepted : file .complete .answer ≡ answers.Accepted → Tabled
   unfolding runProgram simulatedFile readComplete
   run-accepted f =
       let whole = read-accepted file s _ e f in
-      let is = sym (bare-table s) ∙ ap (λ (o : Outcome ReadComplete). andThen o bare) whole in
-      let listed = first-result (readListed s) acceptedWith whole in
+      let is = sym (bare-read (readTable s)) ∙ ap (λ (o : Outcome ReadComplete). andThen o bare) whole in
       record {
         high = table-read s _ is .1 .high;
-        groups = accepted-cores (listed .0) _ (listed .2);
-        text = ap (λ (o : Outcome ReadTable). runText (andThen o (λ t. simulatedWith (t .n) (chosen (t .sets)) (t .sets) (t .rest)))) is;
+        text = ap (λ (o : Outcome ReadTable). runText (andThen o (λ t. simulatedWith (t .n) (t .sets) (t .rest)))) is;
       }
 
 -- ---- the run file
 
-module _ (n core : ℕ) (sets rest : List ℕ) (file : files.RunFile) (e : runFileOutcome n file ≡ readRunFile n core sets rest) where
+module _ (n : ℕ) (sets rest : List ℕ) (file : files.RunFile) (e : runFileOutcome n file ≡ readRunFile n sets rest) where
   abbrev said : RunFile
   said = record { numbers = take n (file .numbers); crashes = crashesIn (file .crashes) }
 
-  pub run-file-refused : (q : Refusal) → file .answer ≡ answers.Refused q → runText (simulatedWith n core sets rest) ≡ refusalLine (number q)
+  pub run-file-refused : (q : Refusal) → file .answer ≡ answers.Refused q → runText (simulatedWith n sets rest) ≡ refusalLine (number q)
   unfolding runFileOutcome simulatedWith
   run-file-refused q f =
       ap (λ (o : Outcome RunFile). runText (andThen o (λ r. simulated n sets (r .numbers) (r .crashes)))) (sym e ∙ ap (λ (a : Answer). outcomeOf a said) f)
 
-  pub run-file-accepted : file .answer ≡ answers.Accepted → runText (simulatedWith n core sets rest) ≡ runText (simulated n sets (take n (file .numbers)) (crashesIn (file .crashes)))
+  pub run-file-accepted : file .answer ≡ answers.Accepted → runText (simulatedWith n sets rest) ≡ runText (simulated n sets (take n (file .numbers)) (crashesIn (file .crashes)))
   unfolding runFileOutcome simulatedWith
   run-file-accepted f =
       ap (λ (o : Outcome RunFile). runText (andThen o (λ r. simulated n sets (r .numbers) (r .crashes)))) (sym e ∙ ap (λ (a : Answer). outcomeOf a said) f)
@@ -95,11 +81,3 @@ module _ (n : ℕ) (r : simulations.Simulated) where
   simulated-text f =
       ap (λ (a : Answer). runText (outcomeOf a given)) f
       ∙ ap (λ (l : List ℕ). l ++ coreLine (r .core) (r .stops)) (sym (drives-endings (endingAt (r .crashed) (r .found .rounds) (r .found .numbers)) 1 n))
-
--- the sets and the core as the code has them
-pub behind-text : (n : ℕ) (sets held groups : List ℕ) (core : ℕ) (rest : List ℕ) → held ≡ sets → groups ≡ cores held → core ≡ getD groups 0 0
-    → runText (simulatedWith n (chosen sets) sets rest) ≡ runText (simulatedWith n core held rest)
-unfolding chosen
-behind-text n sets held groups core rest same are first =
-    ap₂ (λ (c : ℕ) (l : List ℕ). runText (simulatedWith n c l rest))
-    (ap (λ (l : List ℕ). getD (cores l) 0 0) (sym same) ∙ (ap (λ (l : List ℕ). getD l 0 0) (sym are) ∙ sym first)) (sym same)

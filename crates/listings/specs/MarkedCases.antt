@@ -7,6 +7,7 @@ use Rattle.drive_sets.specs.Lists.{elem, firstSome}
 use Rattle.drive_sets.specs.Masks.{outside, ofDrives}
 use Rattle.hitting_sets.specs.Hitting.{hits}
 use Rattle.records.specs.Marks.{ascii}
+use Rattle.tables.specs.Tables.{chosenCore}
 use Rattle.tables.specs.Files.{dueAfter, atEnd, readSets, readListed, accepted, readTable, readWhole}
 use Rattle.verdicts.specs.Verdicts.{firstWith, disjoint, blocksOf, verdictOn}
 use Rattle.exchange.specs.Samples.{evaluated}
@@ -16,7 +17,7 @@ use Rattle.runs.specs.CrashRecords.{crashed, isNext, isRound, mostSends, checke
 use Rattle.runs.specs.Statement.{coreCrashes}
 use Rattle.runs.specs.Simulated.{endingAfter, endingFrom, endingOf, endings}
 use Rattle.run_files.specs.RunFiles as runFiles
-use Rattle.run_files.specs.RunFiles.{readProposals, crashAt, readCrashes, untouchedLeft, readRest, readRunFile}
+use Rattle.run_files.specs.RunFiles.{readProposals, crashAt, readCrashes, untouchedLeft, readRest, readBehind, readRunFile}
 use Rattle.simulation.specs.Simulation.{checkedCrashes, simulated}
 use Rattle.listings.specs.Text.{digit, inBase, decimal, hexadecimal}
 use Rattle.listings.specs.TableListing.{fields, line, lines, verdictLine, refusalLine, listing, tableProgram}
@@ -116,5 +117,5 @@ marked =
     ∷ []
 
 pub marked-cases : AllGiven marked
-unfolding marked sv fileA fileC fileH fileI prs cr onA fileJ evaluated orElse elem firstSome outside ofDrives hits dueAfter atEnd readSets readListed accepted readTable readWhole firstWith disjoint blocksOf verdictOn start smallestOf sends reaches adds known announces announced heard unchanged quiet ifQuiet decides halts closes closed step after frame coreOf goneBy hasCrash listOf cut reach crashed isNext isRound mostSends checkedCrash crashIn scenario coreCrashes endingAfter endingFrom endingOf endings readProposals crashAt runFiles.atEnd readCrashes untouchedLeft readRest readRunFile checkedCrashes simulated digit inBase decimal hexadecimal fields line lines verdictLine refusalLine listing tableProgram endingText driveLine endingLines coreLine simulatedWith simulatedFile runProgram
+unfolding marked sv fileA fileC fileH fileI prs cr onA fileJ evaluated orElse elem firstSome outside ofDrives hits chosenCore dueAfter atEnd readSets readListed accepted readTable readWhole firstWith disjoint blocksOf verdictOn start smallestOf sends reaches adds known announces announced heard unchanged quiet ifQuiet decides halts closes closed step after frame coreOf goneBy hasCrash listOf cut reach crashed isNext isRound mostSends checkedCrash crashIn scenario coreCrashes endingAfter endingFrom endingOf endings readProposals crashAt runFiles.atEnd readCrashes untouchedLeft readRest readBehind readRunFile checkedCrashes simulated digit inBase decimal hexadecimal fields line lines verdictLine refusalLine listing tableProgram endingText driveLine endingLines coreLine simulatedWith simulatedFile runProgram
 marked-cases = (refl, (refl, (refl, (refl, (refl, (refl, (refl, (refl, (refl, (refl, tt))))))))))

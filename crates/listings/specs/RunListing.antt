@@ -3,7 +3,6 @@ use mathlib.Core.List.{List, [], _∷_, _++_}
 use Prim.Native.Nat.{ℕ, suc}
 use Rattle.drive_sets.specs.Refusals.{Outcome, refused, result, andThen, number}
 use Rattle.records.specs.Marks.{ascii}
-use Rattle.tables.specs.Tables.{chosen}
 use Rattle.tables.specs.Files.{ReadTable, readTable}
 use Rattle.runs.specs.Simulated.{Ending, decides, undecided, stopped}
 use Rattle.run_files.specs.RunFiles.{RunFile, readRunFile}
@@ -34,12 +33,12 @@ runText (refused r) = refusalLine (number r)
 runText (result s) = endingLines 1 (s .endings) ++ coreLine (s .core) (s .stops)
 
 -- the simulated exchange of the run file behind a table, given what the table says
-unfoldable pub simulatedWith : ℕ → ℕ → List ℕ → List ℕ → Outcome Simulated
-simulatedWith n core sets rest = andThen (readRunFile n core sets rest) (λ (f : RunFile). simulated n sets (f .numbers) (f .crashes))
+unfoldable pub simulatedWith : ℕ → List ℕ → List ℕ → Outcome Simulated
+simulatedWith n sets rest = andThen (readRunFile n sets rest) (λ (f : RunFile). simulated n sets (f .numbers) (f .crashes))
 
 -- of a table and the run file behind it
 unfoldable pub simulatedFile : List ℕ → Outcome Simulated
-simulatedFile input = andThen (readTable input) (λ (t : ReadTable). simulatedWith (t .n) (chosen (t .sets)) (t .sets) (t .rest))
+simulatedFile input = andThen (readTable input) (λ (t : ReadTable). simulatedWith (t .n) (t .sets) (t .rest))
 
 -- what the run program prints for the bytes on its input
 unfoldable pub runProgram : List ℕ → List ℕ

@@ -5,11 +5,10 @@ use mathlib.Core.Bool.{not, cond}
 use mathlib.Core.List.{List, [], _∷_, _++_}
 use Prim.Native.Nat.{ℕ, zero, suc, _+_, _*_, _-_, _≤_, _<_}
 use native.Mathlib.Omega.{arith}
-use lib.Dec.{eqb, leb}
+use lib.Dec.{eqb}
 use lib.ListN.{length, take, drop, length-take, length-drop}
-use borrow.Author.Tests.{leb-true, not-false}
-use Rattle.drive_sets.specs.Bools.{by-test, and-right, cond-true}
-use Rattle.drive_sets.specs.declared.Refusal.the-variants.{EndsTooSoon, DriveNumber, FrameSize, CountDiffers, TrailingBytes}
+use borrow.Author.Tests.{not-false}
+use Rattle.drive_sets.specs.declared.Refusal.the-variants.{EndsTooSoon, DriveNumber, CountDiffers, TrailingBytes}
 use Rattle.drive_sets.specs.Refusals.{Outcome, refused, result, refuseIf, andThen}
 use Rattle.drive_sets.specs.Refusals.Laws.{passed}
 use Rattle.records.specs.declared.Kind.the-variants.{End}
@@ -17,10 +16,11 @@ use Rattle.records.specs.declared.Due.the-variants.{AtProposal, AtCrashOrEnd}
 use Rattle.records.specs.declared.Head.{Head}
 use Rattle.records.specs.Fields.{fromBytes}
 use Rattle.records.specs.Marks.{mark, headOf}
-use Rattle.tables.specs.Tables.{isFrame, isEmpty, chosen, uncrowded}
+use Rattle.tables.specs.Tables.{isEmpty, uncrowded, chosenCore}
+use Rattle.tables.specs.Tables.Laws.{core-given}
 use Rattle.tables.specs.Files.{ReadTable, atRecord, readListed, accepted, readTable}
 use Rattle.runs.specs.CrashRecords.{CrashRecord, isNext, checkedCrash}
-use Rattle.run_files.specs.RunFiles.{RunFile, ReadProposals, ReadCrashes, readProposals, crashAt, atEnd, readCrashes, untouchedLeft, readRest, readRunFile}
+use Rattle.run_files.specs.RunFiles.{RunFile, ReadProposals, ReadCrashes, readProposals, crashAt, atEnd, readCrashes, untouchedLeft, readRest, readBehind, readRunFile}
 use Rattle.run_files.specs.RunFiles.Laws.{next-bounds}
 use Rattle.simulation.specs.Simulation.{Simulated, simulated}
 use Rattle.listings.specs.RunListing.{runText, simulatedWith, simulatedFile, runProgram}
@@ -140,19 +140,23 @@ rest-start n core sets numbers rest j high h =
     (λ cs l i low. ap (λ b. refuseIf (not b) TrailingBytes (untouchedLeft sets (record { numbers = numbers; crashes = cs }))) (empty-start i l low))
     (length rest) (length (take j rest)) n core 0 [] rest j high (omega arith) (omega arith) (omega arith) .same
 
-run-file-start : (n core : ℕ) (sets s : List ℕ) (k : ℕ) → 700 ≤ k → readRunFile n core sets (take k s) ≡ readRunFile n core sets s
-unfolding readRunFile isFrame
-run-file-start n core sets s k h =
-    by-test (isFrame n)
-    (λ t. let high = leb-true n 64 (and-right (leb 1 n) (leb n 64) t) in
-    ap (λ (o : Outcome RunFile). refuseIf (not (isFrame n)) FrameSize o)
-    (proposals-start (readRest n core sets) 333 (λ numbers rest j low. rest-start n core sets numbers rest j high low) n [] s k (omega (arith, high)) .same))
-    (λ t. cond-true _ _ (ap not t) ∙ sym (cond-true _ _ (ap not t)))
+behind-start : (n core : ℕ) (sets s : List ℕ) (k : ℕ) → n ≤ 64 → 700 ≤ k → readBehind n core sets (take k s) ≡ readBehind n core sets s
+unfolding readBehind
+behind-start n core sets s k high h =
+    proposals-start (readRest n core sets) 333 (λ numbers rest j low. rest-start n core sets numbers rest j high low) n [] s k (omega arith) .same
+
+run-file-start : (n : ℕ) (sets s : List ℕ) (k : ℕ) → 700 ≤ k → readRunFile n sets (take k s) ≡ readRunFile n sets s
+unfolding readRunFile
+run-file-start n sets s k h = go (chosenCore n sets) refl
+  where
+    go : (o : Outcome ℕ) → chosenCore n sets ≡ o → andThen o (λ core. readBehind n core sets (take k s)) ≡ andThen o (λ core. readBehind n core sets s)
+    go (refused r) e = refl
+    go (result core) e = behind-start n core sets s k (core-given n sets e .0 .high) h
 
 -- ---- the run program
 
 abbrev simulatedTable : ReadTable → Outcome Simulated
-simulatedTable t = simulatedWith (t .n) (chosen (t .sets)) (t .sets) (t .rest)
+simulatedTable t = simulatedWith (t .n) (t .sets) (t .rest)
 
 -- the table's refusal 13, and then the run file
 table-start : (n : ℕ) (sets rest : List ℕ) (j : ℕ) → 700 ≤ j
@@ -164,7 +168,7 @@ table-start n sets rest j h = go (uncrowded sets)
         → andThen (andThen o (λ table. result (record { n = n; sets = table; rest = take j rest }))) simulatedTable
         ≡ andThen (andThen o (λ table. result (record { n = n; sets = table; rest = rest }))) simulatedTable
     go (refused r) = refl
-    go (result table) = ap (λ (o : Outcome RunFile). andThen o (λ f. simulated n table (f .numbers) (f .crashes))) (run-file-start n (chosen table) table rest j h)
+    go (result table) = ap (λ (o : Outcome RunFile). andThen o (λ f. simulated n table (f .numbers) (f .crashes))) (run-file-start n table rest j h)
 
 file-is : (s : List ℕ) → simulatedFile s ≡ andThen (readListed s) (λ t. andThen (accepted t) simulatedTable)
 unfolding simulatedFile readTable

@@ -64,7 +64,7 @@ head-start due k s h =
     ∙ ap₂ (λ (a : Bool) (b : Bool). head m a b) (short-start 2 k s (omega arith)) (short-start (2 + bodyWidth (kindOf m)) k s (omega (arith, body-most (kindOf m))))
   where
     head : ℕ → Bool → Bool → Head
-    head m a b = cond a (Refused EndsTooSoon) (cond (not (isDue due m)) (Refused WrongMark) (cond b (Refused EndsTooSoon) (Record (kindOf m))))
+    head m a b = cond a (Refused EndsTooSoon) (cond (not (isDue due (kindOf m))) (Refused WrongMark) (cond b (Refused EndsTooSoon) (Record (kindOf m))))
 
 -- ---- what is made of a record
 

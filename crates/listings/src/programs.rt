@@ -3,7 +3,7 @@ ghost use mathlib.Core.Path.{_≡_};
 ghost use Prim.Native.Nat.{_≤_, min};
 ghost use lib.ListN.{length, take};
 ghost use Rattle.drive_sets.specs.Filled.{Filled};
-ghost use Rattle.tables.specs.Tables.{cores, chosen};
+ghost use Rattle.tables.specs.Tables.{cores};
 ghost use Rattle.tables.specs.Reading.{setsOf};
 ghost use Rattle.listings.specs.TableListing.{listing, tableProgram};
 ghost use Rattle.simulation.specs.Endings.{simulatedOutcome};
@@ -11,16 +11,16 @@ ghost use Rattle.listings.specs.RunListing.{runText, simulatedWith, runP
 ghost use Rattle.listings.specs.Printing.{Printed, bytesIn};
 use crate::run_text::put_core_line;
 use crate::run_text::put_drives;
-use crate::table_text::first;
 use crate::table_text::put_listing;
 use crate::table_text::put_refused;
 use drive_sets::Refusal;
+use hitting_sets::MAX_CORES;
+use hitting_sets::MAX_SETS;
 use simulation::simulating::Simulated;
 use simulation::simulating::simulate;
 use tables::completing::CoreTable;
-use tables::completing::MAX_CORES;
 use tables::reading::Answer;
-use tables::reading::MAX_SETS;
+use tables::reading::Table;
 use tables::writing::Writing;
 
 // No text is longer: 1024 cores and 128 sets take a line of at most 22 bytes each, the rest less than 1024 bytes.
@@ -79,11 +79,11 @@ fn put_simulated(buf: &mut [u8], n: u8, r: Simulated) -> usize
 }
 
 // The text from the run file on.
-fn put_run_file(buf: &mut [u8], n: u8, core: u64, sets: &[u64], rest: &[u8]) -> usize
+fn put_run_file(buf: &mut [u8], n: u8, sets: &[u64], rest: &[u8]) -> usize
     requires { ⌜ (length (now buf) ≤ 65536) × (n ≤ 64) ⌝ }
-    ensures { λ r. ⌜ Filled (now (buf .entry)) (now (buf .exit)) 0 r (runText (simulatedWith n core (now (sets .entry)) (now (rest .entry)))) ⌝ }
+    ensures { λ r. ⌜ Filled (now (buf .entry)) (now (buf .exit)) 0 r (runText (simulatedWith n (now (sets .entry)) (now (rest .entry)))) ⌝ }
 {
-    let file = run_files::reading::read_run_file(n, core, sets, rest);
+    let file = run_files::reading::read_run_file(n, sets, rest);
     let answer = file.answer;
     let numbers = file.numbers;
     let crashes = file.crashes;
@@ -93,19 +93,15 @@ fn put_run_file(buf: &mut [u8], n: u8, core: u64, sets: &[u64], rest: &[u8]) -> 
     }
 }
 
-// The same for a table that was read with its cores.
-fn put_behind(buf: &mut [u8], t: CoreTable, rest: &[u8]) -> usize
-    requires { ⌜ (length (now buf) ≤ 65536) × (t .table .n ≤ 64) × (take (t .found) (t .cores) ≡ cores (setsOf (t .table))) ⌝ }
-    ensures { λ r. ⌜ Filled (now (buf .entry)) (now (buf .exit)) 0 r (runText (simulatedWith (t .table .n) (chosen (setsOf (t .table))) (setsOf (t .table)) (now (rest .entry)))) ⌝ }
+// The same for a table that was read.
+fn put_behind(buf: &mut [u8], table: Table, rest: &[u8]) -> usize
+    requires { ⌜ (length (now buf) ≤ 65536) × (table .n ≤ 64) ⌝ }
+    ensures { λ r. ⌜ Filled (now (buf .entry)) (now (buf .exit)) 0 r (runText (simulatedWith (table .n) (setsOf table) (now (rest .entry)))) ⌝ }
 {
-    let table = t.table;
     let n = table.n;
     let sets = table.sets;
-    let groups = t.cores;
     let count = at_most(table.count, MAX_SETS);
-    let found = at_most(t.found, MAX_CORES);
-    let core = first(&groups[0..found]);
-    put_run_file(buf, n, core, &sets[0..count], rest)
+    put_run_file(buf, n, &sets[0..count], rest)
 }
 
 // The text of the run program.
@@ -118,7 +114,7 @@ fn put_run(buf: &mut [u8], input: &[u8]) -> usize
     let answer = complete.answer;
     match answer {
         Answer::Refused(r) => put_refused(buf, 0, r),
-        Answer::Accepted => put_behind(buf, complete, tables::files::rest(input, file.used)),
+        Answer::Accepted => put_behind(buf, complete.table, tables::files::rest(input, file.used)),
     }
 }
 

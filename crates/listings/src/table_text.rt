@@ -104,7 +104,7 @@ fn put_verdicts(buf: &mut [u8], at: usize, n: u8, sets: &[u64]) -> usize
 }
 
 // The first, 0 where there is none.
-pub fn first(groups: &[u64]) -> u64
+fn first(groups: &[u64]) -> u64
     ensures { λ r. ⌜ r ≡ getD (now (groups .entry)) 0 0 ⌝ }
 {
     if groups.len() == 0 {

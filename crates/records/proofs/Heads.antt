@@ -19,27 +19,27 @@ pub head-cut : (due : Due) (s : List ℕ) → length s < 2 → Refused EndsTooSo
 unfolding headOf
 head-cut due s h = sym (cond-true _ _ (lt-ltb (length s) 2 h))
 
--- from here on m is the mark that was read, and t whether it is due
-module _ (due : Due) (s : List ℕ) (m : ℕ) (t : Bool) (h : 2 ≤ length s) (e : m ≡ fromBytes (take 8 (take 2 s))) (f : t ≡ isDue due m) where
-  mark-is : m ≡ fromBytes (take 2 s)
-  mark-is = e ∙ ap fromBytes (take-all 8 (take 2 s) (omega (arith, length-take 2 s)))
+-- from here on m is the mark that was read, k its kind, and t whether that is due
+module _ (due : Due) (s : List ℕ) (m : ℕ) (k : Kind) (t : Bool) (h : 2 ≤ length s) (e : m ≡ fromBytes (take 8 (take 2 s))) (p : k ≡ kindOf m) (f : t ≡ isDue due k) where
+  kind-is : k ≡ kindOf (fromBytes (take 2 s))
+  kind-is = p ∙ ap kindOf (e ∙ ap fromBytes (take-all 8 (take 2 s) (omega (arith, length-take 2 s))))
 
-  due-is : t ≡ isDue due (fromBytes (take 2 s))
-  due-is = f ∙ ap (isDue due) mark-is
+  due-is : t ≡ isDue due (kindOf (fromBytes (take 2 s)))
+  due-is = f ∙ ap (isDue due) kind-is
 
   pub head-not-due : not t ≡ true → Refused WrongMark ≡ headOf due s
   unfolding headOf
   head-not-due n = sym (cond-false _ _ (le-ltb (length s) 2 h) ∙ cond-true _ _ (ap not (sym due-is) ∙ n))
 
-  pub head-body-cut : not t ≡ false → (k : Kind) (w : ℕ) → k ≡ kindOf m → w ≡ bodyWidth k → length s - 2 < w → Refused EndsTooSoon ≡ headOf due s
+  pub head-body-cut : not t ≡ false → (w : ℕ) → w ≡ bodyWidth k → length s - 2 < w → Refused EndsTooSoon ≡ headOf due s
   unfolding headOf
-  head-body-cut n k w p q lt =
-      let whole = q ∙ ap bodyWidth (p ∙ ap kindOf mark-is) in
+  head-body-cut n w q lt =
+      let whole = q ∙ ap bodyWidth kind-is in
       sym (cond-false _ _ (le-ltb (length s) 2 h) ∙ (cond-false _ _ (ap not (sym due-is) ∙ n) ∙ cond-true _ _ (lt-ltb (length s) (2 + bodyWidth (kindOf (fromBytes (take 2 s)))) (omega arith))))
 
-  pub head-found : not t ≡ false → (k : Kind) (w : ℕ) → k ≡ kindOf m → w ≡ bodyWidth k → w ≤ length s - 2 → Record k ≡ headOf due s
+  pub head-found : not t ≡ false → (w : ℕ) → w ≡ bodyWidth k → w ≤ length s - 2 → Record k ≡ headOf due s
   unfolding headOf
-  head-found n k w p q le =
-      let whole = q ∙ ap bodyWidth (p ∙ ap kindOf mark-is) in
-      ap Record (p ∙ ap kindOf mark-is)
+  head-found n w q le =
+      let whole = q ∙ ap bodyWidth kind-is in
+      ap Record kind-is
       ∙ sym (cond-false _ _ (le-ltb (length s) 2 h) ∙ (cond-false _ _ (ap not (sym due-is) ∙ n) ∙ cond-false _ _ (le-ltb (length s) (2 + bodyWidth (kindOf (fromBytes (take 2 s)))) (omega arith))))

@@ -11,6 +11,10 @@ unfoldable pub fromBytes : List ℕ → ℕ
 fromBytes [] = 0
 fromBytes (b ∷ bs) = b + 256 * fromBytes bs
 
+-- the field of so many bytes from a place on
+abbrev pub fieldAt : ℕ → ℕ → List ℕ → ℕ
+fieldAt place width s = fromBytes (take width (drop place s))
+
 -- the lowest bytes of a number, as many as the field is wide
 unfoldable pub toBytes : ℕ → ℕ → List ℕ
 toBytes zero x = []

@@ -58,22 +58,25 @@ kindOf m =
     (cond (eqb m (mark Known)) Known
     (cond (eqb m (mark Decide)) Decide Unknown))))))
 
--- a record with this mark may stand here
-unfoldable pub isDue : Due → ℕ → Bool
-isDue AtFrame m = eqb m (mark Frame)
-isDue AtFirstSet m = eqb m (mark Survivor)
-isDue AtSetOrEnd m = eqb m (mark Survivor) || eqb m (mark End)
-isDue AtProposal m = eqb m (mark Proposal)
-isDue AtCrashOrEnd m = eqb m (mark Crash) || eqb m (mark End)
-isDue AtMessage m = eqb m (mark Known) || eqb m (mark Decide)
+-- a kind is known by its mark
+unfoldable pub isKind : Kind → Kind → Bool
+isKind j k = eqb (mark k) (mark j)
+
+-- a record of this kind may stand here
+unfoldable pub isDue : Due → Kind → Bool
+isDue AtFrame k = isKind Frame k
+isDue AtFirstSet k = isKind Survivor k
+isDue AtSetOrEnd k = isKind Survivor k || isKind End k
+isDue AtProposal k = isKind Proposal k
+isDue AtCrashOrEnd k = isKind Crash k || isKind End k
+isDue AtMessage k = isKind Known k || isKind Decide k
 
 -- what stands at the start of the bytes: mark cut (1), unknown or in the wrong place (2), rest cut (1), or a record of some kind
 unfoldable pub headOf : Due → List ℕ → Head
 headOf due s =
-    let m = fromBytes (take 2 s) in
-    let k = kindOf m in
+    let k = kindOf (fromBytes (take 2 s)) in
     cond (ltb (length s) 2) (Refused EndsTooSoon)
-    (cond (not (isDue due m)) (Refused WrongMark)
+    (cond (not (isDue due k)) (Refused WrongMark)
     (cond (ltb (length s) (2 + bodyWidth k)) (Refused EndsTooSoon) (Record k)))
 
 -- a record of a mark and one field

@@ -152,26 +152,34 @@ pub fn body_width(k: Kind) -> usize
     }
 }
 
+// The mark of a kind of record; 0 where it is unknown.
+fn mark_of(k: Kind) -> u64
+    ensures { λ r. ⌜ r ≡ mark k ⌝ }
+{
+    match k {
+        Kind::Frame => FRAME,
+        Kind::Survivor => SURVIVOR,
+        Kind::Proposal => PROPOSAL,
+        Kind::Crash => CRASH,
+        Kind::End => END,
+        Kind::Known => KNOWN,
+        Kind::Decide => DECIDE,
+        Kind::Unknown => 0,
+    }
+}
+
 // A record of this kind ends a file.
 pub fn is_end(k: Kind) -> bool
     ensures { λ r. ⌜ r ≡ eqb (mark k) (mark Kind.End) ⌝ }
 {
-    match k {
-        Kind::Frame => false,
-        Kind::Survivor => false,
-        Kind::Proposal => false,
-        Kind::Crash => false,
-        Kind::End => true,
-        Kind::Known => false,
-        Kind::Decide => false,
-        Kind::Unknown => false,
-    }
+    mark_of(k) == END
 }
 
-// A record with this mark may stand here.
-pub fn is_due(due: Due, m: u64) -> bool
-    ensures { λ r. ⌜ r ≡ isDue due m ⌝ }
+// A record of this kind may stand here.
+pub fn is_due(due: Due, k: Kind) -> bool
+    ensures { λ r. ⌜ r ≡ isDue due k ⌝ }
 {
+    let m = mark_of(k);
     match due {
         Due::AtFrame => m == FRAME,
         Due::AtFirstSet => m == SURVIVOR,
@@ -189,11 +197,10 @@ pub fn read_head(s: &[u8], due: Due) -> Head
     if s.len() < 2 {
         return Head::Refused(Refusal::EndsTooSoon);
     }
-    let m = from_bytes(&s[0..2]);
-    if !is_due(due, m) {
+    let k = kind_of(from_bytes(&s[0..2]));
+    if !is_due(due, k) {
         return Head::Refused(Refusal::WrongMark);
     }
-    let k = kind_of(m);
     if s.len() - 2 < body_width(k) {
         return Head::Refused(Refusal::EndsTooSoon);
     }

@@ -6,7 +6,7 @@ use Prim.Native.Nat.{ℕ, zero, suc, _+_, _-_, _≤_, _<_}
 use native.Mathlib.Omega.{arith}
 use lib.Dec.{eqb}
 use lib.ListN.{length, drop}
-use borrow.Author.Tests.{lt-ltb, eqb-true}
+use borrow.Author.Tests.{lt-ltb}
 use Rattle.drive_sets.specs.declared.Drive.{Drive}
 use Rattle.drive_sets.specs.declared.Round.{Round}
 use Rattle.drive_sets.specs.declared.Refusal.{Refusal}
@@ -17,13 +17,14 @@ use Rattle.records.specs.declared.Due.the-variants.{AtCrashOrEnd}
 use Rattle.records.specs.declared.Kind.the-variants as kinds
 use Rattle.records.specs.declared.Head.{Head}
 use Rattle.records.specs.declared.Head.the-variants as heads
-use Rattle.records.specs.Marks.{mark, bodyWidth, headOf}
-use Rattle.records.specs.Marks.Laws.{head-present, mark-unique}
+use Rattle.records.specs.Marks.{mark, bodyWidth, isKind, headOf}
+use Rattle.records.specs.Marks.Laws.{head-present, kind-is}
+use Rattle.records.specs.Fields.{fieldAt}
 use Rattle.tables.specs.Files.{atRecord}
 use Rattle.run_files.specs.declared.listing.Step.{Step}
 use Rattle.run_files.specs.declared.listing.Step.the-variants.{Crash, End, Stop}
 use Rattle.runs.specs.CrashRecords.{CrashRecord, isNext, checkedCrash}
-use Rattle.run_files.specs.RunFiles.{ReadCrashes, fieldAt, crashAt, atEnd, readCrashes}
+use Rattle.run_files.specs.RunFiles.{ReadCrashes, crashAt, atEnd, readCrashes}
 use Rattle.run_files.specs.RunFiles.Laws.{Passes, checked-passes}
 use Rattle.run_files.specs.Reading.{crashRecord, stepOn, crashStep, endStep, stepAt, stepOf}
 use Rattle.run_files.proofs.CrashSteps.{crash-long}
@@ -133,7 +134,7 @@ module _ (n core last count : ℕ) (s : List ℕ) where
           (λ t. (crash-long s k f t, crash-next n core last s d q m (sym (cond-false _ _ t) ∙ e)))
 
   pub end-whole : stepOf n core last count s ≡ End → 3 ≤ length s
-  unfolding stepOf
+  unfolding stepOf isKind
   end-whole e = go (headOf AtCrashOrEnd s) refl e
     where
       go : (h : Head) → headOf AtCrashOrEnd s ≡ h → stepAt h n core last count s ≡ End → 3 ≤ length s
@@ -141,5 +142,5 @@ module _ (n core last count : ℕ) (s : List ℕ) where
       go (heads.Record k) f e =
           let p = head-present AtCrashOrEnd s k f in
           by-test (eqb (mark k) (mark kinds.End))
-          (λ t. omega (arith, p .long, ap bodyWidth (mark-unique k kinds.End (eqb-true (mark k) (mark kinds.End) t)), end-width))
+          (λ t. omega (arith, p .long, ap bodyWidth (kind-is kinds.End k t), end-width))
           (λ t. absurd (crash-no-end n core last s (sym (cond-false _ _ t) ∙ e)))

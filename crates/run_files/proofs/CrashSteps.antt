@@ -8,7 +8,7 @@ use native.Mathlib.Omega.{arith}
 use lib.Dec.{eqb}
 use lib.ListN.{length, getD, take, drop}
 use lib.Seq.{drop-cons}
-use borrow.Author.Tests.{eq-eqb, ne-eqb, eqb-true}
+use borrow.Author.Tests.{eq-eqb, ne-eqb}
 use Rattle.drive_sets.specs.declared.Drive.{Drive}
 use Rattle.drive_sets.specs.declared.Round.{Round}
 use Rattle.drive_sets.specs.declared.Refusal.{Refusal}
@@ -19,9 +19,9 @@ use Rattle.records.specs.declared.Kind.{Kind}
 use Rattle.records.specs.declared.Kind.the-variants as kinds
 use Rattle.records.specs.declared.Head.{Head}
 use Rattle.records.specs.declared.Head.the-variants as heads
-use Rattle.records.specs.Fields.{fromBytes}
-use Rattle.records.specs.Marks.{mark, bodyWidth, isDue, headOf}
-use Rattle.records.specs.Marks.Laws.{head-present, mark-unique}
+use Rattle.records.specs.Fields.{fromBytes, fieldAt}
+use Rattle.records.specs.Marks.{mark, bodyWidth, isKind, isDue, headOf}
+use Rattle.records.specs.Marks.Laws.{head-present, kind-is}
 use Rattle.tables.specs.declared.reading.Answer.{Answer}
 use Rattle.tables.specs.declared.reading.Answer.the-variants as answers
 use Rattle.tables.specs.Reading.{outcomeOf}
@@ -29,7 +29,7 @@ use Rattle.records.proofs.Parts.{rest-is}
 use Rattle.run_files.specs.declared.listing.Step.{Step}
 use Rattle.run_files.specs.declared.listing.Step.the-variants.{Crash, End, Stop}
 use Rattle.runs.specs.CrashRecords.{checkedCrash}
-use Rattle.run_files.specs.RunFiles.{fieldAt, crashAt}
+use Rattle.run_files.specs.RunFiles.{crashAt}
 use Rattle.run_files.specs.Reading.{crashRecord, stepOn, crashStep, endStep, stepAt, stepOf}
 
 -- a field of one byte is the byte
@@ -78,16 +78,15 @@ crash-width : bodyWidth kinds.Crash ≡ 3
 unfolding bodyWidth
 crash-width = refl
 
-crash-mark : (m : ℕ) → isDue AtCrashOrEnd m ≡ true → eqb m (mark kinds.End) ≡ false → m ≡ mark kinds.Crash
-unfolding isDue
-crash-mark m due t =
-    ⊎-elim (λ c. eqb-true m (mark kinds.Crash) c) (λ c. absurd (clash c t)) (or-cases (eqb m (mark kinds.Crash)) (eqb m (mark kinds.End)) due)
+due-crash : (k : Kind) → isDue AtCrashOrEnd k ≡ true → eqb (mark k) (mark kinds.End) ≡ false → k ≡ kinds.Crash
+unfolding isDue isKind
+due-crash k due t = ⊎-elim (kind-is kinds.Crash k) (λ c. absurd (clash c t)) (or-cases (isKind kinds.Crash k) (isKind kinds.End k) due)
 
 -- where a CR or the end is due and it is not the end, it is a CR, and whole
 pub crash-long : (s : List ℕ) (k : Kind) → headOf AtCrashOrEnd s ≡ heads.Record k → eqb (mark k) (mark kinds.End) ≡ false → 5 ≤ length s
 crash-long s k h t =
     let p = head-present AtCrashOrEnd s k h in
-    omega (arith, p .long, ap bodyWidth (mark-unique k kinds.Crash (crash-mark (mark k) (p .is-due) t)), crash-width)
+    omega (arith, p .long, ap bodyWidth (due-crash k (p .is-due) t), crash-width)
 
 module _ (n core last count : ℕ) (s : List ℕ) (head : Head) (h : head ≡ headOf AtCrashOrEnd s) where
   step-head : stepAt head n core last count s ≡ stepOf n core last count s

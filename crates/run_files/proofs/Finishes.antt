@@ -4,17 +4,19 @@ use mathlib.Core.Bool.{Bool, true, false, not}
 use mathlib.Core.List.{List, []}
 use Prim.Native.Nat.{ℕ, _^_, _≤_, _<_}
 use native.Mathlib.Omega.{arith}
-use lib.Dec.{leb}
 use lib.ListN.{length, take, drop, length-drop}
-use borrow.Author.Tests.{leb-true, not-false}
 use Rattle.drive_sets.specs.declared.Refusal.{Refusal}
-use Rattle.drive_sets.specs.declared.Refusal.the-variants.{FrameSize, TrailingBytes, NoneUntouched}
-use Rattle.drive_sets.specs.Bools.{and-right, cond-true, cond-false}
+use Rattle.drive_sets.specs.declared.Refusal.the-variants.{TrailingBytes, NoneUntouched}
+use Rattle.drive_sets.specs.Bools.{cond-true, cond-false}
 use Rattle.drive_sets.specs.Refusals.{Outcome, refused, result, refuseIf, andThen}
 use Rattle.hitting_sets.specs.Hitting.{hits}
 use Rattle.tables.specs.declared.reading.Answer.{Answer}
 use Rattle.tables.specs.declared.reading.Answer.the-variants as answers
-use Rattle.tables.specs.Tables.{isFrame, isEmpty}
+use Rattle.tables.specs.declared.calls.Chosen.{Chosen}
+use Rattle.tables.specs.declared.calls.Chosen.the-variants as chosens
+use Rattle.tables.specs.Tables.{isEmpty, chosenCore}
+use Rattle.tables.specs.Tables.Laws.{core-given}
+use Rattle.tables.specs.Answers.{chosenOutcome}
 use Rattle.tables.specs.Reading.{outcomeOf}
 use Rattle.tables.proofs.Completes.{no-elements, some-elements}
 use Rattle.run_files.specs.declared.crashes.Crashes.{Crashes}
@@ -22,7 +24,7 @@ use Rattle.run_files.specs.declared.listing.CrashesRead.{CrashesRead}
 use Rattle.run_files.specs.declared.proposals.Proposals.{Proposals}
 use Rattle.run_files.specs.declared.reading.RunFile as files
 use Rattle.runs.specs.CrashRecords.{crashed}
-use Rattle.run_files.specs.RunFiles.{RunFile, ReadProposals, ReadCrashes, readProposals, readCrashes, untouchedLeft, readRest, readRunFile}
+use Rattle.run_files.specs.RunFiles.{RunFile, ReadProposals, ReadCrashes, readProposals, readCrashes, untouchedLeft, readRest, readBehind, readRunFile}
 use Rattle.run_files.specs.Reading.{crashesIn, proposalsOutcome, crashesOutcome, runFileOutcome, finished}
 use Rattle.run_files.specs.Reading.Laws.{crashed-in}
 
@@ -74,29 +76,36 @@ module _ (n core : ℕ) (sets numbers s : List ℕ) (r : CrashesRead) (e : crash
     rest-finished h =
         sym (cond-false _ _ (ap not (no-elements (drop (r .used) s) (omega (arith, length-drop (r .used) s))))) ∙ rest-answer answers.Accepted f
 
--- ---- the whole file
+-- ---- the file behind a table
 
-module _ (n core : ℕ) (sets s : List ℕ) (t : Bool) (e : t ≡ isFrame n) where
-  pub file-no-frame : not t ≡ true → refused FrameSize ≡ readRunFile n core sets s
+module _ (n core : ℕ) (sets s : List ℕ) (p : Proposals) (f : proposalsOutcome n p s ≡ readProposals n [] s) where
+  behind-answer : (a : Answer) → p .answer ≡ a
+      → andThen (outcomeOf a (record { numbers = take n (p .numbers); rest = drop (p .used) s })) (readRest n core sets) ≡ readBehind n core sets s
+  unfolding readBehind proposalsOutcome
+  behind-answer a g =
+      ap (λ (x : Answer). andThen (outcomeOf x (record { numbers = take n (p .numbers); rest = drop (p .used) s })) (readRest n core sets)) (sym g)
+      ∙ ap (λ (o : Outcome ReadProposals). andThen o (readRest n core sets)) f
+
+  pub behind-refused : (q : Refusal) → p .answer ≡ answers.Refused q → refused q ≡ readBehind n core sets s
+  behind-refused q g = behind-answer (answers.Refused q) g
+
+  pub behind-rest : p .answer ≡ answers.Accepted
+      → readRest n core sets (record { numbers = take n (p .numbers); rest = drop (p .used) s }) ≡ readBehind n core sets s
+  behind-rest g = behind-answer answers.Accepted g
+
+-- ---- the whole call
+
+module _ (n : ℕ) (sets s : List ℕ) (t : Chosen) (e : chosenOutcome t ≡ chosenCore n sets) where
+  chosen-is : (c : Chosen) → t ≡ c → chosenOutcome c ≡ chosenCore n sets
+  chosen-is c f = ap chosenOutcome (sym f) ∙ e
+
+  pub frame-bound : {core : ℕ} → t ≡ chosens.Core core → n ≤ 64
+  frame-bound f = core-given n sets (sym (chosen-is _ f)) .0 .high
+
+  pub file-refused : (q : Refusal) → t ≡ chosens.Refused q → refused q ≡ readRunFile n sets s
   unfolding readRunFile
-  file-no-frame h = sym (cond-true _ _ (ap not (sym e) ∙ h))
+  file-refused q f = ap (λ (o : Outcome ℕ). andThen o (λ core. readBehind n core sets s)) (chosen-is (chosens.Refused q) f)
 
-  module _ (h : not t ≡ false) where
-    pub frame-bound : n ≤ 64
-    unfolding isFrame
-    frame-bound = leb-true n 64 (and-right (leb 1 n) (leb n 64) (sym e ∙ not-false t h))
-
-    module _ (p : Proposals) (f : proposalsOutcome n p s ≡ readProposals n [] s) where
-      file-answer : (a : Answer) → p .answer ≡ a
-          → andThen (outcomeOf a (record { numbers = take n (p .numbers); rest = drop (p .used) s })) (readRest n core sets) ≡ readRunFile n core sets s
-      unfolding readRunFile proposalsOutcome
-      file-answer a g =
-          ap (λ (x : Answer). andThen (outcomeOf x (record { numbers = take n (p .numbers); rest = drop (p .used) s })) (readRest n core sets)) (sym g)
-          ∙ (ap (λ (o : Outcome ReadProposals). andThen o (readRest n core sets)) f ∙ sym (cond-false _ _ (ap not (sym e) ∙ h)))
-
-      pub file-refused : (q : Refusal) → p .answer ≡ answers.Refused q → refused q ≡ readRunFile n core sets s
-      file-refused q g = file-answer (answers.Refused q) g
-
-      pub file-rest : p .answer ≡ answers.Accepted
-          → readRest n core sets (record { numbers = take n (p .numbers); rest = drop (p .used) s }) ≡ readRunFile n core sets s
-      file-rest g = file-answer answers.Accepted g
+  pub file-behind : (core : ℕ) → t ≡ chosens.Core core → readBehind n core sets s ≡ readRunFile n sets s
+  unfolding readRunFile
+  file-behind core f = ap (λ (o : Outcome ℕ). andThen o (λ k. readBehind n k sets s)) (chosen-is (chosens.Core core) f)

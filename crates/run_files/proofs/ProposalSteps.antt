@@ -8,7 +8,7 @@ use native.Mathlib.Numerals.{add-one}
 use lib.Dec.{eqb}
 use lib.ListN.{length, getD, take, drop, set, length-set, length-drop}
 use lib.Seq.{drop-cons, take-suc-set, drop-drop, length-take-le}
-use borrow.Author.Tests.{eq-eqb, ne-eqb, eqb-true}
+use borrow.Author.Tests.{eq-eqb, ne-eqb}
 use Rattle.drive_sets.specs.declared.Pattern.{Pattern}
 use Rattle.drive_sets.specs.declared.Refusal.{Refusal}
 use Rattle.drive_sets.specs.declared.Refusal.the-variants.{DriveNumber}
@@ -19,9 +19,9 @@ use Rattle.records.specs.declared.Kind.{Kind}
 use Rattle.records.specs.declared.Kind.the-variants as kinds
 use Rattle.records.specs.declared.Head.{Head}
 use Rattle.records.specs.declared.Head.the-variants as heads
-use Rattle.records.specs.Fields.{fromBytes}
-use Rattle.records.specs.Marks.{mark, bodyWidth, isDue, headOf}
-use Rattle.records.specs.Marks.Laws.{head-present, mark-unique}
+use Rattle.records.specs.Fields.{fromBytes, fieldAt}
+use Rattle.records.specs.Marks.{bodyWidth, isDue, headOf}
+use Rattle.records.specs.Marks.Laws.{head-present, kind-is}
 use Rattle.tables.specs.declared.reading.Answer.{Answer}
 use Rattle.tables.specs.declared.reading.Answer.the-variants as answers
 use Rattle.tables.specs.Files.{atRecord}
@@ -30,7 +30,7 @@ use Rattle.records.proofs.Parts.{rest-is}
 use Rattle.run_files.specs.declared.proposals.Proposals.{Proposals}
 use Rattle.run_files.specs.declared.proposals.Proposal.{Proposal}
 use Rattle.run_files.specs.declared.proposals.Proposal.the-variants.{Number, Stop}
-use Rattle.run_files.specs.RunFiles.{ReadProposals, fieldAt, readProposals}
+use Rattle.run_files.specs.RunFiles.{ReadProposals, readProposals}
 use Rattle.run_files.specs.Reading.{proposalAt, proposalStep, proposalsOutcome}
 use Rattle.run_files.proofs.CrashSteps.{first-byte}
 
@@ -49,9 +49,9 @@ proposal-width : bodyWidth kinds.Proposal ≡ 3
 unfolding bodyWidth
 proposal-width = refl
 
-proposal-mark : (m : ℕ) → isDue AtProposal m ≡ true → m ≡ mark kinds.Proposal
+due-proposal : (k : Kind) → isDue AtProposal k ≡ true → k ≡ kinds.Proposal
 unfolding isDue
-proposal-mark m due = eqb-true m (mark kinds.Proposal) due
+due-proposal k due = kind-is kinds.Proposal k due
 
 module _ (d : ℕ) (s : List ℕ) (head : Head) (h : head ≡ headOf AtProposal s) where
   step-head : proposalAt head d s ≡ proposalStep d s
@@ -65,7 +65,7 @@ module _ (d : ℕ) (s : List ℕ) (head : Head) (h : head ≡ headOf AtProposal 
     pub proposal-long : 5 ≤ length s
     proposal-long =
         let p = head-present AtProposal s k (sym h ∙ e) in
-        omega (arith, p .long, ap bodyWidth (mark-unique k kinds.Proposal (proposal-mark (mark k) (p .is-due))), proposal-width)
+        omega (arith, p .long, ap bodyWidth (due-proposal k (p .is-due)), proposal-width)
 
     step-record : cond (eqb (fieldAt 2 1 s) d) (Number (record { 0 = fieldAt 3 2 s })) (Stop DriveNumber) ≡ proposalStep d s
     step-record = ap (λ (x : Head). proposalAt x d s) (sym e) ∙ step-head

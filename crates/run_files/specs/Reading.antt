@@ -13,6 +13,7 @@ use Rattle.records.specs.declared.Kind.the-variants as kinds
 use Rattle.records.specs.declared.Due.the-variants.{AtProposal, AtCrashOrEnd}
 use Rattle.records.specs.declared.Head.{Head}
 use Rattle.records.specs.declared.Head.the-variants as heads
+use Rattle.records.specs.Fields.{fieldAt}
 use Rattle.records.specs.Marks.{mark, headOf}
 use Rattle.tables.specs.Reading.{outcomeOf}
 use Rattle.run_files.specs.declared.crashes.Crashes.{Crashes}
@@ -24,7 +25,7 @@ use Rattle.run_files.specs.declared.proposals.Proposal.{Proposal}
 use Rattle.run_files.specs.declared.proposals.Proposal.the-variants as proposals
 use Rattle.run_files.specs.declared.reading.RunFile as answers
 use Rattle.runs.specs.CrashRecords.{CrashRecord, checkedCrash}
-use Rattle.run_files.specs.RunFiles.{RunFile, ReadProposals, ReadCrashes, fieldAt, crashAt, untouchedLeft}
+use Rattle.run_files.specs.RunFiles.{RunFile, ReadProposals, ReadCrashes, crashAt, untouchedLeft}
 pub mod Laws
 
 -- ---- what the answers say

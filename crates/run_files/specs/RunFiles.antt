@@ -2,18 +2,17 @@
 use mathlib.Core.Bool.{not, cond}
 use mathlib.Core.List.{List, [], _∷_, _++_}
 use mathlib.Core.Option.{Option, none, some}
-use Prim.Native.Nat.{ℕ, zero, suc, _-_}
+use Prim.Native.Nat.{ℕ, zero, suc}
 use lib.Dec.{eqb}
-use lib.ListN.{length, getD, take, drop}
-use Rattle.drive_sets.specs.Masks.{has}
-use Rattle.drive_sets.specs.declared.Refusal.the-variants.{EndsTooSoon, FrameSize, CountDiffers, TrailingBytes, DriveNumber, NoneUntouched}
+use lib.ListN.{length, drop}
+use Rattle.drive_sets.specs.declared.Refusal.the-variants.{EndsTooSoon, CountDiffers, TrailingBytes, DriveNumber, NoneUntouched}
 use Rattle.drive_sets.specs.Refusals.{Outcome, refused, result, refuseIf, andThen}
 use Rattle.hitting_sets.specs.Hitting.{hits}
 use Rattle.records.specs.declared.Kind.the-variants.{End}
 use Rattle.records.specs.declared.Due.the-variants.{AtProposal, AtCrashOrEnd}
-use Rattle.records.specs.Fields.{fromBytes}
+use Rattle.records.specs.Fields.{fieldAt}
 use Rattle.records.specs.Marks.{mark, headOf}
-use Rattle.tables.specs.Tables.{isFrame, isEmpty}
+use Rattle.tables.specs.Tables.{isEmpty, chosenCore}
 use Rattle.tables.specs.Files.{atRecord}
 use Rattle.runs.specs.CrashRecords.{CrashRecord, crashed, checkedCrash}
 pub mod Laws
@@ -24,18 +23,10 @@ pub record RunFile : Type 0 where
   pub numbers : List ℕ
   pub crashes : List CrashRecord
 
--- the pattern number that a drive proposes
-unfoldable pub proposalOf : RunFile → ℕ → ℕ
-proposalOf f d = getD (f .numbers) (d - 1) 0
-
 -- the CR of a drive, or none
 unfoldable pub crashOf : List CrashRecord → ℕ → Option CrashRecord
 crashOf [] d = none
 crashOf (c ∷ cs) d = cond (eqb (c .drive) d) (some c) (crashOf cs d)
-
--- the field of so many bytes from a place on
-abbrev pub fieldAt : ℕ → ℕ → List ℕ → ℕ
-fieldAt place width s = fromBytes (take width (drop place s))
 
 -- ---- PR: drive, 1 byte; pattern number, 2 bytes; drives 1 to n in order
 
@@ -91,6 +82,10 @@ readRest n core sets p =
     refuseIf (not (isEmpty (c .rest))) TrailingBytes
     (untouchedLeft sets (record { numbers = p .numbers; crashes = c .crashes })))
 
--- the run file for a table of n drives with this chosen core and these survivor sets; 3 where no table has n drives
-unfoldable pub readRunFile : ℕ → ℕ → List ℕ → List ℕ → Outcome RunFile
-readRunFile n core sets s = refuseIf (not (isFrame n)) FrameSize (andThen (readProposals n [] s) (readRest n core sets))
+-- the run file behind an accepted table of n drives with this chosen core and these survivor sets
+unfoldable pub readBehind : ℕ → ℕ → List ℕ → List ℕ → Outcome RunFile
+readBehind n core sets s = andThen (readProposals n [] s) (readRest n core sets)
+
+-- the run file reader, a call given n and sets: first the table's refusals, 3, 2, 5, 4, 13, then those of the file
+unfoldable pub readRunFile : ℕ → List ℕ → List ℕ → Outcome RunFile
+readRunFile n sets s = andThen (chosenCore n sets) (λ core. readBehind n core sets s)

@@ -2,21 +2,19 @@
 use mathlib.Core.Path.{_≡_, refl}
 use mathlib.Core.List.{List, [], _∷_, _++_, map}
 use Prim.Native.Nat.{ℕ}
-use lib.Count.{onesIn}
-use Rattle.drive_sets.specs.Lists.{all}
-use Rattle.drive_sets.specs.Masks.{has, single, union, meets, size, ofDrives}
+use lib.ListN.{replicate}
+use Rattle.drive_sets.specs.Masks.{ofDrives}
 use Rattle.drive_sets.specs.Refusals.{Outcome, refused, result, number}
 use Rattle.hitting_sets.specs.Hitting.{hits}
-use Rattle.records.specs.Fields.{fromBytes}
-use Rattle.records.specs.Marks.{ascii, markText, mark, bodyWidth, kindOf, isDue, headOf}
-use Rattle.tables.specs.Tables.{isFrame, isEmpty}
-use Rattle.exchange.specs.State.{isDrive}
+use Rattle.records.specs.Marks.{ascii}
+use Rattle.tables.specs.Tables.{chosenCore}
+use Rattle.exchange.specs.Samples as calls
 use Rattle.runs.specs.CrashRecords.{CrashRecord, crashed, isNext, isRound, mostSends, checkedCrash}
-use Rattle.run_files.specs.RunFiles.{RunFile, readProposals, crashAt, atEnd, readCrashes, untouchedLeft, readRest, readRunFile}
+use Rattle.run_files.specs.RunFiles.{RunFile, readProposals, crashAt, atEnd, readCrashes, untouchedLeft, readRest, readBehind, readRunFile}
 
 -- all that the reader computes with: an `unfolding` line that names this opens it
-unfoldable pub evaluated : Unit {0}
-unfolding onesIn all has single union meets size ofDrives hits fromBytes ascii markText mark bodyWidth kindOf isDue headOf isFrame isEmpty crashed readProposals isDrive isNext isRound mostSends checkedCrash crashAt atEnd readCrashes untouchedLeft readRest readRunFile
+unfoldable evaluated : Unit {0}
+unfolding calls.evaluated ofDrives hits chosenCore crashed readProposals isNext isRound mostSends checkedCrash crashAt atEnd readCrashes untouchedLeft readRest readBehind readRunFile
 evaluated = tt
 
 -- ---- records, byte by byte
@@ -36,7 +34,7 @@ proposals = pr 1 7 0 ++ pr 2 5 0 ++ pr 3 9 0 ++ pr 4 1 0 ++ pr 5 1 0 ++ pr 6 1 0
 
 -- a run file for the table of case A, which has the chosen core 7
 onA : List ℕ → Outcome RunFile
-onA s = readRunFile 6 7 (1 ∷ 2 ∷ 0x3c ∷ []) s
+onA s = readRunFile 6 (1 ∷ 2 ∷ 0x3c ∷ []) s
 
 -- ---- the files of the marked cases
 
@@ -50,7 +48,7 @@ marked-files : (onA (proposals ++ cr 2 1 1 ++ en 1) ≡ saysB (crash 2 1 1 ∷ [
     × (onA (proposals ++ cr 2 1 0 ++ en 1) ≡ saysB (crash 2 1 0 ∷ []))
     × (onA (proposals ++ cr 2 1 3 ++ en 1) ≡ saysB (crash 2 1 3 ∷ []))
     × (onA (proposals ++ cr 1 1 0 ++ cr 2 2 0 ++ en 2) ≡ saysB (crash 1 1 0 ∷ crash 2 2 0 ∷ []))
-    × (readRunFile 1 1 (1 ∷ []) (pr 1 4 0 ++ en 0) ≡ result (record { numbers = 4 ∷ []; crashes = [] }))
+    × (readRunFile 1 (1 ∷ []) (pr 1 4 0 ++ en 0) ≡ result (record { numbers = 4 ∷ []; crashes = [] }))
 unfolding evaluated pr cr en proposals onA crash saysB
 marked-files = (refl, refl, refl, refl, refl)
 
@@ -69,11 +67,16 @@ gives (result a) k = record { given = 0; due = k }
 after : List ℕ → ℕ → Sample
 after s k = gives (onA (proposals ++ s)) k
 
-frames : List Sample
-frames =
-    gives (readRunFile 0 0 [] (en 0)) 3
-    ∷ gives (readRunFile 65 1 (1 ∷ []) []) 3
-    ∷ gives (readRunFile 64 1 (1 ∷ []) []) 1
+-- the table's refusals come before those of the file
+tables : List Sample
+tables =
+    gives (readRunFile 0 [] (en 0)) 3
+    ∷ gives (readRunFile 65 (0 ∷ []) []) 3
+    ∷ gives (readRunFile 64 [] []) 2
+    ∷ gives (readRunFile 6 (replicate 129 0) (ascii "XX")) 5
+    ∷ gives (readRunFile 6 (1 ∷ 0 ∷ []) []) 4
+    ∷ gives (readRunFile 6 (64 ∷ 1 ∷ []) (pr 2 7 0)) 4
+    ∷ gives (readRunFile 64 (1 ∷ []) []) 1
     ∷ []
 
 proposing : List Sample
@@ -130,12 +133,12 @@ ending =
     -- case G
     ∷ after (cr 1 1 0 ++ cr 2 1 0 ++ cr 3 1 0 ++ en 3) 11
     ∷ after (cr 1 1 0 ++ cr 2 1 0 ++ cr 6 1 0 ++ en 3) 11
-    ∷ gives (readRunFile 1 1 (1 ∷ []) (pr 1 4 0 ++ cr 1 1 0 ++ en 1)) 11
+    ∷ gives (readRunFile 1 (1 ∷ []) (pr 1 4 0 ++ cr 1 1 0 ++ en 1)) 11
     ∷ []
 
 samples : List Sample
-samples = frames ++ proposing ++ crashing ++ ending
+samples = tables ++ proposing ++ crashing ++ ending
 
 samples-given : map (λ c. c .given) samples ≡ map (λ c. c .due) samples
-unfolding evaluated samples frames proposing crashing ending after gives pr cr en proposals onA
+unfolding evaluated samples tables proposing crashing ending after gives pr cr en proposals onA
 samples-given = refl

@@ -2,12 +2,13 @@
 ghost use mathlib.Core.Path.{_≡_};
 ghost use Prim.Native.Nat.{ℕ, _≤_};
 ghost use lib.ListN.{take};
-ghost use Rattle.run_files.specs.RunFiles.{readRest, readRunFile};
+ghost use Rattle.run_files.specs.RunFiles.{readRest, readBehind, readRunFile};
 ghost use Rattle.run_files.specs.Reading.{finished, runFileOutcome};
 use crate::crashes::Crashes;
 use crate::listing;
 use crate::proposals;
 use drive_sets::Refusal;
+use tables::calls::Chosen;
 use tables::reading::Answer;
 
 // What a run file says, where it is accepted: the pattern numbers, drive 1 first, and the crashes by drive.
@@ -61,13 +62,11 @@ fn read_rest(s: &[u8], n: u8, core: u64, sets: &[u64], numbers: [u16; 64]) -> Ru
     }
 }
 
-// A run file for a table of n drives with this chosen core and these survivor sets.
-pub fn read_run_file(n: u8, core: u64, sets: &[u64], s: &[u8]) -> RunFile
-    ensures { λ r. ⌜ runFileOutcome n r ≡ readRunFile n core (now (sets .entry)) (now (s .entry)) ⌝ }
+// The run file behind an accepted table with this chosen core.
+fn read_behind(n: u8, core: u64, sets: &[u64], s: &[u8]) -> RunFile
+    requires { ⌜ n ≤ 64 ⌝ }
+    ensures { λ r. ⌜ runFileOutcome n r ≡ readBehind n core (now (sets .entry)) (now (s .entry)) ⌝ }
 {
-    if !tables::reading::is_frame(n) {
-        return refused_file(Refusal::FrameSize);
-    }
     let given = proposals::read_proposals(s, n);
     let answer = given.answer;
     let used = given.used;
@@ -75,5 +74,16 @@ pub fn read_run_file(n: u8, core: u64, sets: &[u64], s: &[u8]) -> RunFile
     match answer {
         Answer::Refused(r) => refused_file(r),
         Answer::Accepted => read_rest(&s[used..], n, core, sets, numbers),
+    }
+}
+
+// The run file reader, given n and sets and the bytes behind their table: the table's refusals, then those of the file.
+pub fn read_run_file(n: u8, sets: &[u64], s: &[u8]) -> RunFile
+    ensures { λ r. ⌜ runFileOutcome n r ≡ readRunFile n (now (sets .entry)) (now (s .entry)) ⌝ }
+{
+    let chosen = tables::calls::chosen_core(n, sets);
+    match chosen {
+        Chosen::Refused(r) => refused_file(r),
+        Chosen::Core(core) => read_behind(n, core, sets, s),
     }
 }

@@ -1,5 +1,5 @@
--- The canonical order of calls of a scenario, in which the code makes them: all openings; in each round all sends, then all messages, then all
--- closes, by drive. And what it gives for a drive.
+-- The canonical order of calls of a scenario: all openings; in each round all sends, then all messages, then all closes, by drive. And what it
+-- gives for a drive, which the code of the simulated exchange gives too.
 use mathlib.Core.Path.{_≡_}
 use mathlib.Core.List.{List, [], _∷_, _++_, map}
 use Prim.Native.Nat.{ℕ, zero, suc}

@@ -140,17 +140,17 @@ Tight = (n : ℕ) (sets : List ℕ) → normalTable n sets ≡ result (normal se
 unfoldable pub RunsExist : Type 0
 RunsExist = (s : Scenario) → Valid s → (calls : List Call) × Run s calls
 
--- ---- a drive that stays up decides in a round exactly when the rules of document 01 give it: when the rounds do
+-- ---- a drive, crashing later or not, decides in a round exactly when the rules of document 01 give it: when the rounds do
 
 unfoldable pub ByRules : Type 0
-ByRules = (s : Scenario) → Valid s → (calls : List Call) (run : Run s calls) → (d v k : ℕ) → Up s d
+ByRules = (s : Scenario) → Valid s → (calls : List Call) (run : Run s calls) → (d v k : ℕ)
     → DecidesAfter run d v k ↔ ((k < size (coreOf s)) × DecidesIn (instanceOf s) d v k)
 
--- ---- so two runs of one scenario leave the same decisions, made in the same rounds, at every drive that stays up
+-- ---- so in two runs of one scenario every drive decides on the same numbers in the same rounds, and those that stay up end the same
 
-pub record Same {s : Scenario} {calls calls′ : List Call} (run : Run s calls) (run′ : Run s calls′) (d : ℕ) : Type 0 where
-  pub decides : (v r : ℕ) → Decides run d v r → Decides run′ d v r
-  pub final : decisionOf (applyAll nothingOpen calls d) ≡ decisionOf (applyAll nothingOpen calls′ d)
+pub record Same {s : Scenario} {calls calls′ : List Call} (run : Run s calls) (run′ : Run s calls′) : Type 0 where
+  pub decides : (d v r : ℕ) → Decides run d v r → Decides run′ d v r
+  pub final : (d : ℕ) → Up s d → decisionOf (applyAll nothingOpen calls d) ≡ decisionOf (applyAll nothingOpen calls′ d)
 
 unfoldable pub SameResult : Type 0
-SameResult = (s : Scenario) → Valid s → (calls calls′ : List Call) (run : Run s calls) (run′ : Run s calls′) → (d : ℕ) → Up s d → Same run run′ d
+SameResult = (s : Scenario) → Valid s → (calls calls′ : List Call) (run : Run s calls) (run′ : Run s calls′) → Same run run′

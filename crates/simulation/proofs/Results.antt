@@ -18,11 +18,11 @@ use Rattle.drive_sets.specs.Masks.Sizes.{elem-drives, length-drives}
 use Rattle.drive_sets.specs.declared.Refusal.{Refusal}
 use Rattle.drive_sets.specs.declared.Refusal.the-variants.{NoneUntouched}
 use Rattle.drive_sets.specs.Refusals.{Outcome, refused, result, refuseIf, andThen}
-use Rattle.drive_sets.specs.Refusals.Laws.{refused-no-result, same-result, first-result}
+use Rattle.drive_sets.specs.Refusals.Laws.{refused-no-result}
 use Rattle.hitting_sets.specs.Hitting.{hits}
 use Rattle.hitting_sets.specs.Order.{normal}
 use Rattle.tables.specs.Tables.{chosen, normalTable, chosenCore}
-use Rattle.tables.specs.Tables.Laws.{Accepted, table-accepted, chosen-core}
+use Rattle.tables.specs.Tables.Laws.{Accepted, accepted-table, core-given, chosen-core}
 use Rattle.exchange.specs.State.{isDrive}
 use Rattle.exchange.specs.State.Laws.{drive-bounds, isDrive-range}
 use Rattle.runs.specs.Scenario.{Crash, stays, crashes, Scenario, frame, coreOf, hasCrash}
@@ -112,34 +112,21 @@ crash-listed c (x ∷ l) d =
 
 module _ (n : ℕ) (sets numbers : List ℕ) (c : Crashes) (core : ℕ) (word : c .crashed < 2 ^ 64) (e : chosenCore n sets ≡ result core) where
   -- the table is accepted, and this is its chosen core
-  record Chose : Type 0 where
-    accepted : normalTable n sets ≡ result (normal sets)
-    table : Accepted n sets
-    core-is : chosen (normal sets) ≡ core
-
-  chose : Chose
-  unfolding chosenCore
-  chose =
-      let first = first-result (normalTable n sets) (λ t. result (chosen t)) e in
-      let table = table-accepted n sets (first .0) (first .1) in
-      record {
-        accepted = first .1 ∙ ap result (table .1);
-        table = table .0;
-        core-is = ap chosen (sym (table .1)) ∙ same-result (first .2);
-      }
+  given : Accepted n sets × (chosen (normal sets) ≡ core)
+  given = core-given n sets e
 
   pub chosen-bounds : (n ≤ 64) × (core < 2 ^ n)
-  chosen-bounds = (chose .table .high, subst (λ (x : ℕ). x < 2 ^ n) (chose .core-is) (chosen-core n sets (chose .table) .within))
+  chosen-bounds = (given .0 .high, subst (λ (x : ℕ). x < 2 ^ n) (given .1) (chosen-core n sets (given .0) .within))
 
   pub told : ((i : ℕ) → getD numbers i 0 < 65536)
       → checkedCrashes n core 0 (files.crashesIn c) (result (files.crashesIn c)) ≡ result (files.crashesIn c)
       → Told n core numbers c (scenario n sets (take n numbers) (files.crashesIn c))
   unfolding scenario coreOf crashAt files.crashesIn
   told small checks = record {
-    says = record { frame-is = refl; core-is = chose .core-is; crash-is = crash-is };
-    valid = checked-valid n sets (take n numbers) (files.crashesIn c) (chose .accepted)
+    says = record { frame-is = refl; core-is = given .1; crash-is = crash-is };
+    valid = checked-valid n sets (take n numbers) (files.crashesIn c) (accepted-table n sets (given .0))
         (λ d h. subst (λ (v : ℕ). v < 65536) (sym (proposed d h)) (small (d - 1)))
-        (ap (λ (k : ℕ). checkedCrashes n k 0 (files.crashesIn c) (result (files.crashesIn c))) (chose .core-is) ∙ checks);
+        (ap (λ (k : ℕ). checkedCrashes n k 0 (files.crashesIn c) (result (files.crashesIn c))) (given .1) ∙ checks);
     proposal-is = proposed;
   }
     where
@@ -166,8 +153,8 @@ module _ (n : ℕ) (sets numbers : List ℕ) (c : Crashes) (core : ℕ) (word : 
       → checkedCrashes n core 0 crs (unlessTouched n sets nums crs) ≡ simulated n sets nums crs
   unfolding simulated
   with-core nums crs =
-      ap (λ (k : ℕ). checkedCrashes n k 0 crs (unlessTouched n sets nums crs)) (sym (chose .core-is))
-      ∙ ap (λ (o : Outcome (List ℕ)). andThen o (λ table. checkedCrashes n (chosen table) 0 crs (unlessTouched n sets nums crs))) (sym (chose .accepted))
+      ap (λ (k : ℕ). checkedCrashes n k 0 crs (unlessTouched n sets nums crs)) (sym (given .1))
+      ∙ ap (λ (o : Outcome (List ℕ)). andThen o (λ table. checkedCrashes n (chosen table) 0 crs (unlessTouched n sets nums crs))) (sym (accepted-table n sets (given .0)))
 
 -- a refused table
 pub table-refused : (n : ℕ) (sets nums : List ℕ) (crs : List CrashRecord) (q : Refusal) → chosenCore n sets ≡ refused q → refused q ≡ simulated n sets nums crs

@@ -43,7 +43,7 @@ pub fn gone_by(crashes: Crashes, d: Drive, round: Round) -> bool
     last <= round.0
 }
 
-// How many sends of this round's list the drive makes; as many as there are drives, more than a list has, where it has no CR for this round.
+// How many sends of this round's list the drive makes; 64, which no list is longer than, where it has no CR for this round.
 pub fn sends_made(crashes: Crashes, d: Drive, round: Round) -> u8
     ensures { λ r. ⌜ ((l : List ℕ) → length l ≤ 64 → cut (crashAt crashes (d .0)) (round .0) l ≡ take r l) ⌝ }
 {

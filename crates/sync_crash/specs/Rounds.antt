@@ -1,6 +1,6 @@
 -- The rounds of SyncCrash: what each drive holds after k rounds, from the proposals and the failure pattern alone. Document 01, "The
 -- exchange", sentence by sentence, with no message, buffer or mask: a set of drives is a test, and who is heard is a heard-of set
--- (Charron-Bost and Merz). Section 4 of the proof on paper. Rounds are counted from 1, so that round k + 1 begins after k rounds.
+-- (Charron-Bost and Merz). Section 4 of docs/AGREEMENT.md. Rounds are counted from 1, so that round k + 1 begins after k rounds.
 -- The rounds go on for ever: that all halt at the close of the round whose number is the core's size is left to the calls.
 use mathlib.Core.Path.{_≡_}
 use mathlib.Core.Bool.{Bool, true, false, not, _&&_, _||_, cond, Bool·beq}

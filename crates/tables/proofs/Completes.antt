@@ -7,7 +7,7 @@ use native.Mathlib.Nat.{sub-zero, le-of-lt}
 use native.Mathlib.Omega.{arith}
 use native.Mathlib.Numerals.{add-one}
 use lib.ListN.{length, getD, take, drop, length-drop, drop-of-length-le}
-use lib.Seq.{take-at, take-all, drop-cons, drop-length}
+use lib.Seq.{take-at, drop-cons, drop-length}
 use borrow.Author.Tests.{lt-ltb, le-ltb}
 use Rattle.drive_sets.specs.declared.Refusal.{Refusal}
 use Rattle.drive_sets.specs.declared.Refusal.the-variants.{WrongMark, FrameSize, BadSet, TooManySets, TrailingBytes, TooManyCores}
@@ -27,9 +27,9 @@ use Rattle.tables.specs.declared.reading.Answer.{Answer}
 use Rattle.tables.specs.declared.reading.Answer.the-variants.{Accepted, Refused}
 use Rattle.tables.specs.declared.files.TableFile.{TableFile}
 use Rattle.tables.specs.Tables.{isFrame, isSet, isEmpty, cores, uncrowded, normalTable}
-use Rattle.tables.specs.Files.{ReadTable, readListed}
+use Rattle.tables.specs.Files.{ReadTable, readListed, accepted, readTable, readWhole}
 use Rattle.tables.specs.Reading.{setsOf, outcomeOf, readOutcome}
-use Rattle.tables.specs.Complete.{Complete, ReadComplete, withCores, completeSets, completeTable, completeOutcome, acceptedWith, readComplete, readWholeComplete, fileOutcome}
+use Rattle.tables.specs.Complete.{Complete, ReadComplete, withCores, completeSets, completeTable, completeOutcome, readWithCores, readComplete, readWholeComplete, fileOutcome}
 
 -- ---- the normal table
 
@@ -72,14 +72,7 @@ module _ (n : ℕ) (sets part out out' : List ℕ) (found : ℕ) (e : part ≡ n
       ∙ sym (ap (λ (o : Outcome (List ℕ)). andThen o (λ table. result (withCores n table)))
       (cond-false _ _ (le-ltb 1024 (length (cores (normal sets))) (omega (arith, f .total, core-count)))))
 
--- ---- a table's array
-
--- all of it, where the count is larger
-pub all-taken : (t : Table) → length (t .sets) ≡ 128 → 128 < t .count → t .sets ≡ setsOf t
-unfolding setsOf
-all-taken t e h = sym (take-all (t .count) (t .sets) (omega arith))
-
--- as a part from the start on
+-- a table's sets, as a part of its array from the start on
 pub first-taken : (t : Table) → take (t .count - 0) (t .sets) ≡ setsOf t
 unfolding setsOf
 first-taken t = ap (λ (k : ℕ). take k (t .sets)) (sub-zero (t .count))
@@ -148,25 +141,38 @@ module _ (n : ℕ) (sets : List ℕ) where
 
 -- ---- tables from a file
 
--- a refused listing stays refused
-pub finish-refused : (l : TableRead) (t : TableFile) (q : Refusal) → l .answer ≡ Refused q → completeOutcome (t .complete) ≡ refused q → (s : List ℕ)
-    → fileOutcome t s ≡ andThen (readOutcome l s) acceptedWith
-unfolding fileOutcome readOutcome
-finish-refused l t q e f s =
-    ap (λ (o : Outcome Complete). andThen o (λ table. result (record { table = table; rest = drop (t .used) s }))) f
-    ∙ sym (ap (λ (a : Answer). andThen (outcomeOf a (record { n = l .table .n; sets = setsOf (l .table); rest = drop (l .used) s })) acceptedWith) e)
+-- what was listed, made complete
+abbrev complete-of : Outcome ReadTable → Outcome ReadComplete
+complete-of o = andThen (andThen o accepted) readWithCores
 
-pub finish-accepted : (l : TableRead) (t : TableFile) → l .answer ≡ Accepted → t .used ≡ l .used → completeOutcome (t .complete) ≡ completeSets (l .table .n) (setsOf (l .table)) → (s : List ℕ)
-    → fileOutcome t s ≡ andThen (readOutcome l s) acceptedWith
-unfolding fileOutcome readOutcome acceptedWith
-finish-accepted l t e u f s =
-    ap₂ (λ (o : Outcome Complete) (k : ℕ). andThen o (λ table. result (record { table = table; rest = drop k s }))) f u
-    ∙ sym (ap (λ (a : Answer). andThen (outcomeOf a (record { n = l .table .n; sets = setsOf (l .table); rest = drop (l .used) s })) acceptedWith) e)
+cores-accepted : (t : ReadTable) → andThen (completeSets (t .n) (t .sets)) (λ table. result (record { table = table; rest = t .rest })) ≡ andThen (accepted t) readWithCores
+unfolding completeSets accepted readWithCores
+cores-accepted t = go (uncrowded (t .sets))
+  where
+    go : (o : Outcome (List ℕ))
+        → andThen (andThen o (λ table. result (withCores (t .n) table))) (λ table. result (record { table = table; rest = t .rest }))
+        ≡ andThen (andThen o (λ table. result (record { n = t .n; sets = table; rest = t .rest }))) readWithCores
+    go (refused r) = refl
+    go (result table) = refl
 
-pub table-finished : (l : TableRead) (t : TableFile) (s : List ℕ) → readOutcome l s ≡ readListed s → fileOutcome t s ≡ andThen (readOutcome l s) acceptedWith
-    → fileOutcome t s ≡ readComplete s
-unfolding readComplete
-table-finished l t s e f = f ∙ ap (λ (o : Outcome ReadTable). andThen o acceptedWith) e
+abbrev listing : TableRead → List ℕ → ReadTable
+listing l s = record { n = l .table .n; sets = setsOf (l .table); rest = drop (l .used) s }
+
+module _ (l : TableRead) (t : TableFile) where
+  -- a refused listing stays refused
+  pub finish-refused : (q : Refusal) → l .answer ≡ Refused q → completeOutcome (t .complete) ≡ refused q → (s : List ℕ)
+      → fileOutcome t s ≡ andThen (andThen (readOutcome l s) accepted) readWithCores
+  unfolding fileOutcome readOutcome
+  finish-refused q e f s =
+      ap (λ (o : Outcome Complete). andThen o (λ table. result (record { table = table; rest = drop (t .used) s }))) f
+      ∙ sym (ap (λ (a : Answer). complete-of (outcomeOf a (listing l s))) e)
+
+  pub finish-accepted : l .answer ≡ Accepted → t .used ≡ l .used → completeOutcome (t .complete) ≡ completeSets (l .table .n) (setsOf (l .table)) → (s : List ℕ)
+      → fileOutcome t s ≡ andThen (andThen (readOutcome l s) accepted) readWithCores
+  unfolding fileOutcome readOutcome
+  finish-accepted e u f s =
+      ap₂ (λ (o : Outcome Complete) (k : ℕ). andThen o (λ table. result (record { table = table; rest = drop k s }))) f u
+      ∙ (cores-accepted (listing l s) ∙ sym (ap (λ (a : Answer). complete-of (outcomeOf a (listing l s))) e))
 
 -- nothing behind, or something
 rest-none : (s : List ℕ) (k : ℕ) → length s ≤ k → isEmpty (drop k s) ≡ true
@@ -176,14 +182,16 @@ rest-some : (s : List ℕ) (k : ℕ) → k < length s → isEmpty (drop k s) ≡
 rest-some s k h = some-elements (drop k s) (λ e. omega (arith, length-drop k s))
 
 abbrev whole-of : Outcome ReadTable → Outcome ReadComplete
-whole-of o = andThen o (λ t. refuseIf (not (isEmpty (t .rest))) TrailingBytes (acceptedWith t))
+whole-of o = andThen (andThen o (λ t. refuseIf (not (isEmpty (t .rest))) TrailingBytes (accepted t))) readWithCores
 
 module _ (l : TableRead) (t : TableFile) (s : List ℕ) (e : readOutcome l s ≡ readListed s) where
-  whole-answer : (a : Answer) → l .answer ≡ a
-      → whole-of (outcomeOf a (record { n = l .table .n; sets = setsOf (l .table); rest = drop (l .used) s })) ≡ readWholeComplete s
-  unfolding readOutcome readWholeComplete
-  whole-answer a f =
-      ap (λ (b : Answer). whole-of (outcomeOf b (record { n = l .table .n; sets = setsOf (l .table); rest = drop (l .used) s }))) (sym f) ∙ ap whole-of e
+  pub table-finished : fileOutcome t s ≡ andThen (andThen (readOutcome l s) accepted) readWithCores → fileOutcome t s ≡ readComplete s
+  unfolding readComplete readTable
+  table-finished f = f ∙ ap complete-of e
+
+  whole-answer : (a : Answer) → l .answer ≡ a → whole-of (outcomeOf a (listing l s)) ≡ readWholeComplete s
+  unfolding readOutcome readWholeComplete readWhole
+  whole-answer a f = ap (λ (b : Answer). whole-of (outcomeOf b (listing l s))) (sym f) ∙ ap whole-of e
 
   pub whole-refused : (q : Refusal) → l .answer ≡ Refused q → completeOutcome (t .complete) ≡ refused q → fileOutcome t s ≡ readWholeComplete s
   unfolding fileOutcome
@@ -191,18 +199,18 @@ module _ (l : TableRead) (t : TableFile) (s : List ℕ) (e : readOutcome l s ≡
       ap (λ (o : Outcome Complete). andThen o (λ table. result (record { table = table; rest = drop (t .used) s }))) g ∙ whole-answer (Refused q) f
 
   module _ (f : l .answer ≡ Accepted) where
+    whole-accepted : (b : Bool) → isEmpty (drop (l .used) s) ≡ b → andThen (refuseIf (not b) TrailingBytes (accepted (listing l s))) readWithCores ≡ readWholeComplete s
+    whole-accepted b h =
+        ap (λ (x : Bool). andThen (refuseIf (not x) TrailingBytes (accepted (listing l s))) readWithCores) (sym h) ∙ whole-answer Accepted f
+
     pub whole-trailing : l .used < length s → completeOutcome (t .complete) ≡ refused TrailingBytes → fileOutcome t s ≡ readWholeComplete s
     unfolding fileOutcome
     whole-trailing h g =
-        ap (λ (o : Outcome Complete). andThen o (λ table. result (record { table = table; rest = drop (t .used) s }))) g
-        ∙ (sym (cond-true _ _ (ap not (rest-some s (l .used) h))) ∙ whole-answer Accepted f)
+        ap (λ (o : Outcome Complete). andThen o (λ table. result (record { table = table; rest = drop (t .used) s }))) g ∙ whole-accepted false (rest-some s (l .used) h)
 
-    pub whole-finished : length s ≤ l .used → fileOutcome t s ≡ andThen (readOutcome l s) acceptedWith → fileOutcome t s ≡ readWholeComplete s
+    pub whole-finished : length s ≤ l .used → fileOutcome t s ≡ andThen (andThen (readOutcome l s) accepted) readWithCores → fileOutcome t s ≡ readWholeComplete s
     unfolding readOutcome
-    whole-finished h g =
-        g
-        ∙ (ap (λ (a : Answer). andThen (outcomeOf a (record { n = l .table .n; sets = setsOf (l .table); rest = drop (l .used) s })) acceptedWith) f
-        ∙ (sym (cond-false _ _ (ap not (rest-none s (l .used) h))) ∙ whole-answer Accepted f))
+    whole-finished h g = g ∙ (ap (λ (a : Answer). complete-of (outcomeOf a (listing l s))) f ∙ whole-accepted true (rest-none s (l .used) h))
 
 pub past-end : (s : List ℕ) (used : ℕ) → length s < used → take (length s - length s) (drop (length s) s) ≡ drop used s
 past-end s used h = rest-is s (length s) ∙ (drop-length s ∙ sym (drop-of-length-le s (le-of-lt h)))

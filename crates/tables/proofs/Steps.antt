@@ -8,7 +8,7 @@ use native.Mathlib.Numerals.{add-one}
 use lib.Dec.{eqb}
 use lib.ListN.{length, getD, take, drop, set, length-set, length-drop}
 use lib.Seq.{drop-cons, take-suc-set, drop-drop, length-take-le}
-use borrow.Author.Tests.{eq-eqb, ne-eqb, eqb-true, le-leb, lt-leb}
+use borrow.Author.Tests.{eq-eqb, ne-eqb, le-leb, lt-leb}
 use Rattle.drive_sets.specs.declared.Refusal.{Refusal}
 use Rattle.drive_sets.specs.declared.Refusal.the-variants.{FrameSize, BadSet, TooManySets, CountDiffers}
 use Rattle.drive_sets.specs.Bools.{cond-true, cond-false}
@@ -21,7 +21,7 @@ use Rattle.records.specs.declared.Head.{Head}
 use Rattle.records.specs.declared.Head.the-variants as heads
 use Rattle.records.specs.Fields.{fromBytes}
 use Rattle.records.specs.Marks.{mark, bodyWidth, isDue, headOf}
-use Rattle.records.specs.Marks.Laws.{head-present, mark-unique}
+use Rattle.records.specs.Marks.Laws.{head-present, kind-is}
 use Rattle.tables.specs.declared.reading.Step.{Step}
 use Rattle.tables.specs.declared.reading.Step.the-variants.{Set, End, Stop}
 use Rattle.tables.specs.declared.reading.Answer.{Answer}
@@ -151,9 +151,9 @@ module _ (s : List ℕ) (n : ℕ) (sets : List ℕ) (count at : ℕ) (r : Readin
 
 -- ---- the frame
 
-due-frame : (m : ℕ) → isDue AtFrame m ≡ true → m ≡ mark kinds.Frame
+due-frame : (k : Kind) → isDue AtFrame k ≡ true → k ≡ kinds.Frame
 unfolding isDue
-due-frame m d = eqb-true m (mark kinds.Frame) d
+due-frame k d = kind-is kinds.Frame k d
 
 frame-width : bodyWidth kinds.Frame ≡ 1
 unfolding bodyWidth
@@ -176,10 +176,7 @@ module _ (s : List ℕ) (head : Head) (h : head ≡ headOf AtFrame s) where
     pub frame-whole : 3 ≤ length s
     frame-whole =
         let p = head-present AtFrame s k (sym h ∙ e) in
-        omega (arith, p .long, ap bodyWidth (mark-unique k kinds.Frame (frame-mark (p .is-due))), frame-width)
-      where
-        frame-mark : isDue AtFrame (mark k) ≡ true → mark k ≡ mark kinds.Frame
-        frame-mark d = due-frame (mark k) d
+        omega (arith, p .long, ap bodyWidth (due-frame k (p .is-due)), frame-width)
 
     listed-is : refuseIf (not (isFrame (fromBytes (take 1 (drop 2 s))))) FrameSize (readSets 128 (fromBytes (take 1 (drop 2 s))) [] (drop 3 s)) ≡ readListed s
     unfolding readListed

@@ -1,14 +1,12 @@
 -- A normal table with its cores, and what an answer with both says.
-use mathlib.Core.Bool.{not}
 use mathlib.Core.List.{List}
-use Prim.Native.Nat.{ℕ}
-use lib.ListN.{take, drop}
-use Rattle.drive_sets.specs.Refusals.{Outcome, result, refuseIf, andThen}
-use Rattle.drive_sets.specs.declared.Refusal.the-variants.{TrailingBytes}
+use Prim.Native.Nat.{ℕ, _≤_}
+use lib.ListN.{length, take, drop}
+use Rattle.drive_sets.specs.Refusals.{Outcome, result, andThen}
 use Rattle.tables.specs.declared.completing.CoreTable.{CoreTable}
 use Rattle.tables.specs.declared.files.TableFile.{TableFile}
-use Rattle.tables.specs.Tables.{isEmpty, cores, uncrowded, normalTable}
-use Rattle.tables.specs.Files.{ReadTable, readListed}
+use Rattle.tables.specs.Tables.{cores, uncrowded, normalTable}
+use Rattle.tables.specs.Files.{ReadTable, readTable, readWhole}
 use Rattle.tables.specs.Reading.{setsOf, outcomeOf}
 
 pub record Complete : Type 0 where
@@ -32,6 +30,11 @@ completeTable n sets = andThen (normalTable n sets) (λ table. result (withCores
 unfoldable pub completeOutcome : CoreTable → Outcome Complete
 completeOutcome r = outcomeOf (r .answer) (record { n = r .table .n; sets = setsOf (r .table); cores = take (r .found) (r .cores) })
 
+-- its counts stay within the arrays
+pub record CompleteWithin (r : CoreTable) : Type 0 where
+  pub sets : r .table .count ≤ 128
+  pub cores : r .found ≤ 1024
+
 -- ---- tables from a file, with their cores
 
 -- what is read: the table with its cores, and the bytes after EN
@@ -39,17 +42,21 @@ pub record ReadComplete : Type 0 where
   pub table : Complete
   pub rest : List ℕ
 
--- a table as it was listed, made complete; 13 comes last
-unfoldable pub acceptedWith : ReadTable → Outcome ReadComplete
-acceptedWith t = andThen (completeSets (t .n) (t .sets)) (λ table. result (record { table = table; rest = t .rest }))
+unfoldable pub readWithCores : ReadTable → Outcome ReadComplete
+readWithCores t = result (record { table = withCores (t .n) (t .sets); rest = t .rest })
 
 -- with more behind it, and nothing more
 unfoldable pub readComplete : List ℕ → Outcome ReadComplete
-readComplete s = andThen (readListed s) acceptedWith
+readComplete s = andThen (readTable s) readWithCores
 
 unfoldable pub readWholeComplete : List ℕ → Outcome ReadComplete
-readWholeComplete s = andThen (readListed s) (λ t. refuseIf (not (isEmpty (t .rest))) TrailingBytes (acceptedWith t))
+readWholeComplete s = andThen (readWhole s) readWithCores
 
 -- what a reader's answer says of the bytes s
 unfoldable pub fileOutcome : TableFile → List ℕ → Outcome ReadComplete
 fileOutcome r s = andThen (completeOutcome (r .complete)) (λ table. result (record { table = table; rest = drop (r .used) s }))
+
+-- its counts stay within the arrays and the bytes s
+pub record FileWithin (r : TableFile) (s : List ℕ) : Type 0 where
+  pub complete : CompleteWithin (r .complete)
+  pub bytes : r .used ≤ length s

@@ -1,9 +1,9 @@
 -- Reading as the code does it, a record at a time, and what the reader's answer says.
 use mathlib.Core.Bool.{cond}
 use mathlib.Core.List.{List}
-use Prim.Native.Nat.{ℕ}
+use Prim.Native.Nat.{ℕ, _≤_}
 use lib.Dec.{eqb, leb}
-use lib.ListN.{take, drop}
+use lib.ListN.{length, take, drop}
 use Rattle.drive_sets.specs.declared.Refusal.the-variants.{BadSet, TooManySets, CountDiffers}
 use Rattle.drive_sets.specs.Refusals.{Outcome, refused, result}
 use Rattle.records.specs.declared.Kind.the-variants as kinds
@@ -37,6 +37,11 @@ module _ {A : Type 0} where
 -- the answer of a reader of the bytes s
 unfoldable pub readOutcome : TableRead → List ℕ → Outcome ReadTable
 readOutcome r s = outcomeOf (r .answer) (record { n = r .table .n; sets = setsOf (r .table); rest = drop (r .used) s })
+
+-- a reader's counts stay within the array and the bytes s
+pub record ReadWithin (r : TableRead) (s : List ℕ) : Type 0 where
+  pub sets : r .table .count ≤ 128
+  pub bytes : r .used ≤ length s
 
 -- ---- a record at a time, where `count` sets were listed before
 

@@ -1,17 +1,18 @@
 // The calls given n and sets or groups: the chosen core, whether some drives meet every set, Back, and the writer.
 ghost use mathlib.Core.Path.{_≡_};
+ghost use Prim.Native.Nat.{_≤_};
 ghost use Rattle.drive_sets.specs.Refusals.{refused};
 ghost use Rattle.hitting_sets.specs.Hitting.{hits};
 ghost use Rattle.tables.specs.Tables.{chosenCore, meetsEvery, survivorSets};
 ghost use Rattle.tables.specs.Answers.{chosenOutcome, meetingOutcome, listOutcome};
 use crate::completing;
-use crate::completing::MAX_CORES;
 use crate::completing::all_sets;
 use crate::reading::Answer;
-use crate::reading::MAX_SETS;
 use crate::reading::is_frame;
 use crate::reading::is_set;
 use drive_sets::Refusal;
+use hitting_sets::MAX_CORES;
+use hitting_sets::MAX_SETS;
 use hitting_sets::sorting::Order;
 
 pub enum Chosen {
@@ -81,6 +82,7 @@ pub fn meets_every(n: u8, sets: &[u64], group: u64) -> Meeting
 
 fn no_list(r: Refusal) -> SetList
     ensures { λ t. ⌜ listOutcome t ≡ refused r ⌝ }
+    ensures within { λ t. ⌜ t .count ≤ 128 ⌝ }
 {
     SetList {
         answer: Answer::Refused(r),
@@ -92,6 +94,7 @@ fn no_list(r: Refusal) -> SetList
 // Back: the smallest groups that meet each of the groups. 3, 13, 4, 5.
 pub fn survivor_sets(n: u8, groups: &[u64]) -> SetList
     ensures { λ r. ⌜ listOutcome r ≡ survivorSets n (now (groups .entry)) ⌝ }
+    ensures within { λ r. ⌜ r .count ≤ 128 ⌝ }
 {
     if !is_frame(n) {
         return no_list(Refusal::FrameSize);

@@ -2,20 +2,19 @@
 ghost use mathlib.Core.Path.{_≡_};
 ghost use Prim.Native.Nat.{_≤_};
 ghost use lib.ListN.{length};
-ghost use Rattle.tables.specs.Complete.{completeSets, completeTable, completeOutcome};
+ghost use Rattle.tables.specs.Complete.{completeSets, completeTable, completeOutcome, CompleteWithin};
 ghost use Rattle.tables.specs.Tables.{isSet};
 ghost use Rattle.drive_sets.specs.Lists.{all};
 ghost use Rattle.tables.specs.Reading.{setsOf};
 ghost use Rattle.drive_sets.specs.Refusals.{refused};
 use crate::reading::Answer;
-use crate::reading::MAX_SETS;
 use crate::reading::Table;
 use crate::reading::is_frame;
 use crate::reading::is_set;
 use drive_sets::Refusal;
+use hitting_sets::MAX_CORES;
+use hitting_sets::MAX_SETS;
 use hitting_sets::sorting::Order;
-
-pub const MAX_CORES: usize = 1024;
 
 // A normal table with its cores, the first `found` of the array, where it is accepted.
 pub struct CoreTable {
@@ -25,8 +24,9 @@ pub struct CoreTable {
     pub cores: [u64; 1024],
 }
 
-pub fn refused(r: Refusal) -> CoreTable
+pub(crate) fn refused(r: Refusal) -> CoreTable
     ensures { λ t. ⌜ completeOutcome t ≡ refused r ⌝ }
+    ensures within { λ t. ⌜ CompleteWithin t ⌝ }
 {
     CoreTable {
         answer: Answer::Refused(r),
@@ -44,6 +44,7 @@ pub fn refused(r: Refusal) -> CoreTable
 fn complete_sets(n: u8, sets: &[u64]) -> CoreTable
     requires { ⌜ length (now sets) ≤ 128 ⌝ }
     ensures { λ r. ⌜ completeOutcome r ≡ completeSets n (now (sets .entry)) ⌝ }
+    ensures within { λ r. ⌜ CompleteWithin r ⌝ }
 {
     let mut normal = [0u64; 128];
     let count = hitting_sets::normal_form::normal(sets, &mut normal);
@@ -70,21 +71,20 @@ fn complete_sets(n: u8, sets: &[u64]) -> CoreTable
     }
 }
 
-// The same of a table as it was listed.
-pub fn complete(t: Table) -> CoreTable
+// The same of the sets listed in an array.
+pub(crate) fn complete(t: Table) -> CoreTable
+    requires { ⌜ t .count ≤ 128 ⌝ }
     ensures { λ r. ⌜ completeOutcome r ≡ completeSets (t .n) (setsOf t) ⌝ }
+    ensures within { λ r. ⌜ CompleteWithin r ⌝ }
 {
     let n = t.n;
     let count = t.count;
     let sets = t.sets;
-    if MAX_SETS < count {
-        return complete_sets(n, &sets);
-    }
     complete_sets(n, &sets[0..count])
 }
 
 // Each is a set of the frame.
-pub fn all_sets(n: u8, sets: &[u64]) -> bool
+pub(crate) fn all_sets(n: u8, sets: &[u64]) -> bool
     ensures { λ r. ⌜ r ≡ all (isSet n) (now (sets .entry)) ⌝ }
 {
     let mut i = 0;
@@ -100,6 +100,7 @@ pub fn all_sets(n: u8, sets: &[u64]) -> bool
 // The normal table of n drives and some sets, with its cores: 3, 2, 5, 4, 13.
 pub fn accept(n: u8, sets: &[u64]) -> CoreTable
     ensures { λ r. ⌜ completeOutcome r ≡ completeTable n (now (sets .entry)) ⌝ }
+    ensures within { λ r. ⌜ CompleteWithin r ⌝ }
 {
     if !is_frame(n) {
         return refused(Refusal::FrameSize);

@@ -1,11 +1,12 @@
 // Tables from bytes: whole, or with the rest of the caller's slice handed back.
 ghost use mathlib.Core.Path.{_≡_};
 ghost use mathlib.Core.List.{List};
-ghost use Prim.Native.Nat.{ℕ};
+ghost use Prim.Native.Nat.{ℕ, _≤_};
 ghost use lib.ListN.{drop};
 ghost use Rattle.drive_sets.specs.Refusals.{refused, andThen};
-ghost use Rattle.tables.specs.Reading.{readOutcome};
-ghost use Rattle.tables.specs.Complete.{completeOutcome, acceptedWith, readComplete, readWholeComplete, fileOutcome};
+ghost use Rattle.tables.specs.Files.{accepted};
+ghost use Rattle.tables.specs.Reading.{readOutcome, ReadWithin};
+ghost use Rattle.tables.specs.Complete.{completeOutcome, readWithCores, readComplete, readWholeComplete, fileOutcome, FileWithin};
 use crate::completing;
 use crate::completing::CoreTable;
 use crate::reading;
@@ -20,7 +21,8 @@ pub struct TableFile {
 }
 
 fn refused_file(r: Refusal) -> TableFile
-    ensures { λ t. ⌜ (t .used ≡ 0) × (completeOutcome (t .complete) ≡ refused r) ⌝ }
+    ensures { λ t. ⌜ completeOutcome (t .complete) ≡ refused r ⌝ }
+    ensures within { λ t. ⌜ ((s : List ℕ) → FileWithin t s) ⌝ }
 {
     TableFile {
         complete: completing::refused(r),
@@ -30,7 +32,9 @@ fn refused_file(r: Refusal) -> TableFile
 
 // What was listed, made complete.
 fn finish(listed: TableRead) -> TableFile
-    ensures { λ t. ⌜ ((s : List ℕ) → fileOutcome t s ≡ andThen (readOutcome listed s) acceptedWith) ⌝ }
+    requires { ⌜ listed .table .count ≤ 128 ⌝ }
+    ensures { λ t. ⌜ ((s : List ℕ) → fileOutcome t s ≡ andThen (andThen (readOutcome listed s) accepted) readWithCores) ⌝ }
+    ensures within { λ t. ⌜ ((s : List ℕ) → ReadWithin listed s → FileWithin t s) ⌝ }
 {
     let answer = listed.answer;
     let table = listed.table;
@@ -47,6 +51,7 @@ fn finish(listed: TableRead) -> TableFile
 // A table with anything behind it.
 pub fn read_table(s: &[u8]) -> TableFile
     ensures { λ r. ⌜ fileOutcome r (now (s .entry)) ≡ readComplete (now (s .entry)) ⌝ }
+    ensures within { λ r. ⌜ FileWithin r (now (s .entry)) ⌝ }
 {
     finish(reading::read_listed(s))
 }
@@ -54,6 +59,7 @@ pub fn read_table(s: &[u8]) -> TableFile
 // A table and nothing more: bytes after the end meet 7.
 pub fn read_whole(s: &[u8]) -> TableFile
     ensures { λ r. ⌜ fileOutcome r (now (s .entry)) ≡ readWholeComplete (now (s .entry)) ⌝ }
+    ensures within { λ r. ⌜ FileWithin r (now (s .entry)) ⌝ }
 {
     let listed = reading::read_listed(s);
     let answer = listed.answer;

@@ -1,17 +1,16 @@
 // The table reader: FR with n, 1 to 128 SV with a mask, EN with their count. Refusals are found from left to right.
 ghost use mathlib.Core.Path.{_≡_};
-ghost use mathlib.Core.List.{[]};
-ghost use Prim.Native.Nat.{_≤_};
+ghost use mathlib.Core.List.{List, []};
+ghost use Prim.Native.Nat.{ℕ, _≤_};
 ghost use lib.ListN.{length, drop};
 ghost use Rattle.tables.specs.Tables.{isFrame, isSet};
 ghost use Rattle.tables.specs.Files.{readSets, readListed};
-ghost use Rattle.tables.specs.Reading.{dueOf, endStep, setStep, stepOf, readOutcome};
+ghost use Rattle.tables.specs.Reading.{dueOf, endStep, setStep, stepOf, readOutcome, ReadWithin};
 use drive_sets::Refusal;
+use hitting_sets::MAX_SETS;
 use records::Due;
 use records::Head;
 use records::Kind;
-
-pub const MAX_SETS: usize = 128;
 
 // A table: n drives, and its sets, the first `count` of the array.
 pub struct Table {
@@ -26,7 +25,7 @@ pub enum Answer {
 }
 
 // What reading gives: the table and how many bytes it took, where it is accepted.
-pub struct TableRead {
+pub(crate) struct TableRead {
     pub answer: Answer,
     pub table: Table,
     pub used: usize,
@@ -66,6 +65,7 @@ fn due_after(count: usize) -> Due
 
 fn refused(r: Refusal) -> TableRead
     ensures { λ t. ⌜ t .answer ≡ Answer.Refused r ⌝ }
+    ensures within { λ t. ⌜ ((s : List ℕ) → ReadWithin t s) ⌝ }
 {
     TableRead {
         answer: Answer::Refused(r),
@@ -124,6 +124,7 @@ fn next_step(s: &[u8], n: u8, count: usize) -> Step
 fn read_sets(s: &[u8], n: u8) -> TableRead
     requires { ⌜ 3 ≤ length (now s) ⌝ }
     ensures { λ r. ⌜ readOutcome r (now (s .entry)) ≡ readSets 128 n [] (drop 3 (now (s .entry))) ⌝ }
+    ensures within { λ r. ⌜ ReadWithin r (now (s .entry)) ⌝ }
 {
     let mut sets = [0u64; 128];
     let mut count = 0;
@@ -149,8 +150,9 @@ fn read_sets(s: &[u8], n: u8) -> TableRead
 }
 
 // A table as it is listed.
-pub fn read_listed(s: &[u8]) -> TableRead
+pub(crate) fn read_listed(s: &[u8]) -> TableRead
     ensures { λ r. ⌜ readOutcome r (now (s .entry)) ≡ readListed (now (s .entry)) ⌝ }
+    ensures within { λ r. ⌜ ReadWithin r (now (s .entry)) ⌝ }
 {
     let head = records::read_head(s, Due::AtFrame);
     match head {

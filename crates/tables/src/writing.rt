@@ -7,7 +7,6 @@ ghost use Rattle.records.specs.Fields.{written};
 ghost use Rattle.tables.specs.Files.{setRecords, tableBytes, writeTable};
 use crate::completing;
 use crate::reading::Answer;
-use crate::reading::MAX_SETS;
 use drive_sets::Refusal;
 use records::END;
 use records::FRAME;
@@ -30,7 +29,7 @@ fn put_sets(part: &mut [u8], sets: &[u64])
 }
 
 // The table of n drives and these sets over the first bytes of the part; every other byte stays. Nothing where it does not fit.
-pub fn put_table(part: &mut [u8], n: u8, sets: &[u64])
+fn put_table(part: &mut [u8], n: u8, sets: &[u64])
     ensures { λ _. ⌜ now (part .exit) ≡ written (tableBytes n (now (sets .entry))) (now (part .entry)) ⌝ }
 {
     if part.len() < 6 {
@@ -79,11 +78,6 @@ pub fn write_table(n: u8, sets: &[u64], buf: &mut [u8], start: usize) -> Writing
     let count = table.count;
     match answer {
         Answer::Refused(r) => Writing::Refused(r),
-        Answer::Accepted => {
-            if MAX_SETS < count {
-                return write_sets(n, &normal, buf, start);
-            }
-            write_sets(n, &normal[0..count], buf, start)
-        }
+        Answer::Accepted => write_sets(n, &normal[0..count], buf, start),
     }
 }

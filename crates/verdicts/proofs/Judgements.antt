@@ -17,7 +17,7 @@ use Rattle.tables.specs.Reading.{setsOf}
 use Rattle.tables.specs.Complete.{completeTable, completeOutcome}
 use Rattle.tables.proofs.Accepts.{accept-refused, accept-taken}
 use Rattle.verdicts.specs.declared.Verdict.{Verdict as Answer}
-use Rattle.verdicts.specs.Held.{verdictOf, fits, verdictWithin, judgementOf}
+use Rattle.verdicts.specs.Held.{verdictOf, answerOf, fits, verdictWithin, judgementOf, heldIn}
 use Rattle.verdicts.specs.Verdicts.{Verdict, verdictOn, verdict}
 
 module _ (k n : ℕ) (sets : List ℕ) (good : Bool) (is : good ≡ (leb 2 k && leb k 4)) where
@@ -45,9 +45,17 @@ module _ (k n : ℕ) (sets : List ℕ) (good : Bool) (is : good ≡ (leb 2 k && 
           ap (λ (l : List ℕ). result (verdictOn k n l)) same
           ∙ (sym (ap (λ (o : Outcome (List ℕ)). andThen o (λ l. result (verdictOn k n l))) (accept-taken n sets t e f .table)) ∙ within)
 
--- the verdict on a normal table as the answer of the call
-pub judged-on : (k n : ℕ) (table : List ℕ) (v : Answer) → 2 ≤ k → k ≤ 4 → length table ≤ 128 → verdictOf v k ≡ verdictWithin k n table
-    → judgementOf (record { answer = answers.Accepted; verdict = v }) k ≡ result (verdictOn k n table)
-unfolding judgementOf verdictWithin fits
-judged-on k n table v low high few e =
-    ap (λ (w : Verdict). result w) (e ∙ cond-true _ _ (and-intro (le-leb 2 k low) (and-intro (le-leb k 4 high) (le-leb (length table) 128 few))))
+-- ---- the verdict on a normal table as the answer of the call
+
+module _ (k n : ℕ) (table : List ℕ) (v : Answer) (low : 2 ≤ k) (high : k ≤ 4) (few : length table ≤ 128) where
+  fitting : verdictWithin k n table ≡ verdictOn k n table
+  unfolding verdictWithin fits
+  fitting = cond-true _ _ (and-intro (le-leb 2 k low) (and-intro (le-leb k 4 high) (le-leb (length table) 128 few)))
+
+  pub judged-on : verdictOf v k ≡ verdictWithin k n table → judgementOf (record { answer = answers.Accepted; verdict = v }) k ≡ result (verdictOn k n table)
+  unfolding judgementOf
+  judged-on e = ap (λ (w : Verdict). result w) (e ∙ fitting)
+
+  pub held-on : v ≡ answerOf (verdictWithin k n table) → v ≡ heldIn (result (verdictOn k n table))
+  unfolding heldIn
+  held-on e = e ∙ ap answerOf fitting

@@ -6,7 +6,7 @@ use mathlib.Core.Option.{Option, some, none}
 use Prim.Native.Nat.{ℕ, suc}
 use lib.Dec.{leb, ltb}
 use lib.ListN.{length, take}
-use Rattle.drive_sets.specs.Refusals.{Outcome}
+use Rattle.drive_sets.specs.Refusals.{Outcome, refused, result}
 use Rattle.tables.specs.Reading.{outcomeOf}
 use Rattle.verdicts.specs.declared.Found.{Found}
 use Rattle.verdicts.specs.declared.calls.Judgement.{Judgement}
@@ -50,3 +50,8 @@ verdictWithin k n table = cond (fits k (length table)) (verdictOn k n table) yes
 -- what the answer of the call on k says
 unfoldable pub judgementOf : Judgement → ℕ → Outcome Verdict
 judgementOf j k = outcomeOf (j .answer) (verdictOf (j .verdict) k)
+
+-- and what its arrays hold: the verdict, or those of a yes beside a refusal
+unfoldable pub heldIn : Outcome Verdict → Answer
+heldIn (refused r) = answerOf yes
+heldIn (result v) = answerOf v

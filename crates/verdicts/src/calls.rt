@@ -6,13 +6,12 @@ ghost use lib.Dec.{leb};
 ghost use lib.ListN.{length};
 ghost use Rattle.drive_sets.specs.Refusals.{refused, result};
 ghost use Rattle.verdicts.specs.Verdicts.{verdictOn, verdict};
-ghost use Rattle.verdicts.specs.Held.{judgementOf};
+ghost use Rattle.verdicts.specs.Held.{judgementOf, heldIn};
 use crate::MAX_BLOCKS;
 use crate::MIN_BLOCKS;
 use crate::Verdict;
 use drive_sets::Refusal;
 use tables::reading::Answer;
-use tables::reading::MAX_SETS;
 
 // A verdict where the call is accepted.
 pub struct Judgement {
@@ -28,7 +27,8 @@ fn is_block_count(k: u8) -> bool
 }
 
 fn refused(r: Refusal) -> Judgement
-    ensures { λ j. ⌜ ((k : ℕ) → judgementOf j k ≡ refused r) ⌝ }
+    ensures says { λ j. ⌜ ((k : ℕ) → judgementOf j k ≡ refused r) ⌝ }
+    ensures whole { λ j. ⌜ j .verdict ≡ heldIn (refused r) ⌝ }
 {
     Judgement {
         answer: Answer::Refused(r),
@@ -43,7 +43,8 @@ fn refused(r: Refusal) -> Judgement
 // The verdict on a normal table, as the answer of the call.
 fn on_normal(k: u8, n: u8, table: &[u64]) -> Judgement
     requires { ⌜ (2 ≤ k) × (k ≤ 4) × (length (now table) ≤ 128) ⌝ }
-    ensures { λ j. ⌜ judgementOf j k ≡ result (verdictOn k n (now (table .entry))) ⌝ }
+    ensures says { λ j. ⌜ judgementOf j k ≡ result (verdictOn k n (now (table .entry))) ⌝ }
+    ensures whole { λ j. ⌜ j .verdict ≡ heldIn (result (verdictOn k n (now (table .entry)))) ⌝ }
 {
     Judgement {
         answer: Answer::Accepted,
@@ -53,7 +54,8 @@ fn on_normal(k: u8, n: u8, table: &[u64]) -> Judgement
 
 // The verdict on k of the table of n drives and some sets: 12, 3, 2, 5, 4, 13.
 pub fn judge(k: u8, n: u8, sets: &[u64]) -> Judgement
-    ensures { λ j. ⌜ judgementOf j k ≡ verdict k n (now (sets .entry)) ⌝ }
+    ensures says { λ j. ⌜ judgementOf j k ≡ verdict k n (now (sets .entry)) ⌝ }
+    ensures whole { λ j. ⌜ j .verdict ≡ heldIn (verdict k n (now (sets .entry))) ⌝ }
 {
     if !is_block_count(k) {
         return refused(Refusal::BlockCount);
@@ -65,11 +67,6 @@ pub fn judge(k: u8, n: u8, sets: &[u64]) -> Judgement
     let count = table.count;
     match answer {
         Answer::Refused(r) => refused(r),
-        Answer::Accepted => {
-            if MAX_SETS < count {
-                return on_normal(k, n, &normal);
-            }
-            on_normal(k, n, &normal[0..count])
-        }
+        Answer::Accepted => on_normal(k, n, &normal[0..count]),
     }
 }

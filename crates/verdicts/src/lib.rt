@@ -9,7 +9,7 @@ ghost use Rattle.drive_sets.specs.Lists.{elem};
 ghost use Rattle.verdicts.specs.Verdicts.{setsAt, disjoint, blocksOf};
 ghost use Rattle.verdicts.specs.Meaning.{inEvery};
 ghost use Rattle.verdicts.specs.Held.{verdictOf, answerOf, withBlocks, foundIn, foundAt, fits, verdictWithin};
-use tables::reading::MAX_SETS;
+use hitting_sets::MAX_SETS;
 
 pub mod calls;
 

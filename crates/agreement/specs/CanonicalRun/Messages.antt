@@ -12,7 +12,7 @@ use borrow.Author.Tests.{eqb-true, ltb-true, not-true}
 use Rattle.drive_sets.specs.Bools.{clash, by-test, false-of, and-intro, and-left, and-right, or-left, or-swap, or-false}
 use Rattle.drive_sets.specs.Lists.{keep, all, elem, ordered, distinct}
 use Rattle.drive_sets.specs.Lists.Laws.{elem-head, elem-tail, elem-cases, all-elem, any-intro}
-use Rattle.drive_sets.specs.Lists.Takes.{first-kept}
+use Rattle.drive_sets.specs.Lists.Takes.{first-kept-is}
 use Rattle.drive_sets.specs.Lists.Distinct.{distinct-head, distinct-tail}
 use Rattle.drive_sets.specs.Refusals.{result}
 use Rattle.runs.specs.World.{Call, delivers, World, apply}
@@ -75,7 +75,7 @@ module _ (s : Scenario) (r : ℕ) (w₀ : World) (k : Writes s r w₀) (closed :
 
       whose : getD (keep (owes s r w₀ now e (k .written a)) (frame s)) 0 0 ≡ a
       whose =
-          first-kept (owes s r w₀ now e (k .written a)) (frame s) a (frame-rising s) (sender-frame s r w₀ a here) owes-it
+          first-kept-is (owes s r w₀ now e (k .written a)) (frame s) a (frame-rising s) (sender-frame s r w₀ a here) owes-it
           (λ x i lt. earlier-owes-not x lt)
 
       message-due : (w : World) → due s r w₀ now w (delivers e (k .written a)) ≡ true

@@ -15,7 +15,7 @@ use Rattle.drive_sets.specs.Masks.{size}
 use Rattle.exchange.specs.Calls.{decisionOn}
 use Rattle.sync_crash.specs.Rounds.{Instance, Lawful, DecidesIn, start, after, decision}
 use Rattle.sync_crash.specs.Rounds.Decisions.{decision-later}
-use Rattle.runs.specs.World.{Call, World, nothingOpen, applyAll, decisionOf}
+use Rattle.runs.specs.World.{Call, World, nothingOpen, applyAll}
 use Rattle.runs.specs.Scenario.{Scenario, coreOf}
 use Rattle.runs.specs.Runs.{emptyBook, roundPart, roundParts}
 use Rattle.runs.specs.Instance.{instanceOf}

@@ -1,5 +1,5 @@
--- A whole run follows the abstract rounds: the world before each round, and after the last, is the one that they give; and a drive that stays
--- up decides in the list just when it decides in the rounds.
+-- A whole run follows the abstract rounds: the world before each round, and after the last, is the one that they give; and a drive decides in
+-- the list just when it decides in the rounds.
 use mathlib.Core.Path.{_≡_, sym, ap, _∙_, subst}
 use mathlib.Core.Bool.{true}
 use mathlib.Core.List.{List, [], _∷_, _++_, nil≢cons}
@@ -13,7 +13,7 @@ use Rattle.drive_sets.specs.Bools.{by-test, and-left, and-right}
 use Rattle.drive_sets.specs.Masks.{size}
 use Rattle.exchange.specs.Calls.{decisionOn}
 use Rattle.sync_crash.specs.Rounds.{DecidesIn, decision}
-use Rattle.sync_crash.specs.Rounds.Steps.{Closer, undecided-awake}
+use Rattle.sync_crash.specs.Rounds.Decisions.{decider-closes}
 use Rattle.runs.specs.World.{Call, closes, World, nothingOpen, apply, applyAll, decisionOf, roundIn}
 use Rattle.runs.specs.World.Laws.{applyAll-append}
 use Rattle.runs.specs.Scenario.{Scenario, coreOf}
@@ -107,7 +107,7 @@ module _ {s : Scenario} (ok : Valid s) where
     closed-world k earlier d =
         applyAll-append nothingOpen (callsBefore run k ++ earlier) (closes d ∷ []) ∙ ap (λ (w : World). apply w (closes d)) (world-at k earlier)
 
-    module _ {d : ℕ} (u : Up s d) (v k : ℕ) where
+    module _ (d v k : ℕ) where
       -- what the rounds say is so in the list
       pub rounds-decide : k < size (coreOf s) → DecidesIn (instanceOf s) d v k → DecidesAfter run d v k
       unfolding decisionOn
@@ -121,15 +121,8 @@ module _ {s : Scenario} (ok : Valid s) where
         decided = ap (λ (w : World). decisionOf (w d)) (closed-world k (c .earlier) d) ∙ (c .after ∙ ap decisionOn (i .decided));
       }
         where
-          closer : Closer (instanceOf s) k d
-          closer = record {
-            in-frame = up-inFrame s u;
-            awake = undecided-awake (lawful ok) k d (i .undecided);
-            up = correct-staysUp s d (up-correct s u) (suc k);
-          }
-
           c : ClosesIn s k (worldBefore k) (partAt run k) d
-          c = closer-closes ok h (begins-at k (omega arith)) (partAt run k) d closer (part-at k h)
+          c = closer-closes ok h (begins-at k (omega arith)) (partAt run k) d (decider-closes (lawful ok) k d (i .undecided) (i .decided)) (part-at k h)
 
       -- and nothing else is
       pub decides-rounds : DecidesAfter run d v k → (k < size (coreOf s)) × DecidesIn (instanceOf s) d v k

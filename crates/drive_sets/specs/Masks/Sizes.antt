@@ -18,7 +18,7 @@ use Rattle.drive_sets.specs.Lists.Laws.{elem-head, elem-tail, all-intro,
 use Rattle.drive_sets.specs.Lists.Distinct.{ordered-distinct}
 use Rattle.drive_sets.specs.Masks.{has, single, full, union, common, minus, meets, subset, size, lowest, drives, ofDrives}
 use Rattle.drive_sets.specs.Masks.Bits.{bit, bit-lt, bit-zero, bit-suc, half-lt, and-odd, and-half, or-odd, or-half, minus-half, minus-odd}
-use Rattle.drive_sets.specs.Masks.Laws.{has-none, has-union, has-minus, has-single, has-bounds, has-ext, union-lt, minus-lt, single-lt, full-lt, full-is, has-subset, not-meets, meets-sym, meets-none}
+use Rattle.drive_sets.specs.Masks.Laws.{has-none, has-union, has-minus, has-single, has-bounds, has-ext, union-lt, minus-lt, single-lt, full-lt, full-is, has-subset, meets-none}
 
 -- ---- the count of ones
 
@@ -95,13 +95,6 @@ size-single (suc i) p q =
 
 pub size-full : (n : ℕ) → n ≤ 64 → size (full n) ≡ n
 size-full n h = sym (ones-size (full n) (omega (arith, full-lt n, pow-mono h))) ∙ (ap ones (full-is n h) ∙ ones-ones n)
-
--- one drive more, one drive less
-pub size-insert : (d m : ℕ) → 1 ≤ d → d ≤ 64 → has d m ≡ false → size (union m (single d)) ≡ suc (size m)
-size-insert d m p q e = omega (arith, size-disjoint m (single d) apart, size-single d p q)
-  where
-    apart : meets m (single d) ≡ false
-    apart = meets-sym m (single d) ∙ not-meets 64 (single d) m (single-lt 64 d q) (λ x h. ap (λ (y : ℕ). has y m) (eqb-true x d (sym (has-single x d p q) ∙ h)) ∙ e)
 
 pub single-subset : (d m : ℕ) → 1 ≤ d → d ≤ 64 → has d m ≡ true → subset (single d) m ≡ true
 single-subset d m p q e =
@@ -221,11 +214,6 @@ pub ofDrives-drives : (m : ℕ) → m < 2 ^ 64 → ofDrives (drives m) ≡ m
 ofDrives-drives m h =
     has-ext 64 (ofDrives (drives m)) m (ofDrives-lt 64 (drives m) (λ d e. drives-bounds d m h e .1)) h
     (λ d p q. has-ofDrives d (drives m) (λ x e. drives-bounds x m h e) ∙ elem-drives d m h)
-
-pub drives-ofDrives : (l : List ℕ) → ordered ltb l ≡ true → ((d : ℕ) → elem d l ≡ true → (1 ≤ d) × (d ≤ 64)) → drives (ofDrives l) ≡ l
-drives-ofDrives l o f =
-    rising-unique (drives (ofDrives l)) l (drives-rising (ofDrives l)) o
-    (λ x. elem-drives x (ofDrives l) (ofDrives-lt 64 l (λ d e. f d e .1)) ∙ has-ofDrives x l f)
 
 -- a walk takes the lowest drive and goes on with the others
 pub drives-lowest : (m : ℕ) → m < 2 ^ 64 → (m ≡ 0 → ⊥) → drives m ≡ lowest m ∷ drives (minus m (single (lowest m)))

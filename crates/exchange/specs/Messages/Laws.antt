@@ -15,7 +15,7 @@ use Rattle.records.specs.declared.Kind.the-variants.{Known, Decide}
 use Rattle.records.specs.declared.Head.the-variants.{Record}
 use Rattle.records.specs.Fields.{fromBytes, toBytes}
 use Rattle.records.specs.Fields.Laws.{length-toBytes, field-back}
-use Rattle.records.specs.Marks.{ascii, markText, mark, bodyWidth, isDue, headOf}
+use Rattle.records.specs.Marks.{ascii, markText, mark, bodyWidth, isKind, isDue, headOf}
 use Rattle.records.specs.Marks.Laws.{head-body}
 use Rattle.exchange.specs.Messages.{numberBytes, knownBytes, decideBytes, isKnown, fieldAt, senderOf, roundOf, maskOf, patternOf, Entry, entriesFrom, entries, lengthOf}
 
@@ -63,7 +63,7 @@ module _ (sender round mask : ℕ) (number : ℕ → ℕ) where
   length-known = omega (arith, length-numbers number (drives mask), length-drives mask)
 
   pub known-head : headOf AtMessage (knownBytes sender round mask number) ≡ Record Known
-  unfolding knownBytes toBytes bodyWidth isDue mark markText ascii fromBytes
+  unfolding knownBytes toBytes bodyWidth isDue isKind mark markText ascii fromBytes
   known-head = head-body AtMessage Known _ refl (omega arith)
 
   pub known-sender : sender < 256 → senderOf (knownBytes sender round mask number) ≡ sender
@@ -105,7 +105,7 @@ module _ (sender round pattern : ℕ) where
   length-decide = refl
 
   pub decide-head : headOf AtMessage (decideBytes sender round pattern) ≡ Record Decide
-  unfolding decideBytes toBytes bodyWidth isDue mark markText ascii fromBytes
+  unfolding decideBytes toBytes bodyWidth isDue isKind mark markText ascii fromBytes
   decide-head = head-body AtMessage Decide _ refl (omega arith)
 
   pub decide-sender : sender < 256 → senderOf (decideBytes sender round pattern) ≡ sender

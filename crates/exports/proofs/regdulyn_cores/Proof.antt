@@ -23,13 +23,13 @@ put-list-requires : tie.Need-put-list-requires
 put-list-requires c κs = search needs
 
 returns : tie.Need-returns
-returns c = let a = c .before .before .before .before .before .before .before .before .args in told-refused _ _ (cores-refused (a .n) (a .sets .now) (c .before .before .before .before .before .accept .result) (c .before .before .before .before .before .accept .ensures) _ (c .before .before .answer .given .1)) _ (a .out .now) (c .refusal-code .ensures)
+returns c = let a = c .before .before .before .before .before .before .before .before .args in told-refused _ _ (cores-refused (a .n) (a .sets .now) (c .before .before .before .before .before .accept .result) (c .before .before .before .before .before .accept .ensures .0) _ (c .before .before .answer .given .1)) _ (a .out .now) (c .refusal-code .ensures)
 
 same-length : tie.Need-same-length
 same-length c = search needs
 
 returns-2 : tie.Need-returns-2
-returns-2 c = let a = c .before .before .before .before .before .before .before .before .before .before .before .args in told _ _ (cores-listed (a .n) (a .sets .now) (c .before .before .before .before .before .before .before .before .accept .result) (c .before .before .before .before .before .before .before .before .accept .ensures) (c .before .before .before .before .before .enum-told .given .1)) _ (a .out .now) _ (c .before .before .put-list .ensures .0) (c .before .before .put-list .ensures .1)
+returns-2 c = let a = c .before .before .before .before .before .before .before .before .before .before .before .args in told _ _ (cores-listed (a .n) (a .sets .now) (c .before .before .before .before .before .before .before .before .accept .result) (c .before .before .before .before .before .before .before .before .accept .ensures .0) (c .before .before .before .before .before .enum-told .given .1)) _ (a .out .now) _ (c .before .before .put-list .ensures .0) (c .before .before .put-list .ensures .1)
 
 pub regdulyn-cores-spec : {M : Type 1} → statement M
 regdulyn-cores-spec =

@@ -20,10 +20,10 @@ verdict-code-requires : tie.Need-verdict-code-requires
 verdict-code-requires c κs = search needs
 
 returns : tie.Need-returns
-returns c = let a = c .before .before .before .before .before .before .before .args in judged-as (c .before .before .before .before .before .judge .result) (a .k) (a .n) (a .sets .now) (c .before .before .before .before .before .judge .ensures) _ (c .before .before .answer .given .1) _ (c .refusal-code .ensures)
+returns c = let a = c .before .before .before .before .before .before .before .args in judged-as (c .before .before .before .before .before .judge .result) (a .k) (a .n) (a .sets .now) (c .before .before .before .before .before .judge .ensures .0) _ (c .before .before .answer .given .1) _ (c .refusal-code .ensures)
 
 returns-2 : tie.Need-returns-2
-returns-2 c = let a = c .before .before .before .before .before .before .args in judged-as (c .before .before .before .before .judge .result) (a .k) (a .n) (a .sets .now) (c .before .before .before .before .judge .ensures) _ (c .before .enum-told .given .1) _ (c .verdict-code .ensures)
+returns-2 c = let a = c .before .before .before .before .before .before .args in judged-as (c .before .before .before .before .judge .result) (a .k) (a .n) (a .sets .now) (c .before .before .before .before .judge .ensures .0) _ (c .before .enum-told .given .1) _ (c .verdict-code .ensures)
 
 pub regdulyn-verdict-spec : {M : Type 1} → statement M
 regdulyn-verdict-spec =

@@ -4,9 +4,6 @@ use mathlib.Core.Path.{_∙_}
 use borrow.Author.Needs.{needs}
 use Rattle.records.proofs.field.Statement.{statement}
 use Rattle.records.proofs.field.Tie as tie
-use Rattle.records.proofs.field.Reads as reads
-use Rattle.records.proofs.field.Lts as lts
-use Rattle.records.proofs.from_bytes.Reads as from-bytes-reads
 
 -- src/lib.rt:84:9
 returns : tie.Need-returns

@@ -1,12 +1,18 @@
--- Which marks are due where: every arm is told the place, and a place for two kinds makes two tests.
+-- Which kinds are due where, by their marks: every arm is told the place, and a place for two kinds makes two tests.
 use mathlib.Core.Path.{sym, ap, _∙_}
+use mathlib.Core.Bool.{_||_}
+use Prim.Native.Nat.{ℕ}
+use lib.Dec.{eqb}
 use Rattle.records.specs.declared.Due.{Due}
 use Rattle.records.specs.Fields.{fromBytes}
-use Rattle.records.specs.Marks.{ascii, markText, mark, isDue}
+use Rattle.records.specs.Marks.{ascii, markText, mark, isKind, isDue}
 use Rattle.records.proofs.Matches.{first-due, second-due}
 use borrow.Author.Needs.{needs}
 use Rattle.records.proofs.is_due.Statement.{statement}
 use Rattle.records.proofs.is_due.Tie as tie
+
+mark-of-requires : tie.Need-mark-of-requires
+mark-of-requires c κs = search needs
 
 enum-told : tie.Need-enum-told
 enum-told c = search needs
@@ -27,45 +33,61 @@ enum-told-6 : tie.Need-enum-told-6
 enum-told-6 c = search needs
 
 returns : tie.Need-returns
-unfolding isDue mark markText ascii fromBytes
-returns c = sym (ap (λ (d : Due). isDue d (c .before .before .args .m)) (c .enum-told .given .1))
+unfolding isDue isKind mark markText ascii fromBytes
+returns c =
+    ap (λ (m : ℕ). eqb m 21062) (c .before .before .mark-of .ensures) ∙ sym (ap (λ (d : Due). isDue d (c .before .before .before .args .k)) (c .enum-told .given .1))
 
 returns-2 : tie.Need-returns-2
-unfolding isDue mark markText ascii fromBytes
-returns-2 c = sym (ap (λ (d : Due). isDue d (c .before .before .args .m)) (c .enum-told2 .given .1))
+unfolding isDue isKind mark markText ascii fromBytes
+returns-2 c =
+    ap (λ (m : ℕ). eqb m 22099) (c .before .before .mark-of .ensures) ∙ sym (ap (λ (d : Due). isDue d (c .before .before .before .args .k)) (c .enum-told2 .given .1))
 
 returns-3 : tie.Need-returns-3
-unfolding isDue mark markText ascii fromBytes
-returns-3 c = first-due (c .before .before .before .args .m) 22099 20037 (c .if1 .taken) ∙ sym (ap (λ (d : Due). isDue d (c .before .before .before .args .m)) (c .before .enum-told3 .given .1))
+unfolding isDue isKind mark markText ascii fromBytes
+returns-3 c =
+    first-due _ 22099 20037 (c .if1 .taken)
+    ∙ (ap (λ (m : ℕ). eqb m 22099 || eqb m 20037) (c .before .before .before .mark-of .ensures) ∙ sym (ap (λ (d : Due). isDue d (c .before .before .before .before .args .k)) (c .before .enum-told3 .given .1)))
 
 returns-4 : tie.Need-returns-4
-unfolding isDue mark markText ascii fromBytes
-returns-4 c = second-due (c .before .before .before .args .m) 22099 20037 (c .if1 .left) ∙ sym (ap (λ (d : Due). isDue d (c .before .before .before .args .m)) (c .before .enum-told3 .given .1))
+unfolding isDue isKind mark markText ascii fromBytes
+returns-4 c =
+    second-due _ 22099 20037 (c .if1 .left)
+    ∙ (ap (λ (m : ℕ). eqb m 22099 || eqb m 20037) (c .before .before .before .mark-of .ensures) ∙ sym (ap (λ (d : Due). isDue d (c .before .before .before .before .args .k)) (c .before .enum-told3 .given .1)))
 
 returns-5 : tie.Need-returns-5
-unfolding isDue mark markText ascii fromBytes
-returns-5 c = sym (ap (λ (d : Due). isDue d (c .before .before .args .m)) (c .enum-told4 .given .1))
+unfolding isDue isKind mark markText ascii fromBytes
+returns-5 c =
+    ap (λ (m : ℕ). eqb m 21072) (c .before .before .mark-of .ensures) ∙ sym (ap (λ (d : Due). isDue d (c .before .before .before .args .k)) (c .enum-told4 .given .1))
 
 returns-6 : tie.Need-returns-6
-unfolding isDue mark markText ascii fromBytes
-returns-6 c = first-due (c .before .before .before .args .m) 21059 20037 (c .if2 .taken) ∙ sym (ap (λ (d : Due). isDue d (c .before .before .before .args .m)) (c .before .enum-told5 .given .1))
+unfolding isDue isKind mark markText ascii fromBytes
+returns-6 c =
+    first-due _ 21059 20037 (c .if2 .taken)
+    ∙ (ap (λ (m : ℕ). eqb m 21059 || eqb m 20037) (c .before .before .before .mark-of .ensures) ∙ sym (ap (λ (d : Due). isDue d (c .before .before .before .before .args .k)) (c .before .enum-told5 .given .1)))
 
 returns-7 : tie.Need-returns-7
-unfolding isDue mark markText ascii fromBytes
-returns-7 c = second-due (c .before .before .before .args .m) 21059 20037 (c .if2 .left) ∙ sym (ap (λ (d : Due). isDue d (c .before .before .before .args .m)) (c .before .enum-told5 .given .1))
+unfolding isDue isKind mark markText ascii fromBytes
+returns-7 c =
+    second-due _ 21059 20037 (c .if2 .left)
+    ∙ (ap (λ (m : ℕ). eqb m 21059 || eqb m 20037) (c .before .before .before .mark-of .ensures) ∙ sym (ap (λ (d : Due). isDue d (c .before .before .before .before .args .k)) (c .before .enum-told5 .given .1)))
 
 returns-8 : tie.Need-returns-8
-unfolding isDue mark markText ascii fromBytes
-returns-8 c = first-due (c .before .before .before .args .m) 20043 17220 (c .if3 .taken) ∙ sym (ap (λ (d : Due). isDue d (c .before .before .before .args .m)) (c .before .enum-told6 .given .1))
+unfolding isDue isKind mark markText ascii fromBytes
+returns-8 c =
+    first-due _ 20043 17220 (c .if3 .taken)
+    ∙ (ap (λ (m : ℕ). eqb m 20043 || eqb m 17220) (c .before .before .before .mark-of .ensures) ∙ sym (ap (λ (d : Due). isDue d (c .before .before .before .before .args .k)) (c .before .enum-told6 .given .1)))
 
 returns-9 : tie.Need-returns-9
-unfolding isDue mark markText ascii fromBytes
-returns-9 c = second-due (c .before .before .before .args .m) 20043 17220 (c .if3 .left) ∙ sym (ap (λ (d : Due). isDue d (c .before .before .before .args .m)) (c .before .enum-told6 .given .1))
+unfolding isDue isKind mark markText ascii fromBytes
+returns-9 c =
+    second-due _ 20043 17220 (c .if3 .left)
+    ∙ (ap (λ (m : ℕ). eqb m 20043 || eqb m 17220) (c .before .before .before .mark-of .ensures) ∙ sym (ap (λ (d : Due). isDue d (c .before .before .before .before .args .k)) (c .before .enum-told6 .given .1)))
 
 pub is-due-spec : {M : Type 1} → statement M
 is-due-spec =
     tie.close
     (tie.spec
+    mark-of-requires
     enum-told
     enum-told-2
     enum-told-3

@@ -1,105 +1,19 @@
--- Whether a kind is the end record's: one arm for each kind.
-use mathlib.Core.Path.{sym, ap}
+-- A kind is known by its mark.
+use mathlib.Core.Path.{ap}
+use Prim.Native.Nat.{ℕ}
 use lib.Dec.{eqb}
-use Rattle.records.specs.declared.Kind.{Kind}
-use Rattle.records.specs.declared.Kind.the-variants.{End}
 use Rattle.records.specs.Fields.{fromBytes}
 use Rattle.records.specs.Marks.{ascii, markText, mark}
 use borrow.Author.Needs.{needs}
 use Rattle.records.proofs.is_end.Statement.{statement}
 use Rattle.records.proofs.is_end.Tie as tie
-use Rattle.records.proofs.is_end.Reads as reads
-use Rattle.records.proofs.is_end.Lts as lts
 
--- src/lib.rt:160:24
-enum-told : tie.Need-enum-told
-enum-told c = search needs
+mark-of-requires : tie.Need-mark-of-requires
+mark-of-requires c κs = search needs
 
--- src/lib.rt:161:27
-enum-told-2 : tie.Need-enum-told-2
-enum-told-2 c = search needs
-
--- src/lib.rt:162:27
-enum-told-3 : tie.Need-enum-told-3
-enum-told-3 c = search needs
-
--- src/lib.rt:163:24
-enum-told-4 : tie.Need-enum-told-4
-enum-told-4 c = search needs
-
--- src/lib.rt:164:22
-enum-told-5 : tie.Need-enum-told-5
-enum-told-5 c = search needs
-
--- src/lib.rt:165:24
-enum-told-6 : tie.Need-enum-told-6
-enum-told-6 c = search needs
-
--- src/lib.rt:166:25
-enum-told-7 : tie.Need-enum-told-7
-enum-told-7 c = search needs
-
--- src/lib.rt:167:26
-enum-told-8 : tie.Need-enum-told-8
-enum-told-8 c = search needs
-
--- src/lib.rt:156:1
 returns : tie.Need-returns
 unfolding mark markText ascii fromBytes
-returns c = sym (ap (λ (k : Kind). eqb (mark k) (mark End)) (c .enum-told .given .1))
-
--- src/lib.rt:156:1
-returns-2 : tie.Need-returns-2
-unfolding mark markText ascii fromBytes
-returns-2 c = sym (ap (λ (k : Kind). eqb (mark k) (mark End)) (c .enum-told2 .given .1))
-
--- src/lib.rt:156:1
-returns-3 : tie.Need-returns-3
-unfolding mark markText ascii fromBytes
-returns-3 c = sym (ap (λ (k : Kind). eqb (mark k) (mark End)) (c .enum-told3 .given .1))
-
--- src/lib.rt:156:1
-returns-4 : tie.Need-returns-4
-unfolding mark markText ascii fromBytes
-returns-4 c = sym (ap (λ (k : Kind). eqb (mark k) (mark End)) (c .enum-told4 .given .1))
-
--- src/lib.rt:156:1
-returns-5 : tie.Need-returns-5
-unfolding mark markText ascii fromBytes
-returns-5 c = sym (ap (λ (k : Kind). eqb (mark k) (mark End)) (c .enum-told5 .given .1))
-
--- src/lib.rt:156:1
-returns-6 : tie.Need-returns-6
-unfolding mark markText ascii fromBytes
-returns-6 c = sym (ap (λ (k : Kind). eqb (mark k) (mark End)) (c .enum-told6 .given .1))
-
--- src/lib.rt:156:1
-returns-7 : tie.Need-returns-7
-unfolding mark markText ascii fromBytes
-returns-7 c = sym (ap (λ (k : Kind). eqb (mark k) (mark End)) (c .enum-told7 .given .1))
-
--- src/lib.rt:156:1
-returns-8 : tie.Need-returns-8
-unfolding mark markText ascii fromBytes
-returns-8 c = sym (ap (λ (k : Kind). eqb (mark k) (mark End)) (c .enum-told8 .given .1))
+returns c = ap (λ (m : ℕ). eqb m 20037) (c .mark-of .ensures)
 
 pub is-end-spec : {M : Type 1} → statement M
-is-end-spec =
-    tie.close
-    (tie.spec
-    enum-told
-    enum-told-2
-    enum-told-3
-    enum-told-4
-    enum-told-5
-    enum-told-6
-    enum-told-7
-    enum-told-8
-    returns
-    returns-2
-    returns-3
-    returns-4
-    returns-5
-    returns-6
-    returns-7
-    returns-8)
+is-end-spec = tie.close (tie.spec mark-of-requires returns)

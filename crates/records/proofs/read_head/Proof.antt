@@ -19,14 +19,17 @@ part-from-bytes-end c = search needs
 from-bytes-requires : tie.Need-from-bytes-requires
 from-bytes-requires c κs = search needs
 
+kind-of-requires : tie.Need-kind-of-requires
+kind-of-requires c κs = search needs
+
 is-due-requires : tie.Need-is-due-requires
 is-due-requires c κs = search needs
 
 returns-2 : tie.Need-returns-2
-returns-2 c = head-not-due (c .before .before .before .before .before .before .args .due) (c .before .before .before .before .before .before .args .s .now) _ _ (c .before .before .before .before .if1 .left) (c .before .before .from-bytes .ensures) (c .before .is-due .ensures) (c .if2 .taken)
-
-kind-of-requires : tie.Need-kind-of-requires
-kind-of-requires c κs = search needs
+returns-2 c =
+    let a = c .before .before .before .before .before .before .before .args in
+    head-not-due (a .due) (a .s .now) _ _ _ (c .before .before .before .before .before .if1 .left) (c .before .before .before .from-bytes .ensures)
+    (c .before .before .kind-of .ensures) (c .before .is-due .ensures) (c .if2 .taken)
 
 sub-if3 : tie.Need-sub-if3
 sub-if3 c = search needs
@@ -35,10 +38,16 @@ body-width-requires : tie.Need-body-width-requires
 body-width-requires c κs = search needs
 
 returns-3 : tie.Need-returns-3
-returns-3 c = head-body-cut (c .before .before .before .before .before .before .before .before .before .args .due) (c .before .before .before .before .before .before .before .before .before .args .s .now) _ _ (c .before .before .before .before .before .before .before .if1 .left) (c .before .before .before .before .before .from-bytes .ensures) (c .before .before .before .before .is-due .ensures) (c .before .before .before .if2 .left) _ _ (c .before .before .kind-of .ensures) (c .before .body-width .ensures) (c .if3 .taken)
+returns-3 c =
+    let a = c .before .before .before .before .before .before .before .before .before .args in
+    head-body-cut (a .due) (a .s .now) _ _ _ (c .before .before .before .before .before .before .before .if1 .left) (c .before .before .before .before .before .from-bytes .ensures)
+    (c .before .before .before .before .kind-of .ensures) (c .before .before .before .is-due .ensures) (c .before .before .if2 .left) _ (c .before .body-width .ensures) (c .if3 .taken)
 
 returns-4 : tie.Need-returns-4
-returns-4 c = head-found (c .before .before .before .before .before .before .before .before .before .args .due) (c .before .before .before .before .before .before .before .before .before .args .s .now) _ _ (c .before .before .before .before .before .before .before .if1 .left) (c .before .before .before .before .before .from-bytes .ensures) (c .before .before .before .before .is-due .ensures) (c .before .before .before .if2 .left) _ _ (c .before .before .kind-of .ensures) (c .before .body-width .ensures) (c .if3 .left)
+returns-4 c =
+    let a = c .before .before .before .before .before .before .before .before .before .args in
+    head-found (a .due) (a .s .now) _ _ _ (c .before .before .before .before .before .before .before .if1 .left) (c .before .before .before .before .before .from-bytes .ensures)
+    (c .before .before .before .before .kind-of .ensures) (c .before .before .before .is-due .ensures) (c .before .before .if2 .left) _ (c .before .body-width .ensures) (c .if3 .left)
 
 pub read-head-spec : {M : Type 1} → statement M
 read-head-spec =
@@ -49,9 +58,9 @@ read-head-spec =
     part-from-bytes-start
     part-from-bytes-end
     from-bytes-requires
+    kind-of-requires
     is-due-requires
     returns-2
-    kind-of-requires
     sub-if3
     body-width-requires
     returns-3

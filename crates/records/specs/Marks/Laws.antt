@@ -1,25 +1,23 @@
 -- Laws of marks and records: a mark is read back as its kind, and a record that was written is found where it is due, with its field
 -- and what stands behind it.
 use mathlib.Core.Path.{_≡_, refl, sym, ap, _∙_, subst}
-use mathlib.Core.Bool.{true, not, _||_}
-use mathlib.Core.Logic.{⊎-elim}
+use mathlib.Core.Bool.{true, not}
 use mathlib.Core.List.{List, _++_, append-assoc}
 use Prim.Native.Nat.{ℕ, _+_, _^_, _≤_, _<_}
 use native.Mathlib.Omega.{arith}
 use lib.ListN.{length, take, drop, length-append}
 use lib.Seq.{take-at, drop-at}
-use lib.Dec.{eqb, ltb}
-use borrow.Author.Tests.{le-ltb, eqb-true, ltb-false, not-false}
-use Rattle.drive_sets.specs.Bools.{by-test, or-cases, cond-true, cond-false}
+use lib.Dec.{ltb}
+use borrow.Author.Tests.{le-ltb, ltb-false, eqb-true, not-false}
+use Rattle.drive_sets.specs.Bools.{by-test, cond-true, cond-false}
 use Rattle.drive_sets.specs.declared.Refusal.{Refusal}
 use Rattle.records.specs.declared.Due.{Due}
 use Rattle.records.specs.declared.Kind.{Kind}
 use Rattle.records.specs.declared.Kind.the-variants.{Frame, Survivor, Proposal, Crash, End, Known, Decide, Unknown}
-use Rattle.records.specs.declared.Due.the-variants.{AtFrame, AtFirstSet, AtSetOrEnd, AtProposal, AtCrashOrEnd, AtMessage}
 use Rattle.records.specs.declared.Head.the-variants.{Record, Refused}
 use Rattle.records.specs.Fields.{fromBytes, toBytes}
 use Rattle.records.specs.Fields.Laws.{length-toBytes, field-back}
-use Rattle.records.specs.Marks.{ascii, markText, mark, bodyWidth, kindOf, isDue, headOf, recordBytes}
+use Rattle.records.specs.Marks.{ascii, markText, mark, bodyWidth, kindOf, isKind, isDue, headOf, recordBytes}
 
 pub kind-mark : (k : Kind) → kindOf (mark k) ≡ k
 unfolding kindOf mark markText ascii fromBytes
@@ -49,12 +47,6 @@ length-record m width x = length-append (toBytes 2 m) (toBytes width x) ∙ omeg
 
 -- what was written, with anything behind it
 module _ (m width x : ℕ) (rest : List ℕ) where
-  pub record-mark : m < 256 ^ 2 → fromBytes (take 2 (recordBytes m width x ++ rest)) ≡ m
-  unfolding recordBytes
-  record-mark h =
-      ap (λ (l : List ℕ). fromBytes (take 2 l)) (append-assoc (toBytes 2 m) (toBytes width x) rest)
-      ∙ (ap fromBytes (take-at (toBytes 2 m) (toBytes width x ++ rest) 2 (length-toBytes 2 m)) ∙ field-back 2 m h)
-
   pub record-field : x < 256 ^ width → fromBytes (take width (drop 2 (recordBytes m width x ++ rest))) ≡ x
   unfolding recordBytes
   record-field h =
@@ -66,11 +58,11 @@ module _ (m width x : ℕ) (rest : List ℕ) where
   record-rest = drop-at (recordBytes m width x) rest (2 + width) (length-record m width x)
 
 -- a mark that is due, and behind it at least as many bytes as its kind asks for
-pub head-body : (due : Due) (k : Kind) (body : List ℕ) → isDue due (mark k) ≡ true → bodyWidth k ≤ length body → headOf due (toBytes 2 (mark k) ++ body) ≡ Record k
+pub head-body : (due : Due) (k : Kind) (body : List ℕ) → isDue due k ≡ true → bodyWidth k ≤ length body → headOf due (toBytes 2 (mark k) ++ body) ≡ Record k
 unfolding headOf
 head-body due k body d long =
     cond-false _ _ (le-ltb (length s) 2 (omega (arith, whole)))
-    ∙ (cond-false _ _ (ap not (ap (isDue due) is-mark ∙ d))
+    ∙ (cond-false _ _ (ap not (ap (isDue due) is-kind ∙ d))
     ∙ (cond-false _ _ (le-ltb (length s) (2 + bodyWidth (kindOf (fromBytes (take 2 s)))) (omega (arith, whole, ap bodyWidth is-kind))) ∙ ap Record is-kind))
   where
     s : List ℕ
@@ -85,7 +77,7 @@ head-body due k body d long =
     is-kind : kindOf (fromBytes (take 2 s)) ≡ k
     is-kind = ap kindOf is-mark ∙ kind-mark k
 
-pub head-record : (due : Due) (k : Kind) (x : ℕ) (rest : List ℕ) → isDue due (mark k) ≡ true
+pub head-record : (due : Due) (k : Kind) (x : ℕ) (rest : List ℕ) → isDue due k ≡ true
     → headOf due (recordBytes (mark k) (bodyWidth k) x ++ rest) ≡ Record k
 unfolding recordBytes
 head-record due k x rest d =
@@ -95,28 +87,12 @@ head-record due k x rest d =
 
 -- ---- what is found is due
 
-mark-kind : (m : ℕ) (k : Kind) → m ≡ mark k → mark (kindOf m) ≡ m
-mark-kind m k e = ap (λ (x : ℕ). mark (kindOf x)) e ∙ (ap mark (kind-mark k) ∙ sym e)
-
-one-of : (m : ℕ) (j k : Kind) → (eqb m (mark j) || eqb m (mark k)) ≡ true → mark (kindOf m) ≡ m
-one-of m j k e =
-    ⊎-elim (λ h. mark-kind m j (eqb-true m (mark j) h)) (λ h. mark-kind m k (eqb-true m (mark k) h)) (or-cases (eqb m (mark j)) (eqb m (mark k)) e)
-
-due-kind : (due : Due) (m : ℕ) → isDue due m ≡ true → mark (kindOf m) ≡ m
-unfolding isDue
-due-kind AtFrame m e = mark-kind m Frame (eqb-true m (mark Frame) e)
-due-kind AtFirstSet m e = mark-kind m Survivor (eqb-true m (mark Survivor) e)
-due-kind AtSetOrEnd m e = one-of m Survivor End e
-due-kind AtProposal m e = mark-kind m Proposal (eqb-true m (mark Proposal) e)
-due-kind AtCrashOrEnd m e = one-of m Crash End e
-due-kind AtMessage m e = one-of m Known Decide e
-
 record-not-refused : {r : Refusal} {k : Kind} → Refused r ≡ Record k → ⊥
 record-not-refused e = let z : _≡_ {A = ℕ} 0 1 = cc in omega arith
 
 -- the record found: its mark is due, and its body is there
 pub record Present (due : Due) (s : List ℕ) (k : Kind) : Type 0 where
-  pub is-due : isDue due (mark k) ≡ true
+  pub is-due : isDue due k ≡ true
   pub long : 2 + bodyWidth k ≤ length s
 
 pub head-present : (due : Due) (s : List ℕ) (k : Kind) → headOf due s ≡ Record k → Present due s k
@@ -124,14 +100,14 @@ unfolding headOf
 head-present due s k e =
     by-test (ltb (length s) 2)
     (λ h. absurd (record-not-refused (sym (cond-true _ _ h) ∙ e)))
-    (λ h. by-test (not (isDue due m))
+    (λ h. by-test (not (isDue due (kindOf m)))
     (λ n. absurd (record-not-refused (sym (cond-false _ _ h ∙ cond-true _ _ n) ∙ e)))
     (λ n. by-test (ltb (length s) (2 + bodyWidth (kindOf m)))
     (λ b. absurd (record-not-refused (sym (cond-false _ _ h ∙ (cond-false _ _ n ∙ cond-true _ _ b)) ∙ e)))
     (λ b. let found : Record (kindOf m) ≡ Record k = sym (cond-false _ _ h ∙ (cond-false _ _ n ∙ cond-false _ _ b)) ∙ e in
     let kind : kindOf m ≡ k = cc in
     record {
-      is-due = ap (isDue due) (ap mark (sym kind) ∙ due-kind due m (not-false (isDue due m) n)) ∙ not-false (isDue due m) n;
+      is-due = ap (isDue due) (sym kind) ∙ not-false (isDue due (kindOf m)) n;
       long = subst (λ (j : Kind). 2 + bodyWidth j ≤ length s) kind (ltb-false (length s) (2 + bodyWidth (kindOf m)) b);
     })))
   where
@@ -139,5 +115,6 @@ head-present due s k e =
     m = fromBytes (take 2 s)
 
 -- a kind is known by its mark
-pub mark-unique : (j k : Kind) → mark j ≡ mark k → j ≡ k
-mark-unique j k e = sym (kind-mark j) ∙ (ap kindOf e ∙ kind-mark k)
+pub kind-is : (j k : Kind) → isKind j k ≡ true → k ≡ j
+unfolding isKind
+kind-is j k e = sym (kind-mark k) ∙ (ap kindOf (eqb-true (mark k) (mark j) e) ∙ kind-mark j)

@@ -1,32 +1,23 @@
--- Laws of the crashes by drive: one more of a drive above the others is one more at the end of the list, and the list's crash of a drive
--- is the one at its place. What an answer that is no refusal says.
+-- Laws of the crashes by drive: one more of a drive above the others is one more at the end of the list.
 use mathlib.Core.Path.{_≡_, refl, sym, ap, ap₂, _∙_}
-use mathlib.Core.Bool.{Bool, true, cond, _||_}
+use mathlib.Core.Bool.{Bool, true, _||_}
 use mathlib.Core.List.{List, [], _∷_, _++_, map, map-append}
-use mathlib.Core.Option.{Option, none, some}
-use Prim.Native.Nat.{ℕ, _+_, _-_, _^_, _≤_, _<_}
+use Prim.Native.Nat.{ℕ, _-_, _^_, _≤_, _<_}
 use native.Mathlib.Omega.{arith}
 use lib.Dec.{eqb, ltb}
-use lib.ListN.{length, getD, take, set}
-use lib.Seq.{getD-set-same, getD-set-other, getD-take}
-use borrow.Author.Tests.{lt-ltb, eqb-true, eqb-false, eq-eqb, ne-eqb}
-use Rattle.drive_sets.specs.Bools.{by-test, and-intro, and-left, and-right, cond-true, cond-false}
+use lib.ListN.{length, getD, set}
+use lib.Seq.{getD-set-same, getD-set-other}
+use borrow.Author.Tests.{lt-ltb}
+use Rattle.drive_sets.specs.Bools.{and-intro, and-left, and-right}
 use Rattle.drive_sets.specs.Lists.{all, elem, ordered}
-use Rattle.drive_sets.specs.Lists.Laws.{elem-none, elem-head, elem-tail, elem-last, any-true, any-false, all-append}
+use Rattle.drive_sets.specs.Lists.Laws.{elem-head, elem-tail, elem-last, all-append}
 use Rattle.drive_sets.specs.Masks.{has, single, union, drives, ofDrives}
 use Rattle.drive_sets.specs.Masks.Laws.{has-bounds}
 use Rattle.drive_sets.specs.Masks.OneDrive.{has-insert, insert-lt}
 use Rattle.drive_sets.specs.Masks.Sizes.{elem-drives, drives-rising, drives-none, rising-unique, ofDrives-drives}
-use Rattle.drive_sets.specs.Refusals.{result}
-use Rattle.drive_sets.specs.Refusals.Laws.{refused-no-result, same-result}
-use Rattle.tables.specs.declared.reading.Answer.{Answer}
-use Rattle.tables.specs.declared.reading.Answer.the-variants.{Accepted, Refused}
-use Rattle.tables.specs.Reading.{outcomeOf}
 use Rattle.run_files.specs.declared.crashes.Crashes.{Crashes}
-use Rattle.run_files.specs.declared.reading.RunFile as files
 use Rattle.runs.specs.CrashRecords.{CrashRecord, crashed}
-use Rattle.run_files.specs.RunFiles.{RunFile, proposalOf, crashOf}
-use Rattle.run_files.specs.Reading.{crashIn, crashesIn, runFileOutcome, noted}
+use Rattle.run_files.specs.Reading.{crashIn, crashesIn, noted}
 
 -- ---- lists
 
@@ -96,46 +87,3 @@ module _ (c : Crashes) (d q m : ℕ) (word : c .crashed < 2 ^ 64) (rounds : leng
     where
       mask : drives (noted c d q m .crashed) ≡ drives (c .crashed) ++ (d ∷ [])
       mask = drives-above (c .crashed) d word low high above
-
--- ---- the crash of a drive
-
-crash-of-map : (c : Crashes) (l : List ℕ) (d : ℕ) → crashOf (map (crashIn c) l) d ≡ cond (elem d l) (some (crashIn c d)) none
-unfolding crashOf crashIn elem
-crash-of-map c [] d = sym (cond-false (some (crashIn c d)) none (elem-none d))
-crash-of-map c (x ∷ l) d =
-    by-test (eqb x d)
-    (λ t. cond-true (some (crashIn c x)) rest t
-    ∙ (ap (λ (y : ℕ). some (crashIn c y)) (eqb-true x d t) ∙ sym (cond-true (some (crashIn c d)) none (any-true (eqb d) x l (eq-eqb d x (sym (eqb-true x d t)))))))
-    (λ t. cond-false (some (crashIn c x)) rest t
-    ∙ (crash-of-map c l d ∙ ap (λ (b : Bool). cond b (some (crashIn c d)) none) (sym (any-false (eqb d) x l (ne-eqb d x (λ e. eqb-false x d t (sym e)))))))
-  where
-    rest : Option CrashRecord
-    rest = crashOf (map (crashIn c) l) d
-
--- a drive of the mask has the crash at its place, and the others have none
-pub crash-in : (c : Crashes) → c .crashed < 2 ^ 64 → (d : ℕ) → crashOf (crashesIn c) d ≡ cond (has d (c .crashed)) (some (crashIn c d)) none
-unfolding crashesIn
-crash-in c word d = crash-of-map c (drives (c .crashed)) d ∙ ap (λ (b : Bool). cond b (some (crashIn c d)) none) (elem-drives d (c .crashed) word)
-
--- ---- an answer that is no refusal
-
-module _ (n : ℕ) (r : files.RunFile) (f : RunFile) (e : runFileOutcome n r ≡ result f) where
-  pub file-accepted : r .answer ≡ Accepted
-  unfolding runFileOutcome
-  file-accepted = go (r .answer) e
-    where
-      go : (a : Answer) → outcomeOf a (record { numbers = take n (r .numbers); crashes = crashesIn (r .crashes) }) ≡ result f → a ≡ Accepted
-      go Accepted e = refl
-      go (Refused q) e = absurd (refused-no-result e)
-
-  says : result (record { numbers = take n (r .numbers); crashes = crashesIn (r .crashes) }) ≡ result f
-  unfolding runFileOutcome
-  says = ap (λ (a : Answer). outcomeOf a (record { numbers = take n (r .numbers); crashes = crashesIn (r .crashes) })) (sym file-accepted) ∙ e
-
-  pub file-crashes : crashesIn (r .crashes) ≡ f .crashes
-  file-crashes = ap (λ (x : RunFile). x .crashes) (same-result says)
-
-  pub file-number : (d : ℕ) → 1 ≤ d → d ≤ n → getD (r .numbers) (d - 1) 0 ≡ proposalOf f d
-  unfolding proposalOf
-  file-number d low high =
-      sym (getD-take n (r .numbers) (d - 1) 0 (omega arith)) ∙ ap (λ (x : RunFile). getD (x .numbers) (d - 1) 0) (same-result says)

@@ -9,7 +9,7 @@ use Prim.Native.Nat.{ℕ, _-_, _≤_, _<_}
 use native.Mathlib.Omega.{arith}
 use lib.Dec.{eqb, leb, ltb}
 use lib.ListN.{length, getD}
-use borrow.Author.Tests.{not-false, leb-true, lt-ltb, eqb-true, eqb-false, ne-eqb}
+use borrow.Author.Tests.{leb-true, lt-ltb, eqb-true, eqb-false, ne-eqb}
 use Rattle.drive_sets.specs.Bools.{clash, by-test, and-intro, and-left, and-right, cond-true, cond-false}
 use Rattle.drive_sets.specs.Lists.{all, elem, ordered}
 use Rattle.drive_sets.specs.Lists.Laws.{elem-none, elem-head, elem-cases, any-false, all-intro, all-not}
@@ -17,13 +17,15 @@ use Rattle.drive_sets.specs.Masks.{has, size, meets}
 use Rattle.drive_sets.specs.Masks.Laws.{meets-not}
 use Rattle.drive_sets.specs.Masks.Sizes.{has-ofDrives}
 use Rattle.drive_sets.specs.Options.{isSome, none-some, same-some, none-of}
-use Rattle.drive_sets.specs.declared.Refusal.the-variants.{FrameSize, TrailingBytes, NoneUntouched}
+use Rattle.drive_sets.specs.declared.Refusal.the-variants.{TrailingBytes, NoneUntouched}
 use Rattle.drive_sets.specs.Refusals.{result}
 use Rattle.drive_sets.specs.Refusals.Laws.{same-result, passed, first-result}
 use Rattle.hitting_sets.specs.Hitting.{hits}
-use Rattle.tables.specs.Tables.{isFrame, isEmpty}
+use Rattle.hitting_sets.specs.Order.{normal}
+use Rattle.tables.specs.Tables.{isEmpty, chosen, chosenCore}
+use Rattle.tables.specs.Tables.Laws as tables
 use Rattle.runs.specs.CrashRecords.{CrashRecord, crashed, mostSends, isRound}
-use Rattle.run_files.specs.RunFiles.{RunFile, crashOf, readProposals, readCrashes, untouchedLeft, readRest, readRunFile}
+use Rattle.run_files.specs.RunFiles.{RunFile, crashOf, readProposals, readCrashes, untouchedLeft, readRest, readBehind, readRunFile}
 use Rattle.run_files.specs.RunFiles.Laws.{Bytes, numbers-read, Passes, next-bounds, AllPass, crashes-read}
 
 -- the drives of CR records
@@ -103,34 +105,34 @@ module _ (n core : ℕ) (frame : n ≤ 64) (cs : List CrashRecord) (all : AllPas
 
 -- ---- a run file that is not refused
 
-pub record Accepted (n core : ℕ) (sets s : List ℕ) (f : RunFile) : Type 0 where
-  pub frame : isFrame n ≡ true
+pub record Accepted (n : ℕ) (sets s : List ℕ) (f : RunFile) : Type 0 where
+  pub table : tables.Accepted n sets
   pub many : length (f .numbers) ≡ n
   pub patterns : Bytes s → (i : ℕ) → getD (f .numbers) i 0 < 65536
-  pub passes : (d : ℕ) (c : CrashRecord) → crashOf (f .crashes) d ≡ some c → (c .drive ≡ d) × Allowed n core c
+  pub passes : (d : ℕ) (c : CrashRecord) → crashOf (f .crashes) d ≡ some c → (c .drive ≡ d) × Allowed n (chosen (normal sets)) c
   pub drives-rise : ordered ltb (drivesOf (f .crashes)) ≡ true
   pub with-crash : (d : ℕ) → has d (crashed (f .crashes)) ≡ isSome (crashOf (f .crashes) d)
   pub untouched : (set : ℕ) × (elem set sets ≡ true) × ((d : ℕ) → has d set ≡ true → crashOf (f .crashes) d ≡ none)
 
-pub not-refused : (n core : ℕ) (sets s : List ℕ) (f : RunFile) → readRunFile n core sets s ≡ result f → Accepted n core sets s f
-unfolding readRunFile readRest untouchedLeft hits isFrame
-not-refused n core sets s f e =
-    let sized = passed (not (isFrame n)) FrameSize _ e in
-    let first = first-result (readProposals n [] s) (readRest n core sets) (sized .1) in
+pub not-refused : (n : ℕ) (sets s : List ℕ) (f : RunFile) → readRunFile n sets s ≡ result f → Accepted n sets s f
+unfolding readRunFile readBehind readRest untouchedLeft hits
+not-refused n sets s f e =
+    let found = first-result (chosenCore n sets) (λ k. readBehind n k sets s) e in
+    let given = tables.core-given n sets (found .1) in
+    let first = first-result (readProposals n [] s) (readRest n core sets) (ap (λ (k : ℕ). readBehind n k sets s) (given .1) ∙ found .2) in
     let p = first .0 in
     let second = first-result (readCrashes (length (p .rest)) n core 0 [] (p .rest)) _ (first .2) in
     let c = second .0 in
     let ended = passed (not (isEmpty (c .rest))) TrailingBytes _ (second .2) in
     let left = passed (hits sets (crashed (c .crashes))) NoneUntouched _ (ended .1) in
-    let frame = not-false (isFrame n) (sized .0) in
-    let high = leb-true n 64 (and-right (leb 1 n) (leb n 64) frame) in
+    let high = given .0 .high in
     let numbers = numbers-read n [] s (first .1) in
     let crashes = crashes-read (length (p .rest)) n core 0 [] (p .rest) (second .1) in
     let same = same-result (left .1) in
     let all = subst (AllPass n core 0) (sym (crashes .1)) (crashes .2) in
     let set = all-not (λ x. meets x (crashed (c .crashes))) sets (left .0) in
-    let whole : Accepted n core sets s (record { numbers = p .numbers; crashes = c .crashes }) = record {
-      frame = frame;
+    let whole : Accepted n sets s (record { numbers = p .numbers; crashes = c .crashes }) = record {
+      table = given .0;
       many = ap length (numbers .1) ∙ numbers .2 .many;
       patterns = λ b i. subst (λ (l : List ℕ). getD l i 0 < 65536) (sym (numbers .1)) (numbers .2 .patterns b i);
       passes = λ d x h. crash-allowed n core 0 (c .crashes) all d h;
@@ -139,4 +141,7 @@ not-refused n core sets s f e =
       untouched =
           (set .0, set .1, λ d h. none-of (crashOf (c .crashes) d) (sym (has-crashed n core high (c .crashes) all d) ∙ meets-not d (set .0) (crashed (c .crashes)) (set .2) h));
     } in
-    subst (Accepted n core sets s) same whole
+    subst (Accepted n sets s) same whole
+  where
+    core : ℕ
+    core = chosen (normal sets)

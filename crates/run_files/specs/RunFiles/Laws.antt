@@ -17,13 +17,14 @@ use Rattle.records.specs.declared.Kind.the-variants.{End}
 use Rattle.records.specs.declared.Due.the-variants.{AtProposal, AtCrashOrEnd}
 use Rattle.records.specs.declared.Head.{Head}
 use Rattle.records.specs.declared.Head.the-variants.{Record, Refused}
+use Rattle.records.specs.Fields.{fieldAt}
 use Rattle.records.specs.Fields.Laws.{fromBytes-lt}
 use Rattle.records.specs.Marks.{mark, headOf}
 use Rattle.records.proofs.Loops.{bytes-take}
 use Rattle.tables.specs.Files.{atRecord}
 use Rattle.exchange.specs.State.{isDrive}
 use Rattle.runs.specs.CrashRecords.{CrashRecord, isNext, isRound, mostSends, checkedCrash}
-use Rattle.run_files.specs.RunFiles.{ReadProposals, ReadCrashes, fieldAt, readProposals, crashAt, atEnd, readCrashes}
+use Rattle.run_files.specs.RunFiles.{ReadProposals, ReadCrashes, readProposals, crashAt, atEnd, readCrashes}
 
 -- what was made of a record that stood there
 record-there : {A : Type 0} (h : Head) (f : Kind → Outcome A) {a : A} → atRecord h f ≡ result a → (k : Kind) × (f k ≡ result a)

@@ -19,10 +19,6 @@ use Rattle.runs.specs.Scenario.{Crash, stays, crashes, Scenario, frame, 
 
 -- ---- crashes
 
-pub by-crash {ℓ} : {C : Type ℓ} (c : Crash) → (c ≡ stays → C) → ((q m : ℕ) → c ≡ crashes q m → C) → C
-by-crash stays f g = f refl
-by-crash (crashes q m) f g = g q m refl
-
 pub crashes-crash : {c : Crash} {q m : ℕ} → c ≡ crashes q m → hasCrash c ≡ true
 unfolding hasCrash
 crashes-crash e = ap hasCrash e

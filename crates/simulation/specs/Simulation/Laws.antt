@@ -13,7 +13,7 @@ use Rattle.drive_sets.specs.declared.Refusal.the-variants.{DriveNumber, CrashRo
 use Rattle.drive_sets.specs.Bools.{clash, by-test, false-of, and-left, and-right, cond-true, cond-false}
 use Rattle.drive_sets.specs.Lists.{elem}
 use Rattle.drive_sets.specs.Lists.Laws.{elem-head, elem-tail, elem-cases, elem-none, all-not}
-use Rattle.drive_sets.specs.Masks.{has, size, meets}
+use Rattle.drive_sets.specs.Masks.{size, meets}
 use Rattle.drive_sets.specs.Masks.Laws.{meets-not}
 use Rattle.drive_sets.specs.Masks.Sizes.{has-ofDrives}
 use Rattle.drive_sets.specs.Refusals.{Outcome, result}

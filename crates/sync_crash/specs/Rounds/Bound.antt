@@ -1,4 +1,4 @@
--- Every drive with no CR has decided by round f + 1 (section 6 of the proof on paper). A drive that is undecided after k rounds saw its
+-- Every drive with no CR has decided by round f + 1 (section 6 of docs/AGREEMENT.md). A drive that is undecided after k rounds saw its
 -- heard-of set lose a member in each of them, and whoever it no longer hears has a CR; so k is at most f.
 use mathlib.Core.Path.{_≡_, refl, sym, _∙_}
 use mathlib.Core.Bool.{Bool, true, false, _&&_}

@@ -103,9 +103,6 @@ module _ {S : Instance} (L : Lawful S) where
   pub decision-later : {k m : ℕ} (e : ℕ) {v : ℕ} → k ≤ m → decision S k e ≡ some v → decision S m e ≡ some v
   decision-later {m = m} e {v} h q = le-ind (λ j. decision S j e ≡ some v) q (λ j l t. decision-stays L j e t) m h
 
-  pub undecided-earlier : {k m : ℕ} (e : ℕ) → k ≤ m → decision S m e ≡ none → decision S k e ≡ none
-  undecided-earlier {k = k} e h o = by-option (decision S k e) (λ q. q) (λ v q. absurd (none-some o (decision-later e h q)))
-
   -- a drive decides once
   pub decides-once : {e w k v : ℕ} (m : ℕ) → DecidesIn S e w k → decision S m e ≡ some v → w ≡ v
   decides-once {e} {w} {k} m d q =

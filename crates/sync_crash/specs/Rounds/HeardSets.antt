@@ -1,4 +1,4 @@
--- Heard-of sets: F1 and F2 of the proof on paper. A core drive that closes a round was heard in it by all, and who is heard was heard in the
+-- Heard-of sets: F1 and F2 of docs/AGREEMENT.md. A core drive that closes a round was heard in it by all, and who is heard was heard in the
 -- round before. So heard-of sets only shrink, and no message of a run comes from a sender that was missing in an earlier round.
 use mathlib.Core.Path.{_≡_, sym, ap, _∙_}
 use mathlib.Core.Bool.{true}

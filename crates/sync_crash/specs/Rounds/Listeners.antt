@@ -1,4 +1,4 @@
--- What a listener knows: F3 of the proof on paper. Sends go to the core first, so that whatever reached a listener in a round reached
+-- What a listener knows: F3 of docs/AGREEMENT.md. Sends go to the core first, so that whatever reached a listener in a round reached
 -- every core drive that closed it: a listener knows no more than any of them.
 use mathlib.Core.Path.{_≡_}
 use mathlib.Core.Bool.{true, false}

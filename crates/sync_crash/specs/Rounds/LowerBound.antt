@@ -1,4 +1,4 @@
--- Why round f + 1 is not too late (section 6 of the proof on paper, "tight"): while the core loses one drive, unheard, in each of the rounds
+-- Why round f + 1 is not too late (section 6 of docs/AGREEMENT.md, "tight"): while the core loses one drive, unheard, in each of the rounds
 -- 1 to f, heard-of sets change in each of them, so that nobody is quiet, nobody announces and nobody decides.
 use mathlib.Core.Path.{_≡_, refl, sym, ap, _∙_}
 use mathlib.Core.Bool.{true, false}

@@ -1,4 +1,4 @@
--- Quiet rounds: Q of the proof on paper. Where e decides by a quiet round, everybody else who sends was heard by e and is undecided (Q1),
+-- Quiet rounds: Q of docs/AGREEMENT.md. Where e decides by a quiet round, everybody else who sends was heard by e and is undecided (Q1),
 -- no core drive that closes the round knows more than e (Q2), and a listener e knows just what each of them knows (Q3).
 use mathlib.Core.Path.{_≡_, _∙_}
 use mathlib.Core.Bool.{true, false}
@@ -19,6 +19,17 @@ module _ {S : Instance} (L : Lawful S) where
   open Instance S using (n, core)
   open Lawful L using (in-frame)
 
+  -- a quiet drive heard somebody, so that it knows a number
+  quiet-knows : {k e : ℕ} → QuietClose S k e → (x : ℕ) × (knows S (suc k) e x ≡ true)
+  unfolding quiet
+  quiet-knows {k} {e} q =
+      let w = any-elem (heard S (after S k) k e) (range 1 n) (and-left (any (heard S (after S k) k e) (range 1 n)) _ (q .same)) in
+      let d = w .0 in
+      ⊎-elim
+      (λ r. (d, learns L (q .closer) r (announced-none L (q .unannounced) r) d (knows-own L k (r .sender .in-core))))
+      (λ p. (e, knows-own L (suc k) (p .0)))
+      (heard-cases L k e d (w .2))
+
   pub quiet-unchanged : (k e d : ℕ) → quiet S (after S k) k e ≡ true → InFrame S d → heard S (after S k) k e d ≡ before S k e d
   unfolding quiet unchanged
   quiet-unchanged k e d q f =
@@ -30,20 +41,10 @@ module _ {S : Instance} (L : Lawful S) where
   quiet-hears {k} {e} {d} q c s = quiet-unchanged k e d q (in-frame (s .in-core)) ∙ sender-was-heard L k s (closer-active L c)
 
   module _ {k e : ℕ} (q : QuietClose S k e) where
-    -- a quiet drive heard somebody, so that it knows a number and decides
-    quiet-knows : (x : ℕ) × (knows S (suc k) e x ≡ true)
-    unfolding quiet
-    quiet-knows =
-        let w = any-elem (heard S (after S k) k e) (range 1 n) (and-left (any (heard S (after S k) k e) (range 1 n)) _ (q .same)) in
-        let d = w .0 in
-        ⊎-elim
-        (λ r. (d, learns L (q .closer) r (announced-none L (q .unannounced) r) d (knows-own L k (r .sender .in-core))))
-        (λ p. (e, knows-own L (suc k) (p .0)))
-        (heard-cases L k e d (w .2))
-
+    -- so it decides
     pub quiet-decides : (v : ℕ) × (decision S (suc k) e ≡ some v)
     quiet-decides =
-        let w = quiet-knows in
+        let w = quiet-knows q in
         let v = smallestOf-some L (knows S (suc k) e) (w .0) (in-frame (knows-core L (suc k) e (w .0) (w .1))) (w .1) in
         (v .0, decides-quiet L q ∙ v .1)
 

@@ -10,7 +10,7 @@ use lib.Pow.{pow-mono}
 use lib.Dec.{eqb, leb, ltb}
 use lib.ListN.{length, take, drop, length-append}
 use lib.Seq.{append-snoc}
-use borrow.Author.Tests.{eq-eqb, eqb-true, not-false, leb-true, ltb-false}
+use borrow.Author.Tests.{eq-eqb, not-false, leb-true, ltb-false}
 use Rattle.drive_sets.specs.Bools.{clash, by-test, and-left, and-right, cond-true, cond-false}
 use Rattle.drive_sets.specs.Lists.{elem}
 use Rattle.drive_sets.specs.Lists.Laws.{elem-head, elem-tail, elem-none, elem-one, elem-append-cases}
@@ -25,21 +25,21 @@ use Rattle.records.specs.declared.Head.{Head}
 use Rattle.records.specs.declared.Head.the-variants.{Record, Refused}
 use Rattle.records.specs.declared.Kind.{Kind}
 use Rattle.records.specs.Fields.{fromBytes}
-use Rattle.records.specs.Marks.{ascii, markText, mark, bodyWidth, isDue, headOf, recordBytes}
-use Rattle.records.specs.Marks.Laws.{head-record, head-present, record-field, record-rest}
+use Rattle.records.specs.Marks.{ascii, markText, mark, bodyWidth, isKind, isDue, headOf, recordBytes}
+use Rattle.records.specs.Marks.Laws.{head-record, head-present, kind-is, record-field, record-rest}
 use Rattle.tables.specs.Tables.{isFrame, isSet, isEmpty, cores, uncrowded}
 use Rattle.tables.specs.Tables.Laws.{Accepted, set-lt, accepted-uncrowded, accepted-frame, accepted-normal}
 use Rattle.tables.specs.Files.{ReadTable, atRecord, dueAfter, atEnd, readSets, readListed, accepted, readTable, readWhole, setRecords, tableBytes}
 
 -- ---- the end
 
-end-due : (listed : List ℕ) → 1 ≤ length listed → isDue (dueAfter listed) (mark End) ≡ true
-unfolding dueAfter isDue mark markText ascii fromBytes
+end-due : (listed : List ℕ) → 1 ≤ length listed → isDue (dueAfter listed) End ≡ true
+unfolding dueAfter isDue isKind mark markText ascii fromBytes
 end-due [] h = absurd (omega arith)
 end-due (s ∷ listed) h = refl
 
-set-due : (listed : List ℕ) → isDue (dueAfter listed) (mark Survivor) ≡ true
-unfolding dueAfter isDue mark markText ascii fromBytes
+set-due : (listed : List ℕ) → isDue (dueAfter listed) Survivor ≡ true
+unfolding dueAfter isDue isKind mark markText ascii fromBytes
 set-due [] = refl
 set-due (s ∷ listed) = refl
 
@@ -107,7 +107,7 @@ sets-read (x ∷ sets) (suc room) n listed whole rest e fit good high some few =
 -- ---- the whole table
 
 frame-read : (n : ℕ) (rest : List ℕ) → isFrame n ≡ true → n < 256 → readListed (recordBytes (mark Frame) 1 n ++ rest) ≡ readSets 128 n [] rest
-unfolding readListed bodyWidth isDue
+unfolding readListed bodyWidth isDue isKind
 frame-read n rest good few =
     ap (λ (h : Head). atRecord h (λ kind. refuseIf (not (isFrame (fromBytes (take 1 (drop 2 s))))) FrameSize (readSets 128 (fromBytes (take 1 (drop 2 s))) [] (drop 3 s))))
     (head-record AtFrame Frame n rest (eq-eqb (mark Frame) (mark Frame) refl))
@@ -149,9 +149,9 @@ record-read (Record k) f e = (k, refl, e)
 
 -- after FR the end is not due
 end-listed : (listed s : List ℕ) (k : Kind) → headOf (dueAfter listed) s ≡ Record k → eqb (mark k) (mark End) ≡ true → 1 ≤ length listed
-unfolding dueAfter isDue mark markText ascii fromBytes
+unfolding dueAfter isDue isKind mark markText ascii fromBytes
 end-listed [] s k e h =
-    let wrong = subst (λ (m : ℕ). isDue AtFirstSet m ≡ true) (eqb-true (mark k) (mark End) h) (head-present AtFirstSet s k e .is-due) in
+    let wrong = subst (λ (j : Kind). isDue AtFirstSet j ≡ true) (kind-is End k h) (head-present AtFirstSet s k e .is-due) in
     absurd (clash wrong refl)
 end-listed (x ∷ listed) s k e h = omega arith
 

@@ -6,7 +6,7 @@ use Prim.Native.Nat.{ℕ, zero, suc, _+_, _≤_, _<_}
 use native.Mathlib.Omega.{arith}
 use lib.Dec.{eqb, leb}
 use lib.ListN.{length, take, drop}
-use borrow.Author.Tests.{le-leb, lt-leb, leb-false, eqb-true, ne-eqb}
+use borrow.Author.Tests.{le-leb, lt-leb, leb-false, ne-eqb}
 use mathlib.Core.Logic.{⊎-elim}
 use Rattle.drive_sets.specs.declared.Refusal.{Refusal}
 use Rattle.drive_sets.specs.declared.Refusal.the-variants.{BadSet, TooManySets, CountDiffers}
@@ -19,8 +19,8 @@ use Rattle.records.specs.declared.Head.the-variants as heads
 use Rattle.records.specs.Fields.{fromBytes}
 use Rattle.records.specs.declared.Due.{Due}
 use Rattle.records.specs.declared.Due.the-variants.{AtFirstSet, AtSetOrEnd}
-use Rattle.records.specs.Marks.{mark, bodyWidth, isDue, headOf}
-use Rattle.records.specs.Marks.Laws.{head-present, mark-unique}
+use Rattle.records.specs.Marks.{mark, bodyWidth, isKind, isDue, headOf}
+use Rattle.records.specs.Marks.Laws.{head-present, kind-is}
 use Rattle.tables.specs.declared.reading.Step.{Step}
 use Rattle.tables.specs.declared.reading.Step.the-variants.{Set, End, Stop}
 use Rattle.tables.specs.Tables.{isSet}
@@ -133,13 +133,12 @@ set-no-end n count s e =
     go false e = stop-not-end e
 
 -- where a set or the end is due and it is not the end, it is a set
-other-kind : (count : ℕ) (k : Kind) → isDue (dueOf count) (mark k) ≡ true → eqb (mark k) (mark kinds.End) ≡ false → k ≡ kinds.Survivor
-unfolding dueOf isDue
-other-kind zero k d t = mark-unique k kinds.Survivor (eqb-true (mark k) (mark kinds.Survivor) d)
+other-kind : (count : ℕ) (k : Kind) → isDue (dueOf count) k ≡ true → eqb (mark k) (mark kinds.End) ≡ false → k ≡ kinds.Survivor
+unfolding dueOf isDue isKind
+other-kind zero k d t = kind-is kinds.Survivor k d
 other-kind (suc count) k d t =
-    let two = subst (λ (due : Due). isDue due (mark k) ≡ true) (cond-false AtFirstSet AtSetOrEnd (ne-eqb (suc count) 0 (λ e. omega arith))) d in
-    ⊎-elim (λ h. mark-unique k kinds.Survivor (eqb-true (mark k) (mark kinds.Survivor) h)) (λ h. absurd (clash h t))
-    (or-cases (eqb (mark k) (mark kinds.Survivor)) (eqb (mark k) (mark kinds.End)) two)
+    let two = subst (λ (due : Due). isDue due k ≡ true) (cond-false AtFirstSet AtSetOrEnd (ne-eqb (suc count) 0 (λ e. omega arith))) d in
+    ⊎-elim (kind-is kinds.Survivor k) (λ h. absurd (clash h t)) (or-cases (isKind kinds.Survivor k) (isKind kinds.End k) two)
 
 pub set-whole : (n count : ℕ) (s : List ℕ) (m : ℕ) → stepOf n count s ≡ Set m → (count < 128) × (10 ≤ length s)
 unfolding stepOf
@@ -154,7 +153,7 @@ set-whole n count s m e = go (headOf (dueOf count) s) refl e
         (λ t. (set-few n count s (sym (cond-false _ _ t) ∙ e), omega (arith, p .long, ap bodyWidth (other-kind count k (p .is-due) t), set-width)))
 
 pub end-whole : (n count : ℕ) (s : List ℕ) → stepOf n count s ≡ End → 3 ≤ length s
-unfolding stepOf
+unfolding stepOf isKind
 end-whole n count s e = go (headOf (dueOf count) s) refl e
   where
     go : (h : Head) → headOf (dueOf count) s ≡ h → stepAt h n count s ≡ End → 3 ≤ length s
@@ -162,5 +161,5 @@ end-whole n count s e = go (headOf (dueOf count) s) refl e
     go (heads.Record k) f e =
         let p = head-present (dueOf count) s k f in
         by-test (eqb (mark k) (mark kinds.End))
-        (λ t. omega (arith, p .long, ap bodyWidth (mark-unique k kinds.End (eqb-true (mark k) (mark kinds.End) t)), end-width))
+        (λ t. omega (arith, p .long, ap bodyWidth (kind-is kinds.End k t), end-width))
         (λ t. absurd (set-no-end n count s (sym (cond-false _ _ t) ∙ e)))

@@ -1,5 +1,5 @@
--- Theorems of tables: the list of cores is THE list of Junqueira and Marzullo's cores, Back of a table's cores is the table, and what
--- holds of the chosen core of every accepted table.
+-- Theorems of tables: the list of cores is THE list of Junqueira and Marzullo's cores, Back lists what it should and of a table's cores is
+-- the table, and what holds of the chosen core of every accepted table.
 use mathlib.Core.Path.{_≡_, refl, sym, ap, _∙_, subst}
 use mathlib.Core.Bool.{true, false, not}
 use mathlib.Core.List.{List, [], _∷_}
@@ -11,26 +11,24 @@ use lib.Dec.{eqb, leb, ltb}
 use lib.ListN.{length}
 use borrow.Author.Tests.{leb-true, le-leb, ltb-false, le-ltb, eqb-false, not-true, not-false}
 use Rattle.drive_sets.specs.declared.Refusal.the-variants.{WrongMark, FrameSize, BadSet, TooManySets, TooManyCores}
-use Rattle.drive_sets.specs.Bools.{clash, same-test, and-intro, and-left, and-right, cond-false}
+use Rattle.drive_sets.specs.Bools.{clash, and-intro, and-left, and-right, cond-false}
 use Rattle.drive_sets.specs.Lists.{all, elem, ordered}
-use Rattle.drive_sets.specs.Lists.Laws.{elem-some, all-elem, all-intro, ordered-unique}
+use Rattle.drive_sets.specs.Lists.Laws.{elem-some, all-elem, all-intro}
 use Rattle.drive_sets.specs.Lists.Places.{getD-elem}
 use Rattle.drive_sets.specs.Masks.{has, single, full, common, subset, meets}
 use Rattle.drive_sets.specs.Masks.Laws.{full-lt, full-has, full-subset, has-some, has-bounds, has-meets}
 use Rattle.drive_sets.specs.Refusals.{result}
-use Rattle.drive_sets.specs.Refusals.Laws.{passed, same-result}
-use Rattle.hitting_sets.specs.Hitting.{hits, Minimal, minimals}
+use Rattle.drive_sets.specs.Refusals.Laws.{passed, same-result, first-result}
+use Rattle.hitting_sets.specs.Hitting.{hits, Minimal}
 use Rattle.hitting_sets.specs.Hitting.Laws.{Below, hits-meets, meets-hits, hits-same-elements, minimal-lt, minimal-same-hits}
 use Rattle.hitting_sets.specs.Hitting.Alone.{alone-all}
 use Rattle.hitting_sets.specs.Hitting.Minimality.{minimal-alone, hitting-contains}
-use Rattle.hitting_sets.specs.Hitting.Found.{minimals-minimal, minimal-found}
-use Rattle.hitting_sets.specs.Hitting.Distinct.{minimals-distinct}
 use Rattle.hitting_sets.specs.Duality.{back-of-minimals}
-use Rattle.hitting_sets.specs.Order.{bySize, normal}
-use Rattle.hitting_sets.specs.Order.Strict.{bySize-strict}
-use Rattle.hitting_sets.specs.Order.Sort.{elem-sort, ordered-sort}
+use Rattle.hitting_sets.specs.Order.{byMask, bySize, normal}
+use Rattle.hitting_sets.specs.Order.Strict.{byMask-strict, bySize-strict}
+use Rattle.hitting_sets.specs.Order.Minimals.{listed-minimal, minimal-listed, listed-ordered, listed-unique}
 use Rattle.hitting_sets.specs.Order.Normal.{normal-elem, ordered-normal, antichain-normal, normal-idempotent, hits-normal, normal-some, length-normal}
-use Rattle.tables.specs.Tables.{isFrame, isSet, isEmpty, cores, chosen, dual, uncrowded, normalTable}
+use Rattle.tables.specs.Tables.{isFrame, isSet, isEmpty, cores, chosen, dual, uncrowded, normalTable, survivorSets, chosenCore}
 
 -- ---- what it is for n and sets to meet no refusal
 
@@ -87,6 +85,14 @@ accepted-table n sets a =
     ∙ (cond-false _ _ (le-ltb 128 (length sets) (a .most))
     ∙ (cond-false _ _ (ap not (all-intro (isSet n) sets (a .good))) ∙ accepted-uncrowded n sets a)))
 
+-- a chosen core that is given is that of an accepted table
+pub core-given : (n : ℕ) (sets : List ℕ) {core : ℕ} → chosenCore n sets ≡ result core → Accepted n sets × (chosen (normal sets) ≡ core)
+unfolding chosenCore
+core-given n sets e =
+    let first = first-result (normalTable n sets) (λ table. result (chosen table)) e in
+    let table = table-accepted n sets (first .0) (first .1) in
+    (table .0, ap chosen (sym (table .1)) ∙ same-result (first .2))
+
 -- ---- sets of the frame
 
 pub set-lt : (n s : ℕ) → isSet n s ≡ true → s < 2 ^ n
@@ -120,23 +126,22 @@ module _ (n : ℕ) (sets : List ℕ) (a : Accepted n sets) where
 module _ (sets : List ℕ) (word : Below 64 sets) where
   pub core-minimal : (c : ℕ) → elem c (cores sets) ≡ true → Minimal sets c
   unfolding cores
-  core-minimal c h = minimals-minimal sets c word (sym (elem-sort bySize c (minimals sets)) ∙ h)
+  core-minimal = listed-minimal bySize sets word
 
   pub minimal-core : (c : ℕ) → Minimal sets c → elem c (cores sets) ≡ true
   unfolding cores
-  minimal-core c h = elem-sort bySize c (minimals sets) ∙ minimal-found sets c word h
+  minimal-core = minimal-listed bySize sets word
 
   -- strictly by size, then by mask: each core once
   pub cores-ordered : ordered bySize (cores sets) ≡ true
   unfolding cores
-  cores-ordered = ordered-sort bySize bySize-strict (minimals sets) (minimals-distinct sets word)
+  cores-ordered = listed-ordered bySize sets word bySize-strict
 
   -- it is the only such list
   pub cores-unique : (l : List ℕ) → ordered bySize l ≡ true → ((c : ℕ) → elem c l ≡ true → Minimal sets c) → ((c : ℕ) → Minimal sets c → elem c l ≡ true)
       → l ≡ cores sets
-  cores-unique l o sound complete =
-      ordered-unique bySize (bySize-strict .asym) l (cores sets) o cores-ordered
-      (λ c. same-test (elem c l) (elem c (cores sets)) (λ h. minimal-core c (sound c h)) (λ h. complete c (core-minimal c h)))
+  unfolding cores
+  cores-unique = listed-unique bySize sets word bySize-strict
 
 -- lists that the same sets hit have the same cores
 pub cores-same-hits : (l k : List ℕ) → Below 64 l → Below 64 k → ((m : ℕ) → hits l m ≡ hits k m) → cores l ≡ cores k
@@ -155,6 +160,40 @@ cores-normal sets word = cores-same-hits (normal sets) sets (λ s h. word s (nor
 
 -- ---- the way back
 
+-- Back of any groups: exactly the minimal sets of drives that meet each group, each once, by mask
+module _ (groups : List ℕ) (word : Below 64 groups) where
+  pub dual-minimal : (s : ℕ) → elem s (dual groups) ≡ true → Minimal groups s
+  unfolding dual
+  dual-minimal = listed-minimal byMask groups word
+
+  pub minimal-dual : (s : ℕ) → Minimal groups s → elem s (dual groups) ≡ true
+  unfolding dual
+  minimal-dual = minimal-listed byMask groups word
+
+  pub dual-ordered : ordered byMask (dual groups) ≡ true
+  unfolding dual
+  dual-ordered = listed-ordered byMask groups word byMask-strict
+
+  pub dual-unique : (l : List ℕ) → ordered byMask l ≡ true → ((s : ℕ) → elem s l ≡ true → Minimal groups s) → ((s : ℕ) → Minimal groups s → elem s l ≡ true)
+      → l ≡ dual groups
+  unfolding dual
+  dual-unique = listed-unique byMask groups word byMask-strict
+
+-- where the call is accepted, it gives that list
+pub survivor-sets-dual : (n : ℕ) (groups sets : List ℕ) → survivorSets n groups ≡ result sets → Below 64 groups × (sets ≡ dual groups)
+unfolding survivorSets isFrame
+survivor-sets-dual n groups sets e =
+    let frame = passed (not (isFrame n)) FrameSize _ e in
+    let some = passed (isEmpty groups) TooManyCores _ (frame .1) in
+    let few = passed (ltb 1024 (length groups)) TooManyCores _ (some .1) in
+    let good = passed (not (all (isSet n) groups)) BadSet _ (few .1) in
+    let found = passed (ltb 128 (length (dual groups))) TooManySets _ (good .1) in
+    let high = leb-true n 64 (and-right (leb 1 n) (leb n 64) (not-false (isFrame n) (frame .0))) in (
+      (λ s h. lt-of-lt-of-le (set-lt n s (all-elem (isSet n) groups s (not-false (all (isSet n) groups) (good .0)) h)) (pow-mono {i = n} {j = 64} high)),
+      sym (same-result (found .1)),
+    )
+
+-- Back of a table's cores is the table
 pub dual-cores : (n : ℕ) (sets : List ℕ) → Accepted n sets → dual (cores (normal sets)) ≡ normal sets
 unfolding dual cores
 dual-cores n sets a =

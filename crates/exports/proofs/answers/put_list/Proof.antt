@@ -1,5 +1,5 @@
--- The first sets, copied.
-use Rattle.exports.proofs.Outcomes.{list-put}
+-- 14, or the first sets, copied.
+use Rattle.exports.proofs.Outcomes.{list-full, list-put}
 use borrow.Author.Needs.{needs}
 use Rattle.exports.proofs.answers.put_list.Statement.{statement}
 use Rattle.exports.proofs.answers.put_list.Tie as tie
@@ -7,14 +7,25 @@ use Rattle.exports.proofs.answers.put_list.Tie as tie
 first-sets-requires : tie.Need-first-sets-requires
 first-sets-requires c κs = search needs
 
+refusal-code-requires : tie.Need-refusal-code-requires
+refusal-code-requires c κs = search needs
+
+returns : tie.Need-returns
+returns c =
+    let a = c .before .before .before .before .before .args in
+    list-full (a .out .now) _ _ (c .before .before .first-sets .ensures) (c .before .if1 .taken) _ (c .refusal-code .ensures)
+
 copy-requires : tie.Need-copy-requires
 copy-requires c κs = search needs
 
 same-length : tie.Need-same-length
 same-length c = search needs
 
-returns : tie.Need-returns
-returns c = list-put (c .before .before .before .before .before .before .before .args .out .now) _ _ _ (c .before .before .before .before .first-sets .ensures) (c .before .before .copy .ensures)
+returns-2 : tie.Need-returns-2
+returns-2 c =
+    let a = c .before .before .before .before .before .before .before .before .args in
+    list-put (a .out .now) _ _ (c .before .before .before .before .before .first-sets .ensures) (c .before .before .before .before .if1 .left) _ (c .before .before .copy .ensures)
 
 pub put-list-spec : {M : Type 1} → statement M
-put-list-spec = tie.close (tie.spec first-sets-requires copy-requires same-length returns)
+put-list-spec =
+    tie.close (tie.spec first-sets-requires refusal-code-requires returns copy-requires same-length returns-2)

@@ -29,13 +29,13 @@ same-length : tie.Need-same-length
 same-length c = search needs
 
 returns : tie.Need-returns
-returns c = let a = c .before .before .before .before .before .before .before .before .before .before .before .before .before .args in filled-same (run-file-refused (a .n) (a .core) (a .sets .now) (a .rest .now) (c .before .before .before .before .before .before .before .before .before .read-run-file .result) (c .before .before .before .before .before .before .before .before .before .read-run-file .ensures) _ (c .before .before .before .before .before .answer .given .1)) (c .before .before .put-refused .ensures)
+returns c = let a = c .before .before .before .before .before .before .before .before .before .before .before .before .before .args in filled-same (run-file-refused (a .n) (a .sets .now) (a .rest .now) (c .before .before .before .before .before .before .before .before .before .read-run-file .result) (c .before .before .before .before .before .before .before .before .before .read-run-file .ensures) _ (c .before .before .before .before .before .answer .given .1)) (c .before .before .put-refused .ensures)
 
 same-length-2 : tie.Need-same-length-2
 same-length-2 c = search needs
 
 returns-2 : tie.Need-returns-2
-returns-2 c = let a = c .before .before .before .before .before .before .before .before .before .before .before .before .before .args in filled-same (run-file-accepted (a .n) (a .core) (a .sets .now) (a .rest .now) (c .before .before .before .before .before .before .before .before .before .read-run-file .result) (c .before .before .before .before .before .before .before .before .before .read-run-file .ensures) (c .before .before .before .before .before .enum-told .given .1) ∙ ap runText (sym (c .before .before .before .simulate .ensures))) (c .before .before .put-simulated .ensures)
+returns-2 c = let a = c .before .before .before .before .before .before .before .before .before .before .before .before .before .args in filled-same (run-file-accepted (a .n) (a .sets .now) (a .rest .now) (c .before .before .before .before .before .before .before .before .before .read-run-file .result) (c .before .before .before .before .before .before .before .before .before .read-run-file .ensures) (c .before .before .before .before .before .enum-told .given .1) ∙ ap runText (sym (c .before .before .before .simulate .ensures))) (c .before .before .put-simulated .ensures)
 
 pub put-run-file-spec : {M : Type 1} → statement M
 put-run-file-spec =

@@ -18,19 +18,19 @@ enum-told : tie.Need-enum-told
 enum-told c = search needs
 
 put-complete-requires : tie.Need-put-complete-requires
-put-complete-requires c κs = (search needs, file-cores (c .before .before .before .before .read-whole .result) (c .before .before .before .before .before .before .before .args .input .now) (c .before .before .before .before .read-whole .ensures) (c .before .enum-told .given .1))
+put-complete-requires c κs = (search needs, file-cores (c .before .before .before .before .read-whole .result) (c .before .before .before .before .before .before .before .args .input .now) (c .before .before .before .before .read-whole .ensures .0) (c .before .enum-told .given .1))
 
 same-length : tie.Need-same-length
 same-length c = search needs
 
 returns : tie.Need-returns
-returns c = filled-same (file-refused (c .before .before .before .before .before .before .before .before .read-whole .result) (c .before .before .before .before .before .before .before .before .before .before .before .args .input .now) (c .before .before .before .before .before .before .before .before .read-whole .ensures) _ (c .before .before .before .before .before .answer .given .1)) (c .before .before .put-refused .ensures)
+returns c = filled-same (file-refused (c .before .before .before .before .before .before .before .before .read-whole .result) (c .before .before .before .before .before .before .before .before .before .before .before .args .input .now) (c .before .before .before .before .before .before .before .before .read-whole .ensures .0) _ (c .before .before .before .before .before .answer .given .1)) (c .before .before .put-refused .ensures)
 
 same-length-2 : tie.Need-same-length-2
 same-length-2 c = search needs
 
 returns-2 : tie.Need-returns-2
-returns-2 c = filled-same (file-listing (c .before .before .before .before .before .before .before .read-whole .result) (c .before .before .before .before .before .before .before .before .before .before .args .input .now) (c .before .before .before .before .before .before .before .read-whole .ensures) (c .before .before .before .before .enum-told .given .1)) (c .before .before .put-complete .ensures)
+returns-2 c = filled-same (file-listing (c .before .before .before .before .before .before .before .read-whole .result) (c .before .before .before .before .before .before .before .before .before .before .args .input .now) (c .before .before .before .before .before .before .before .read-whole .ensures .0) (c .before .before .before .before .enum-told .given .1)) (c .before .before .put-complete .ensures)
 
 pub put-table-spec : {M : Type 1} → statement M
 put-table-spec =

@@ -1,68 +1,47 @@
--- The frame, the numbers, then the records after them.
-use lib.ListN.{take}
-use Prim.Native.Nat.{ℕ}
-use mathlib.Core.List.{List}
-use mathlib.Core.Path.{ap, _∙_}
-use Rattle.records.proofs.Parts.{rest-is}
-use Rattle.run_files.specs.RunFiles.{readRest}
-use Rattle.run_files.proofs.Finishes.{refused-outcome, file-no-frame, frame-bound, file-refused, file-rest}
+-- The table's refusal, or the file behind it with the chosen core.
+use mathlib.Core.Path.{_∙_}
+use Rattle.run_files.proofs.Finishes.{refused-outcome, frame-bound, file-refused, file-behind}
 use borrow.Author.Needs.{needs}
 use Rattle.run_files.proofs.reading.read_run_file.Statement.{statement}
 use Rattle.run_files.proofs.reading.read_run_file.Tie as tie
 
-is-frame-requires : tie.Need-is-frame-requires
-is-frame-requires c κs = search needs
+chosen-core-requires : tie.Need-chosen-core-requires
+chosen-core-requires c κs = search needs
+
+enum-known-chosen : tie.Need-enum-known-chosen
+enum-known-chosen c = search needs
 
 refused-file-requires : tie.Need-refused-file-requires
 refused-file-requires c κs = search needs
 
+enum-known-chosen-2 : tie.Need-enum-known-chosen-2
+enum-known-chosen-2 c = search needs
+
+read-behind-requires : tie.Need-read-behind-requires
+read-behind-requires c κs =
+    let a = c .before .before .before .before .before .before .args in
+    frame-bound (a .n) (a .sets .now) (a .s .now) _ (c .before .before .before .chosen-core .ensures) (c .before .chosen2 .given .1)
+
 returns : tie.Need-returns
-returns c = let a = c .before .before .before .before .before .args in refused-outcome _ _ (c .refused-file .ensures) (a .n) ∙ file-no-frame (a .n) (a .core) (a .sets .now) (a .s .now) _ (c .before .before .is-frame .ensures) (c .before .if1 .taken)
-
-read-proposals-requires : tie.Need-read-proposals-requires
-read-proposals-requires c κs = let a = c .before .before .before .before .args in frame-bound (a .n) (a .core) (a .sets .now) (a .s .now) _ (c .before .is-frame .ensures) (c .if1 .left)
-
-enum-known-answer : tie.Need-enum-known-answer
-enum-known-answer c = search needs
-
-refused-file-requires-2 : tie.Need-refused-file-requires-2
-refused-file-requires-2 c κs = search needs
-
-enum-told : tie.Need-enum-told
-enum-told c = search needs
-
-sub-read-rest : tie.Need-sub-read-rest
-sub-read-rest c = search needs
-
-part-read-rest-start : tie.Need-part-read-rest-start
-part-read-rest-start c = search needs
-
-part-read-rest-end : tie.Need-part-read-rest-end
-part-read-rest-end c = search needs
-
-read-rest-requires : tie.Need-read-rest-requires
-read-rest-requires c κs = let a = c .before .before .before .before .before .before .before .before .before .args in frame-bound (a .n) (a .core) (a .sets .now) (a .s .now) _ (c .before .before .before .before .before .before .is-frame .ensures) (c .before .before .before .before .before .if1 .left)
+returns c =
+    let a = c .before .before .before .before .before .before .before .args in
+    refused-outcome _ _ (c .refused-file .ensures) (a .n)
+    ∙ file-refused (a .n) (a .sets .now) (a .s .now) _ (c .before .before .before .before .chosen-core .ensures) _ (c .before .before .chosen .given .1)
 
 returns-2 : tie.Need-returns-2
-returns-2 c = let a = c .before .before .before .before .before .before .before .before .before .before .args in refused-outcome _ _ (c .refused-file2 .ensures) (a .n) ∙ file-refused (a .n) (a .core) (a .sets .now) (a .s .now) _ (c .before .before .before .before .before .before .before .is-frame .ensures) (c .before .before .before .before .before .before .if1 .left) (c .before .before .before .before .before .read-proposals .result) (c .before .before .before .before .before .read-proposals .ensures .0) _ (c .before .before .answer .given .1)
-
-returns-3 : tie.Need-returns-3
-returns-3 c = let a = c .before .before .before .before .before .before .before .before .before .before .args in let p = c .before .before .before .before .before .read-proposals .result in c .read-rest .ensures ∙ (ap (λ (l : List ℕ). readRest (a .n) (a .core) (a .sets .now) (record { numbers = take (a .n) (p .numbers); rest = l })) (rest-is (a .s .now) (p .used)) ∙ file-rest (a .n) (a .core) (a .sets .now) (a .s .now) _ (c .before .before .before .before .before .before .before .is-frame .ensures) (c .before .before .before .before .before .before .if1 .left) p (c .before .before .before .before .before .read-proposals .ensures .0) (c .before .before .enum-told .given .1))
+returns-2 c =
+    let a = c .before .before .before .before .before .before .before .args in
+    c .read-behind .ensures
+    ∙ file-behind (a .n) (a .sets .now) (a .s .now) _ (c .before .before .before .before .chosen-core .ensures) _ (c .before .before .chosen2 .given .1)
 
 pub read-run-file-spec : {M : Type 1} → statement M
 read-run-file-spec =
     tie.close
     (tie.spec
-    is-frame-requires
+    chosen-core-requires
+    enum-known-chosen
     refused-file-requires
+    enum-known-chosen-2
+    read-behind-requires
     returns
-    read-proposals-requires
-    enum-known-answer
-    refused-file-requires-2
-    enum-told
-    sub-read-rest
-    part-read-rest-start
-    part-read-rest-end
-    read-rest-requires
-    returns-2
-    returns-3)
+    returns-2)

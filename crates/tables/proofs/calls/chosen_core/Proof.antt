@@ -20,10 +20,10 @@ array-read-t10 c = search needs
 
 returns : tie.Need-returns
 unfolding chosenCore
-returns c = let a = c .before .before .before .before .before .before .args in asks-refused (a .n) (a .sets .now) (c .before .before .before .before .accept .result) (c .before .before .before .before .accept .ensures) (λ table. result (chosen table)) _ (c .before .answer .given .1)
+returns c = let a = c .before .before .before .before .before .before .args in asks-refused (a .n) (a .sets .now) (c .before .before .before .before .accept .result) (c .before .before .before .before .accept .ensures .0) (λ table. result (chosen table)) _ (c .before .answer .given .1)
 
 returns-2 : tie.Need-returns-2
-returns-2 c = let a = c .before .before .before .before .before .args in let t = c .before .before .before .accept .result in first-core (a .n) (a .sets .now) t (c .before .before .before .accept .ensures) (accept-taken (a .n) (a .sets .now) t (c .before .before .before .accept .ensures) (c .enum-told .given .1))
+returns-2 c = let a = c .before .before .before .before .before .args in let t = c .before .before .before .accept .result in first-core (a .n) (a .sets .now) t (c .before .before .before .accept .ensures .0) (accept-taken (a .n) (a .sets .now) t (c .before .before .before .accept .ensures .0) (c .enum-told .given .1))
 
 pub chosen-core-spec : {M : Type 1} → statement M
 chosen-core-spec =

@@ -23,20 +23,20 @@ is-set-requires : tie.Need-is-set-requires
 is-set-requires c κs = search needs
 
 returns : tie.Need-returns
-returns c = let a = c .before .before .before .before .before .before .args in group-bad (a .n) (a .sets .now) (a .group) (c .before .before .before .before .accept .result) (c .before .before .before .before .accept .ensures) (c .before .before .enum-told .given .1) _ (c .before .is-set .ensures) (c .if1 .taken)
+returns c = let a = c .before .before .before .before .before .before .args in group-bad (a .n) (a .sets .now) (a .group) (c .before .before .before .before .accept .result) (c .before .before .before .before .accept .ensures .0) (c .before .before .enum-told .given .1) _ (c .before .is-set .ensures) (c .if1 .taken)
 
 meets-all-requires : tie.Need-meets-all-requires
 meets-all-requires c κs = search needs
 
 returns-2 : tie.Need-returns-2
-returns-2 c = let a = c .before .before .before .before .before .before .before .before .args in group-asked (a .n) (a .sets .now) (a .group) (c .before .before .before .before .before .before .accept .result) (c .before .before .before .before .before .before .accept .ensures) (c .before .before .before .before .enum-told .given .1) _ (c .before .before .before .is-set .ensures) (c .before .before .if1 .left) _ (sym (c .if2 .taken) ∙ c .before .meets-all .ensures)
+returns-2 c = let a = c .before .before .before .before .before .before .before .before .args in group-asked (a .n) (a .sets .now) (a .group) (c .before .before .before .before .before .before .accept .result) (c .before .before .before .before .before .before .accept .ensures .0) (c .before .before .before .before .enum-told .given .1) _ (c .before .before .before .is-set .ensures) (c .before .before .if1 .left) _ (sym (c .if2 .taken) ∙ c .before .meets-all .ensures)
 
 returns-3 : tie.Need-returns-3
 unfolding meetsEvery
-returns-3 c = let a = c .before .before .before .before .before .args in asks-refused (a .n) (a .sets .now) (c .before .before .before .accept .result) (c .before .before .before .accept .ensures) (λ table. refuseIf (not (isSet (a .n) (a .group))) BadSet (result (hits table (a .group)))) _ (c .before .answer .given .1)
+returns-3 c = let a = c .before .before .before .before .before .args in asks-refused (a .n) (a .sets .now) (c .before .before .before .accept .result) (c .before .before .before .accept .ensures .0) (λ table. refuseIf (not (isSet (a .n) (a .group))) BadSet (result (hits table (a .group)))) _ (c .before .answer .given .1)
 
 returns-4 : tie.Need-returns-4
-returns-4 c = let a = c .before .before .before .before .before .before .before .before .args in group-asked (a .n) (a .sets .now) (a .group) (c .before .before .before .before .before .before .accept .result) (c .before .before .before .before .before .before .accept .ensures) (c .before .before .before .before .enum-told .given .1) _ (c .before .before .before .is-set .ensures) (c .before .before .if1 .left) _ (sym (c .if2 .left) ∙ c .before .meets-all .ensures)
+returns-4 c = let a = c .before .before .before .before .before .before .before .before .args in group-asked (a .n) (a .sets .now) (a .group) (c .before .before .before .before .before .before .accept .result) (c .before .before .before .before .before .before .accept .ensures .0) (c .before .before .before .before .enum-told .given .1) _ (c .before .before .before .is-set .ensures) (c .before .before .if1 .left) _ (sym (c .if2 .left) ∙ c .before .meets-all .ensures)
 
 pub meets-every-spec : {M : Type 1} → statement M
 meets-every-spec =

@@ -32,15 +32,19 @@ find-requires c κs = search needs
 returns : tie.Need-returns
 unfolding completeOutcome
 returns c =
-    let a = c .before .before .before .before .before .before .before .before .before .before .args in
-    too-many (a .n) (a .sets .now) _ _ _ _ (normal-part (a .sets .now) _ _ _ (c .before .before .before .before .before .before .before .before .before .before .pre) refl (c .before .before .before .before .before .before .before .normal2 .ensures)) refl (c .before .before .find .ensures) (c .if1 .taken)
+    let a = c .before .before .before .before .before .before .before .before .before .before .args in (
+      too-many (a .n) (a .sets .now) _ _ _ _ (normal-part (a .sets .now) _ _ _ (c .before .before .before .before .before .before .before .before .before .before .pre) refl (c .before .before .before .before .before .before .before .normal2 .ensures)) refl (c .before .before .find .ensures) (c .if1 .taken),
+      record { sets = count-le (a .sets .now) _ _ _ (c .before .before .before .before .before .before .before .before .before .before .pre) refl (c .before .before .before .before .before .before .before .normal2 .ensures); cores = omega arith },
+    )
 
 returns-2 : tie.Need-returns-2
 unfolding completeOutcome setsOf
 returns-2 c =
-    let a = c .before .before .before .before .before .before .before .before .before .before .args in
-    completed (a .n) (a .sets .now) _ _ _ _ (normal-part (a .sets .now) _ _ _ (c .before .before .before .before .before .before .before .before .before .before .pre) refl (c .before .before .before .before .before .before .before .normal2 .ensures)) refl (c .before .before .find .ensures) (c .if1 .left)
-    _ (normal-taken (a .sets .now) _ _ _ (c .before .before .before .before .before .before .before .before .before .before .pre) refl (c .before .before .before .before .before .before .before .normal2 .ensures))
+    let a = c .before .before .before .before .before .before .before .before .before .before .args in (
+      completed (a .n) (a .sets .now) _ _ _ _ (normal-part (a .sets .now) _ _ _ (c .before .before .before .before .before .before .before .before .before .before .pre) refl (c .before .before .before .before .before .before .before .normal2 .ensures)) refl (c .before .before .find .ensures) (c .if1 .left)
+          _ (normal-taken (a .sets .now) _ _ _ (c .before .before .before .before .before .before .before .before .before .before .pre) refl (c .before .before .before .before .before .before .before .normal2 .ensures)),
+      record { sets = count-le (a .sets .now) _ _ _ (c .before .before .before .before .before .before .before .before .before .before .pre) refl (c .before .before .before .before .before .before .before .normal2 .ensures); cores = c .if1 .left },
+    )
 
 pub complete-sets-spec : {M : Type 1} → statement M
 complete-sets-spec =

@@ -18,10 +18,10 @@ complete-requires : tie.Need-complete-requires
 complete-requires c κs = search needs
 
 returns : tie.Need-returns
-returns c = finish-refused (c .before .before .before .before .before .args .listed) _ _ (c .before .before .answer .given .1) (c .refused-file .ensures .1)
+returns c = (finish-refused (c .before .before .before .before .before .args .listed) _ _ (c .before .before .answer .given .1) (c .refused-file .ensures .0), λ s h. c .refused-file .ensures .1 s)
 
 returns-2 : tie.Need-returns-2
-returns-2 c = finish-accepted (c .before .before .before .before .args .listed) _ (c .before .enum-told .given .1) refl (c .complete .ensures)
+returns-2 c = (finish-accepted (c .before .before .before .before .args .listed) _ (c .before .enum-told .given .1) refl (c .complete .ensures .0), λ s h. record { complete = c .complete .ensures .1; bytes = h .bytes })
 
 pub finish-spec : {M : Type 1} → statement M
 finish-spec =

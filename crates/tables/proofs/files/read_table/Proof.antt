@@ -11,7 +11,7 @@ finish-requires : tie.Need-finish-requires
 finish-requires c κs = search needs
 
 returns : tie.Need-returns
-returns c = table-finished (c .before .read-listed .result) _ (c .before .before .before .args .s .now) (c .before .read-listed .ensures) (c .finish .ensures (c .before .before .before .args .s .now))
+returns c = let s = c .before .before .before .args .s .now in let l = c .before .read-listed in (table-finished (l .result) _ s (l .ensures .0) (c .finish .ensures .0 s), c .finish .ensures .1 s (l .ensures .1))
 
 pub read-table-spec : {M : Type 1} → statement M
 read-table-spec = tie.close (tie.spec read-listed-requires finish-requires returns)

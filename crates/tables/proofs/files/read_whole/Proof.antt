@@ -20,16 +20,16 @@ refused-file-requires-2 : tie.Need-refused-file-requires-2
 refused-file-requires-2 c κs = search needs
 
 returns : tie.Need-returns
-returns c = whole-trailing (c .before .before .before .before .read-listed .result) _ (c .before .before .before .before .before .before .args .s .now) (c .before .before .before .before .read-listed .ensures) (c .before .before .enum-told .given .1) (c .before .if1 .taken) (c .refused-file2 .ensures .1)
+returns c = (whole-trailing (c .before .before .before .before .read-listed .result) _ (c .before .before .before .before .before .before .args .s .now) (c .before .before .before .before .read-listed .ensures .0) (c .before .before .enum-told .given .1) (c .before .if1 .taken) (c .refused-file2 .ensures .0), c .refused-file2 .ensures .1 (c .before .before .before .before .before .before .args .s .now))
 
 finish-requires : tie.Need-finish-requires
 finish-requires c κs = search needs
 
 returns-2 : tie.Need-returns-2
-returns-2 c = whole-refused (c .before .before .before .before .read-listed .result) _ (c .before .before .before .before .before .before .args .s .now) (c .before .before .before .before .read-listed .ensures) _ (c .before .before .answer .given .1) (c .refused-file .ensures .1)
+returns-2 c = (whole-refused (c .before .before .before .before .read-listed .result) _ (c .before .before .before .before .before .before .args .s .now) (c .before .before .before .before .read-listed .ensures .0) _ (c .before .before .answer .given .1) (c .refused-file .ensures .0), c .refused-file .ensures .1 (c .before .before .before .before .before .before .args .s .now))
 
 returns-3 : tie.Need-returns-3
-returns-3 c = whole-finished (c .before .before .before .before .read-listed .result) _ (c .before .before .before .before .before .before .args .s .now) (c .before .before .before .before .read-listed .ensures) (c .before .before .enum-told .given .1) (c .before .if1 .left) (c .finish .ensures (c .before .before .before .before .before .before .args .s .now))
+returns-3 c = (whole-finished (c .before .before .before .before .read-listed .result) _ (c .before .before .before .before .before .before .args .s .now) (c .before .before .before .before .read-listed .ensures .0) (c .before .before .enum-told .given .1) (c .before .if1 .left) (c .finish .ensures .0 (c .before .before .before .before .before .before .args .s .now)), c .finish .ensures .1 (c .before .before .before .before .before .before .args .s .now) (c .before .before .before .before .read-listed .ensures .1))
 
 pub read-whole-spec : {M : Type 1} → statement M
 read-whole-spec =

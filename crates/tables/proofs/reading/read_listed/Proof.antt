@@ -28,16 +28,16 @@ refused-requires-2 : tie.Need-refused-requires-2
 refused-requires-2 c κs = search needs
 
 returns : tie.Need-returns
-returns c = let a = c .before .before .before .before .before .before .before .before .args in refused-outcome _ _ _ (c .refused2 .ensures) ∙ listed-no-frame (a .s .now) _ (c .before .before .before .before .before .before .read-head .ensures) _ (c .before .before .before .before .enum-told .given .1) _ _ refl (c .before .before .is-frame .ensures) (c .before .if1 .taken)
+returns c = let a = c .before .before .before .before .before .before .before .before .args in (refused-outcome _ _ _ (c .refused2 .ensures .0) ∙ listed-no-frame (a .s .now) _ (c .before .before .before .before .before .before .read-head .ensures) _ (c .before .before .before .before .enum-told .given .1) _ _ refl (c .before .before .is-frame .ensures) (c .before .if1 .taken), c .refused2 .ensures .1 (a .s .now))
 
 read-sets-requires : tie.Need-read-sets-requires
 read-sets-requires c κs = let a = c .before .before .before .before .before .before .before .args in frame-whole (a .s .now) _ (c .before .before .before .before .before .read-head .ensures) _ (c .before .before .before .enum-told .given .1)
 
 returns-2 : tie.Need-returns-2
-returns-2 c = let a = c .before .before .before .before .before .before .args in refused-outcome _ _ _ (c .refused .ensures) ∙ listed-refused (a .s .now) _ (c .before .before .before .before .read-head .ensures) _ (c .before .before .head .given .1)
+returns-2 c = let a = c .before .before .before .before .before .before .args in (refused-outcome _ _ _ (c .refused .ensures .0) ∙ listed-refused (a .s .now) _ (c .before .before .before .before .read-head .ensures) _ (c .before .before .head .given .1), c .refused .ensures .1 (a .s .now))
 
 returns-3 : tie.Need-returns-3
-returns-3 c = let a = c .before .before .before .before .before .before .before .before .args in c .read-sets .ensures ∙ listed-sets (a .s .now) _ (c .before .before .before .before .before .before .read-head .ensures) _ (c .before .before .before .before .enum-told .given .1) _ _ refl (c .before .before .is-frame .ensures) (c .before .if1 .left)
+returns-3 c = let a = c .before .before .before .before .before .before .before .before .args in (c .read-sets .ensures .0 ∙ listed-sets (a .s .now) _ (c .before .before .before .before .before .before .read-head .ensures) _ (c .before .before .before .before .enum-told .given .1) _ _ refl (c .before .before .is-frame .ensures) (c .before .if1 .left), c .read-sets .ensures .1)
 
 pub read-listed-spec : {M : Type 1} → statement M
 read-listed-spec =

@@ -36,7 +36,7 @@ refused-requires : tie.Need-refused-requires Inv-loop μ-loop
 refused-requires c κs = search needs
 
 returns : tie.Need-returns Inv-loop μ-loop
-returns c = let l = c .before .before .before .before .before .before .loop in let a = c .before .before .before .before .before .before .before .before .args in refused-outcome _ _ _ (c .refused .ensures) ∙ reading-stop (a .s .now) (a .n) (l .sets) (l .count) (l .at) (l .inv) _ (from-part (a .s .now) (a .n) (l .count) (l .at) _ _ (c .before .before .next .given .1) (c .before .before .before .before .next-step .ensures))
+returns c = let l = c .before .before .before .before .before .before .loop in let a = c .before .before .before .before .before .before .before .before .args in (refused-outcome _ _ _ (c .refused .ensures .0) ∙ reading-stop (a .s .now) (a .n) (l .sets) (l .count) (l .at) (l .inv) _ (from-part (a .s .now) (a .n) (l .count) (l .at) _ _ (c .before .before .next .given .1) (c .before .before .before .before .next-step .ensures)), c .refused .ensures .1 (a .s .now))
 
 enum-told : tie.Need-enum-told Inv-loop μ-loop
 enum-told c = search needs
@@ -46,7 +46,7 @@ add-t16 c = let l = c .before .before .before .before .loop in let a = c .before
 
 returns-2 : tie.Need-returns-2 Inv-loop μ-loop
 unfolding readOutcome setsOf
-returns-2 c = let l = c .before .before .before .before .loop in let a = c .before .before .before .before .before .before .args in reading-end (a .s .now) (a .n) (l .sets) (l .count) (l .at) (l .inv) (from-part (a .s .now) (a .n) (l .count) (l .at) _ _ (c .enum-told .given .1) (c .before .before .next-step .ensures))
+returns-2 c = let l = c .before .before .before .before .loop in let a = c .before .before .before .before .before .before .args in (reading-end (a .s .now) (a .n) (l .sets) (l .count) (l .at) (l .inv) (from-part (a .s .now) (a .n) (l .count) (l .at) _ _ (c .enum-told .given .1) (c .before .before .next-step .ensures)), record { sets = l .inv .few; bytes = end-within (a .s .now) (a .n) (l .sets) (l .count) (l .at) (l .inv) (from-part (a .s .now) (a .n) (l .count) (l .at) _ _ (c .enum-told .given .1) (c .before .before .next-step .ensures)) })
 
 enum-known-next-2 : tie.Need-enum-known-next-2 Inv-loop μ-loop
 enum-known-next-2 c = search needs

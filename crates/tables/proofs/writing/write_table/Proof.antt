@@ -1,6 +1,6 @@
 -- The table's refusals, then the room.
 use Rattle.tables.proofs.WriteCalls.{writes-refused, writes-table}
-use Rattle.tables.proofs.Completes.{all-taken, first-taken}
+use Rattle.tables.proofs.Completes.{first-taken}
 use lib.ListN.{length}
 use native.Mathlib.Omega.{arith}
 use mathlib.Core.Path.{_≡_}
@@ -17,18 +17,6 @@ enum-known-answer c = search needs
 enum-told : tie.Need-enum-told
 enum-told c = search needs
 
-slice-aggregate-write-sets : tie.Need-slice-aggregate-write-sets
-slice-aggregate-write-sets c = search needs
-
-write-sets-requires : tie.Need-write-sets-requires
-write-sets-requires c κs = let long : length (c .before .before .before .before .before .before .before .accept .result .table .sets) ≡ 128 = search needs in omega arith
-
-same-length : tie.Need-same-length
-same-length c = search needs
-
-returns : tie.Need-returns
-returns c = let a = c .before .before .before .before .before .before .before .before .before .before .before .before .before .args in let t = c .before .before .before .before .before .before .before .before .before .before .accept .result in writes-table (a .n) (a .sets .now) (a .start) (a .buf .now) t (c .before .before .before .before .before .before .before .before .before .before .accept .ensures) _ _ _ (c .before .before .before .before .before .before .enum-told .given .1) (all-taken (t .table) (search needs) (c .before .before .before .before .before .if1 .taken)) (c .before .before .write-sets .ensures)
-
 sub-write-sets : tie.Need-sub-write-sets
 sub-write-sets c = search needs
 
@@ -36,19 +24,22 @@ part-write-sets-start : tie.Need-part-write-sets-start
 part-write-sets-start c = search needs
 
 part-write-sets-end : tie.Need-part-write-sets-end
-part-write-sets-end c = let long : length (c .before .before .before .before .before .before .accept .result .table .sets) ≡ 128 = search needs in omega arith
+part-write-sets-end c =
+    let t = c .before .before .before .before .before .accept in
+    let long : length (t .result .table .sets) ≡ 128 = search needs in
+    omega (arith, t .ensures .1 .sets)
 
-write-sets-requires-2 : tie.Need-write-sets-requires-2
-write-sets-requires-2 c κs = search needs
+write-sets-requires : tie.Need-write-sets-requires
+write-sets-requires c κs = search needs
+
+returns : tie.Need-returns
+returns c = let a = c .before .before .before .before .before .before .before .before .args in writes-refused (a .n) (a .sets .now) (a .start) (a .buf .now) (c .before .before .before .before .before .accept .result) (c .before .before .before .before .before .accept .ensures .0) _ (c .before .answer .given .1)
+
+same-length : tie.Need-same-length
+same-length c = search needs
 
 returns-2 : tie.Need-returns-2
-returns-2 c = let a = c .before .before .before .before .before .before .before .before .args in writes-refused (a .n) (a .sets .now) (a .start) (a .buf .now) (c .before .before .before .before .before .accept .result) (c .before .before .before .before .before .accept .ensures) _ (c .before .answer .given .1)
-
-same-length-2 : tie.Need-same-length-2
-same-length-2 c = search needs
-
-returns-3 : tie.Need-returns-3
-returns-3 c = let a = c .before .before .before .before .before .before .before .before .before .before .before .before .before .before .args in let t = c .before .before .before .before .before .before .before .before .before .before .before .accept .result in writes-table (a .n) (a .sets .now) (a .start) (a .buf .now) t (c .before .before .before .before .before .before .before .before .before .before .before .accept .ensures) _ _ _ (c .before .before .before .before .before .before .before .enum-told .given .1) (first-taken (t .table)) (c .before .before .write-sets2 .ensures)
+returns-2 c = let a = c .before .before .before .before .before .before .before .before .before .before .before .before .before .args in let t = c .before .before .before .before .before .before .before .before .before .before .accept in writes-table (a .n) (a .sets .now) (a .start) (a .buf .now) (t .result) (t .ensures .0) _ _ _ (c .before .before .before .before .before .before .enum-told .given .1) (first-taken (t .result .table)) (c .before .before .write-sets .ensures)
 
 pub write-table-spec : {M : Type 1} → statement M
 write-table-spec =
@@ -57,14 +48,10 @@ write-table-spec =
     accept-requires
     enum-known-answer
     enum-told
-    slice-aggregate-write-sets
-    write-sets-requires
-    same-length
-    returns
     sub-write-sets
     part-write-sets-start
     part-write-sets-end
-    write-sets-requires-2
-    returns-2
-    same-length-2
-    returns-3)
+    write-sets-requires
+    returns
+    same-length
+    returns-2)

@@ -1,8 +1,9 @@
 -- 12, the table's refusals, or the verdict on the normal table.
-use mathlib.Core.Path.{_≡_, _∙_}
+use mathlib.Core.Path.{_≡_, ap, _∙_}
 use native.Mathlib.Omega.{arith}
 use lib.ListN.{length}
-use Rattle.tables.proofs.Completes.{all-taken, first-taken}
+use Rattle.verdicts.specs.Held.{heldIn}
+use Rattle.tables.proofs.Completes.{first-taken}
 use Rattle.verdicts.proofs.Judgements.{bounds, judged-outside, judged-refused, judged-table}
 use borrow.Author.Needs.{needs}
 use Rattle.verdicts.proofs.calls.judge.Statement.{statement}
@@ -15,7 +16,10 @@ refused-requires : tie.Need-refused-requires
 refused-requires c κs = search needs
 
 returns : tie.Need-returns
-returns c = let a = c .before .before .before .before .args in c .refused .ensures (a .k) ∙ judged-outside (a .k) (a .n) (a .sets .now) _ (c .before .before .is-block-count .ensures) (c .before .if1 .taken)
+returns c =
+    let a = c .before .before .before .before .args in
+    let is = judged-outside (a .k) (a .n) (a .sets .now) _ (c .before .before .is-block-count .ensures) (c .before .if1 .taken) in
+    (c .refused .ensures .0 (a .k) ∙ is, c .refused .ensures .1 ∙ ap heldIn is)
 
 accept-requires : tie.Need-accept-requires
 accept-requires c κs = search needs
@@ -29,15 +33,6 @@ refused-requires-2 c κs = search needs
 enum-told : tie.Need-enum-told
 enum-told c = search needs
 
-slice-aggregate-on-normal : tie.Need-slice-aggregate-on-normal
-slice-aggregate-on-normal c = search needs
-
-on-normal-requires : tie.Need-on-normal-requires
-on-normal-requires c κs = let a = c .before .before .before .before .before .before .before .before .before .before .args in let b = bounds (a .k) (a .n) (a .sets .now) _ (c .before .before .before .before .before .before .before .before .is-block-count .ensures) (c .before .before .before .before .before .before .before .if1 .left) in let long : length (c .before .before .before .before .before .before .accept .result .table .sets) ≡ 128 = search needs in (b .0, b .1, omega arith)
-
-returns-2 : tie.Need-returns-2
-returns-2 c = let a = c .before .before .before .before .before .before .before .before .before .before .before .args in let t = c .before .before .before .before .before .before .before .accept .result in c .on-normal .ensures ∙ judged-table (a .k) (a .n) (a .sets .now) _ (c .before .before .before .before .before .before .before .before .before .is-block-count .ensures) (c .before .before .before .before .before .before .before .before .if1 .left) t (c .before .before .before .before .before .before .before .accept .ensures) _ (c .before .before .before .enum-told .given .1) (all-taken (t .table) (search needs) (c .before .before .if2 .taken))
-
 sub-on-normal : tie.Need-sub-on-normal
 sub-on-normal c = search needs
 
@@ -45,16 +40,27 @@ part-on-normal-start : tie.Need-part-on-normal-start
 part-on-normal-start c = search needs
 
 part-on-normal-end : tie.Need-part-on-normal-end
-part-on-normal-end c = let long : length (c .before .before .before .before .before .before .accept .result .table .sets) ≡ 128 = search needs in omega arith
+part-on-normal-end c =
+    let t = c .before .before .before .before .before .accept in
+    let long : length (t .result .table .sets) ≡ 128 = search needs in
+    omega (arith, t .ensures .1 .sets)
 
-on-normal-requires-2 : tie.Need-on-normal-requires-2
-on-normal-requires-2 c κs = let a = c .before .before .before .before .before .before .before .before .before .before .before .args in let b = bounds (a .k) (a .n) (a .sets .now) _ (c .before .before .before .before .before .before .before .before .before .is-block-count .ensures) (c .before .before .before .before .before .before .before .before .if1 .left) in (b .0, b .1, search needs)
+on-normal-requires : tie.Need-on-normal-requires
+on-normal-requires c κs = let a = c .before .before .before .before .before .before .before .before .before .before .args in let b = bounds (a .k) (a .n) (a .sets .now) _ (c .before .before .before .before .before .before .before .before .is-block-count .ensures) (c .before .before .before .before .before .before .before .if1 .left) in (b .0, b .1, search needs)
+
+returns-2 : tie.Need-returns-2
+returns-2 c =
+    let a = c .before .before .before .before .before .before .before .before .before .before .args in
+    let t = c .before .before .before .before .before .before .accept in
+    let is = judged-refused (a .k) (a .n) (a .sets .now) _ (c .before .before .before .before .before .before .before .before .is-block-count .ensures) (c .before .before .before .before .before .before .before .if1 .left) (t .result) (t .ensures .0) _ (c .before .before .answer .given .1) in
+    (c .refused2 .ensures .0 (a .k) ∙ is, c .refused2 .ensures .1 ∙ ap heldIn is)
 
 returns-3 : tie.Need-returns-3
-returns-3 c = let a = c .before .before .before .before .before .before .before .before .before .before .args in c .refused2 .ensures (a .k) ∙ judged-refused (a .k) (a .n) (a .sets .now) _ (c .before .before .before .before .before .before .before .before .is-block-count .ensures) (c .before .before .before .before .before .before .before .if1 .left) (c .before .before .before .before .before .before .accept .result) (c .before .before .before .before .before .before .accept .ensures) _ (c .before .before .answer .given .1)
-
-returns-4 : tie.Need-returns-4
-returns-4 c = let a = c .before .before .before .before .before .before .before .before .before .before .before .before .args in let t = c .before .before .before .before .before .before .before .before .accept .result in c .on-normal2 .ensures ∙ judged-table (a .k) (a .n) (a .sets .now) _ (c .before .before .before .before .before .before .before .before .before .before .is-block-count .ensures) (c .before .before .before .before .before .before .before .before .before .if1 .left) t (c .before .before .before .before .before .before .before .before .accept .ensures) _ (c .before .before .before .before .enum-told .given .1) (first-taken (t .table))
+returns-3 c =
+    let a = c .before .before .before .before .before .before .before .before .before .before .before .args in
+    let t = c .before .before .before .before .before .before .before .accept in
+    let is = judged-table (a .k) (a .n) (a .sets .now) _ (c .before .before .before .before .before .before .before .before .before .is-block-count .ensures) (c .before .before .before .before .before .before .before .before .if1 .left) (t .result) (t .ensures .0) _ (c .before .before .before .enum-told .given .1) (first-taken (t .result .table)) in
+    (c .on-normal .ensures .0 ∙ is, c .on-normal .ensures .1 ∙ ap heldIn is)
 
 pub judge-spec : {M : Type 1} → statement M
 judge-spec =
@@ -67,12 +73,9 @@ judge-spec =
     enum-known-answer
     refused-requires-2
     enum-told
-    slice-aggregate-on-normal
-    on-normal-requires
-    returns-2
     sub-on-normal
     part-on-normal-start
     part-on-normal-end
-    on-normal-requires-2
-    returns-3
-    returns-4)
+    on-normal-requires
+    returns-2
+    returns-3)

@@ -1,12 +1,12 @@
 -- A refusal, on every k.
 use mathlib.Core.Path.{refl}
-use Rattle.verdicts.specs.Held.{judgementOf}
+use Rattle.verdicts.specs.Held.{judgementOf, heldIn, answerOf, inFour}
 use Rattle.verdicts.proofs.calls.refused.Statement.{statement}
 use Rattle.verdicts.proofs.calls.refused.Tie as tie
 
 returns : tie.Need-returns
-unfolding judgementOf
-returns c = λ k. refl
+unfolding judgementOf heldIn answerOf inFour
+returns c = (λ k. refl, refl)
 
 pub refused-spec : {M : Type 1} → statement M
 refused-spec = tie.close (tie.spec returns)

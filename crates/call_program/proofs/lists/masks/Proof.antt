@@ -1,14 +1,14 @@
 -- Only the bound of the place is needed.
 use borrow.Author.Needs.{needs}
 use Prim.Native.Nat.{_≤_, _-_}
-use Rattle.call_program.proofs.script.sets.Statement.{statement}
-use Rattle.call_program.proofs.script.sets.Tie as tie
+use Rattle.call_program.proofs.lists.masks.Statement.{statement}
+use Rattle.call_program.proofs.lists.masks.Tie as tie
 
 abbrev Inv-loop : tie.InvT-loop
-Inv-loop s sets₀ i₀ sets i = i ≤ 130
+Inv-loop list masks₀ i₀ masks i = i ≤ 1026
 
 abbrev μ-loop : tie.MeasureT-loop
-μ-loop s sets₀ i₀ sets i = 130 - i
+μ-loop list masks₀ i₀ masks i = 1026 - i
 
 loop-holds : tie.Need-loop-holds Inv-loop μ-loop
 loop-holds c = search needs
@@ -22,11 +22,11 @@ add-wide c = search needs
 wide-requires : tie.Need-wide-requires Inv-loop μ-loop
 wide-requires c κs = search needs
 
-mul-sets : tie.Need-mul-sets Inv-loop μ-loop
-mul-sets c = search needs
+mul-masks : tie.Need-mul-masks Inv-loop μ-loop
+mul-masks c = search needs
 
-array-write-sets : tie.Need-array-write-sets Inv-loop μ-loop
-array-write-sets c = search needs
+array-write-masks : tie.Need-array-write-masks Inv-loop μ-loop
+array-write-masks c = search needs
 
 add-i : tie.Need-add-i Inv-loop μ-loop
 add-i c = search needs
@@ -40,8 +40,8 @@ loop-again c = search needs
 returns : tie.Need-returns Inv-loop μ-loop
 returns c = search needs
 
-pub sets-spec : {M : Type 1} → statement M
-sets-spec =
+pub masks-spec : {M : Type 1} → statement M
+masks-spec =
     tie.close
     (tie.spec
     Inv-loop
@@ -50,8 +50,8 @@ sets-spec =
     mul-wide
     add-wide
     wide-requires
-    mul-sets
-    array-write-sets
+    mul-masks
+    array-write-masks
     add-i
     loop-less
     loop-again
