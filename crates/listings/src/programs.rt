@@ -136,7 +136,7 @@ fn print(text: &[u8], out: &mut [u8], start: usize) -> Writing
 pub fn table_listing(input: &[u8], out: &mut [u8], start: usize) -> Writing
     ensures { λ r. ⌜ Printed (tableProgram (now (input .entry))) start (now (out .entry)) (now (out .exit)) r ⌝ }
 {
-    let mut text = [0u8; 32768];
+    let mut text = [0u8; MAX_TEXT];
     let size = put_table(&mut text, input);
     print(&text[0..size], out, start)
 }
@@ -145,7 +145,7 @@ pub fn table_listing(input: &[u8], out: &mut [u8], start: usize) -> Writing
 pub fn run_listing(input: &[u8], out: &mut [u8], start: usize) -> Writing
     ensures { λ r. ⌜ Printed (runProgram (now (input .entry))) start (now (out .entry)) (now (out .exit)) r ⌝ }
 {
-    let mut text = [0u8; 32768];
+    let mut text = [0u8; MAX_TEXT];
     let size = put_run(&mut text, input);
     print(&text[0..size], out, start)
 }

@@ -4,11 +4,12 @@
 // Input behind the first 4096 bytes changes nothing (`run-program-start` in listings), and is left unread.
 use libc::STDIN_FILENO;
 use libc::STDOUT_FILENO;
+use listings::programs::MAX_TEXT;
 
 fn main() {
     let mut input = [0u8; 4096];
     let n = io::read_full(STDIN_FILENO, &mut input);
-    let mut text = [0u8; 32768];
+    let mut text = [0u8; MAX_TEXT];
     let w = listings::programs::run_listing(&input[..n], &mut text, 0);
     let size = listings::programs::written(w, &text);
     io::write_all(STDOUT_FILENO, &text[..size]);

@@ -1,4 +1,4 @@
-// The calls given n and sets or groups: the chosen core, whether some drives meet every set, Back, and the writer.
+// The calls given n and sets or groups: the chosen core, whether some drives meet every set, and Back.
 ghost use mathlib.Core.Path.{_≡_};
 ghost use Prim.Native.Nat.{_≤_};
 ghost use Rattle.drive_sets.specs.Refusals.{refused};

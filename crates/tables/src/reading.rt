@@ -10,7 +10,6 @@ use drive_sets::Refusal;
 use hitting_sets::MAX_SETS;
 use records::Due;
 use records::Head;
-use records::Kind;
 
 // A table: n drives, and its sets, the first `count` of the array.
 pub struct Table {

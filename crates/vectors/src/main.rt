@@ -5,6 +5,7 @@
 ghost use Prim.Native.Nat.{_≤_};
 use libc::STDIN_FILENO;
 use libc::STDOUT_FILENO;
+use listings::programs::MAX_TEXT;
 use tables::writing::Writing;
 
 // The first bytes, so many or all there are.
@@ -33,7 +34,7 @@ fn list(s: &[u8], text: &mut [u8]) -> Writing {
 
 // Prints the text of the input at the start.
 fn print(s: &[u8]) {
-    let mut text = [0u8; 32768];
+    let mut text = [0u8; MAX_TEXT];
     let w = list(s, &mut text);
     let size = listings::programs::written(w, &text);
     io::write_all(STDOUT_FILENO, &text[..size]);
