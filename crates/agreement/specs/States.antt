@@ -6,6 +6,7 @@ use mathlib.Core.Bool.{Bool, true, false, not, _&&_, _||_, cond}
 use mathlib.Core.List.{List, [], _∷_, map}
 use mathlib.Core.Option.{Option, none, some}
 use Prim.Native.Nat.{ℕ, suc, _≤_, _<_}
+use Rattle.drive_sets.specs.declared.Pattern.{Pattern}
 use Rattle.drive_sets.specs.Bools.{_⊆_}
 use Rattle.drive_sets.specs.Options.{isSome}
 use Rattle.drive_sets.specs.Lists.{range, any}
@@ -14,6 +15,7 @@ use Rattle.drive_sets.specs.Masks.Tests.{setOf}
 use Rattle.exchange.specs.declared.Exchange.{Exchange}
 use Rattle.exchange.specs.declared.Announcement.{Announcement}
 use Rattle.exchange.specs.declared.Announcement.the-variants.{Absent, By}
+use Rattle.exchange.specs.State.{pattern}
 use Rattle.exchange.specs.Messages.{knownBytes, decideBytes}
 use Rattle.exchange.specs.Calls.{decisionOn}
 use Rattle.sync_crash.specs.Rounds.{Instance, InFrame, knows, before, decision}
@@ -29,8 +31,8 @@ pub mod Receiving
 pub mod Closing
 
 -- the pattern numbers of a set of drives, drive 1 first; 0 where a drive is not in the set
-unfoldable pub numbersOf : (ℕ → ℕ) → (ℕ → Bool) → List ℕ
-numbersOf number p = map (λ d. cond (p d) (number d) 0) (range 1 64)
+unfoldable pub numbersOf : (ℕ → ℕ) → (ℕ → Bool) → List Pattern
+numbersOf number p = map (λ d. pattern (cond (p d) (number d) 0)) (range 1 64)
 
 -- the announcement of the first drive on the list that makes one, where f is what each drive announces
 unfoldable pub announcementBy : ℕ → Option ℕ → Announcement → Announcement

@@ -1,6 +1,7 @@
 // The lines that the call program prints: answers, buffers, and states field by field.
 ghost use Prim.Native.Nat.{_<_};
 use crate::script;
+use drive_sets::Pattern;
 use drive_sets::Refusal;
 use exchange::Announcement;
 use exchange::Decision;
@@ -103,20 +104,20 @@ fn low_byte(v: u16) -> u8 {
 }
 
 // The bytes of the pattern numbers, the high one first.
-fn number_bytes(numbers: [u16; 64]) -> [u8; 128] {
+fn number_bytes(numbers: [Pattern; 64]) -> [u8; 128] {
     let mut bytes = [0u8; 128];
     let mut i = 0;
     while i < 64 {
         let v = numbers[i];
-        bytes[2 * i] = high_byte(v);
-        bytes[2 * i + 1] = low_byte(v);
+        bytes[2 * i] = high_byte(v.0);
+        bytes[2 * i + 1] = low_byte(v.0);
         i += 1;
     }
     bytes
 }
 
 // The pattern numbers, four digits each.
-fn print_numbers(numbers: [u16; 64]) {
+fn print_numbers(numbers: [Pattern; 64]) {
     let bytes = number_bytes(numbers);
     print(b" numbers ");
     print_digits(&bytes);

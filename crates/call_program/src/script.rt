@@ -26,11 +26,12 @@ pub fn first(s: &[u8], size: usize) -> &[u8] {
     &s[0..size]
 }
 
-fn numbers(s: &[u8]) -> [u16; 64] {
-    let mut numbers = [0u16; 64];
+fn numbers(s: &[u8]) -> [Pattern; 64] {
+    let mut numbers = [Pattern(0); 64];
     let mut i = 0;
     while i < 64 {
-        numbers[i] = short(s, 44 + 2 * i);
+        let v = Pattern(short(s, 44 + 2 * i));
+        numbers[i] = v;
         i += 1;
     }
     numbers

@@ -1,10 +1,9 @@
 -- The close of a round, one lemma for each return of the functions that make it.
 use mathlib.Core.Path.{_≡_, refl, sym, ap, _∙_, subst}
 use mathlib.Core.Bool.{Bool, true, false, not, _&&_, _||_, cond}
-use Prim.Native.Nat.{ℕ, _+_, _-_, _≤_}
+use Prim.Native.Nat.{ℕ, _+_, _≤_}
 use native.Mathlib.Omega.{arith}
 use lib.Dec.{leb, eqb}
-use lib.ListN.{getD}
 use borrow.Author.Tests.{eq-eqb, ne-eqb, leb-true}
 use Rattle.drive_sets.specs.Bools.{cond-true, cond-false, and-intro, and-right, and-second, and-fails-left, and-fails-right, or-left, or-right, or-second, or-neither, true-of, clash}
 use Rattle.drive_sets.specs.declared.Drive.{Drive}
@@ -24,7 +23,7 @@ use Rattle.exchange.specs.declared.Announcement.{Announcement}
 use Rattle.exchange.specs.declared.Announcement.the-variants.{Absent, By}
 use Rattle.exchange.specs.declared.Decision.{Decision}
 use Rattle.exchange.specs.declared.Decision.the-variants.{Undecided, Decided}
-use Rattle.exchange.specs.State.{isDrive, inCore, numberOf, isDecided, broken}
+use Rattle.exchange.specs.State.{isDrive, inCore, numberIn, numberOf, isDecided, broken}
 use Rattle.exchange.specs.Calls.{heardAtClose, quiet, decisionOn, quietDecision, decide, decisionAfter, halts, next, closing}
 use Rattle.exchange.specs.Replies.{replyOf, stateAfter, Replied}
 
@@ -41,7 +40,7 @@ module _ (x : Exchange) where
     some-missing ne =
         sym (cond-false (decisionOn (smallest (numberOf x) (drives (x .known)))) Undecided (and-fails-right (not (eqb (heardAtClose x) 0)) (ne-eqb (heardAtClose x) (x .before) (λ q. ne (e ∙ q)))))
 
-    pub all-heard : (h ≡ 0 → ⊥) → h ≡ x .before → (d : Decision) → d ≡ decisionOn (smallest (λ i. getD (x .numbers) (i - 1) 0) (drives (x .known))) → d ≡ quietDecision x
+    pub all-heard : (h ≡ 0 → ⊥) → h ≡ x .before → (d : Decision) → d ≡ decisionOn (smallest (numberIn (x .numbers)) (drives (x .known))) → d ≡ quietDecision x
     unfolding quietDecision quiet numberOf
     all-heard ne q d k =
         k

@@ -5,15 +5,16 @@ use mathlib.Core.List.{List, [], _∷_}
 use Prim.Native.Nat.{ℕ, _+_, _*_, _-_, _^_, _≤_, _<_}
 use native.Mathlib.Omega.{arith}
 use lib.Dec.{eqb}
-use lib.ListN.{getD, set, drop}
+use lib.ListN.{set, drop}
 use lib.Seq.{drop-drop}
 use Rattle.drive_sets.specs.Bools.{or-left, or-second}
+use Rattle.drive_sets.specs.declared.Pattern.{Pattern}
 use Rattle.drive_sets.specs.Masks.{has, single, minus, size, lowest, drives}
 use Rattle.drive_sets.specs.Masks.Laws.{minus-lt}
 use Rattle.drive_sets.specs.Masks.Sizes.{size-le, drives-lowest, drives-none}
 use Rattle.exchange.proofs.Least.{lowest-bounds, removed-less}
 use Rattle.exchange.specs.declared.Exchange.{Exchange}
-use Rattle.exchange.specs.State.{numberOf}
+use Rattle.exchange.specs.State.{pattern, numberIn, numberOf}
 use Rattle.exchange.specs.Messages.{fieldAt, Entry, entriesFrom}
 use Rattle.exchange.specs.Calls.{anyDiffers, stored}
 
@@ -38,7 +39,7 @@ module _ (s : List ℕ) where
   unfolding anyDiffers
   differs-end x m place z = ap (anyDiffers x) (none-left m place z)
 
-  pub stored-end : (numbers : List ℕ) (m place : ℕ) → m ≡ 0 → stored numbers (left m place) ≡ numbers
+  pub stored-end : (numbers : List Pattern) (m place : ℕ) → m ≡ 0 → stored numbers (left m place) ≡ numbers
   unfolding stored
   stored-end numbers m place z = ap (stored numbers) (none-left m place z)
 
@@ -69,7 +70,7 @@ module _ (s : List ℕ) where
           (drives-lowest m (w .word) some ∙ sym (ap (λ (a : ℕ). a ∷ drives (minus m (single a))) low))
           ∙ ap₂ (λ (n : ℕ) (l : List ℕ). record { drive = d; number = n } ∷ entriesFrom (drives (minus m (single d))) l) (sym number) (drop-drop 2 place s)
 
-      module _ (x : Exchange) (t : Bool) (test : t ≡ (has d (x .known) && not (eqb (getD (x .numbers) (d - 1) 0) v))) where
+      module _ (x : Exchange) (t : Bool) (test : t ≡ (has d (x .known) && not (eqb (numberIn (x .numbers) d) v))) where
         pub differs-stop : t ≡ true → anyDiffers x (left m place) ≡ true
         unfolding anyDiffers numberOf
         differs-stop h = ap (anyDiffers x) taken ∙ or-left (anyDiffers x others) (sym test ∙ h)
@@ -81,7 +82,7 @@ module _ (s : List ℕ) where
             ∙ (or-second (has d (x .known) && not (eqb (numberOf x d) v)) (anyDiffers x others) (sym test ∙ h)
             ∙ sym (ap (anyDiffers x) taken))
 
-      pub stored-step : (numbers : List ℕ) (m' : ℕ) → m' ≡ minus m (single d)
-          → stored (set numbers (d - 1) v) (left m' (place + 2)) ≡ stored numbers (left m place)
+      pub stored-step : (numbers : List Pattern) (m' : ℕ) → m' ≡ minus m (single d)
+          → stored (set numbers (d - 1) (pattern v)) (left m' (place + 2)) ≡ stored numbers (left m place)
       unfolding stored others
-      stored-step numbers m' rest = ap (λ (a : ℕ). stored (set numbers (d - 1) v) (left a (place + 2))) rest ∙ sym (ap (stored numbers) taken)
+      stored-step numbers m' rest = ap (λ (a : ℕ). stored (set numbers (d - 1) (pattern v)) (left a (place + 2))) rest ∙ sym (ap (stored numbers) taken)

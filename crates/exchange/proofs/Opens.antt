@@ -6,6 +6,7 @@ use Prim.Native.Nat.{ℕ, _-_, _^_, _≤_, _<_}
 use lib.ListN.{set, replicate}
 use borrow.Author.Tests.{not-false}
 use Rattle.drive_sets.specs.Bools.{cond-true, cond-false}
+use Rattle.drive_sets.specs.declared.Pattern.{Pattern}
 use Rattle.drive_sets.specs.declared.Refusal.{Refusal}
 use Rattle.drive_sets.specs.declared.Refusal.the-variants.{DriveNumber}
 use Rattle.drive_sets.specs.Refusals.{Outcome, refused, result, refuseIf, andThen}
@@ -18,7 +19,7 @@ use Rattle.tables.specs.Answers.{chosenOutcome}
 use Rattle.exchange.specs.declared.Exchange.{Exchange}
 use Rattle.exchange.specs.declared.Announcement.the-variants.{Absent}
 use Rattle.exchange.specs.declared.Decision.the-variants.{Undecided}
-use Rattle.exchange.specs.State.{isDrive}
+use Rattle.exchange.specs.State.{isDrive, pattern}
 use Rattle.exchange.specs.Calls.{initial, opening}
 
 module _ {A B C : Type 0} where
@@ -54,7 +55,7 @@ module _ (n : ℕ) (sets : List ℕ) (own number : ℕ) (t : Chosen) (e : chosen
 -- ---- the state at opening, by what it computes
 
 module _ (n core own number : ℕ) where
-  abbrev made : ℕ → List ℕ → Exchange
+  abbrev made : ℕ → List Pattern → Exchange
   made known numbers = record {
     n = n;
     own = record { 0 = own };
@@ -70,8 +71,8 @@ module _ (n core own number : ℕ) where
     halted = false;
   }
 
-  pub initial-is : (known : ℕ) (numbers : List ℕ) → known ≡ cond (has own core) (single own) 0
-      → numbers ≡ cond (has own core) (set (replicate 64 0) (own - 1) number) (replicate 64 0) → made known numbers ≡ initial n core own number
+  pub initial-is : (known : ℕ) (numbers : List Pattern) → known ≡ cond (has own core) (single own) 0
+      → numbers ≡ cond (has own core) (set (replicate 64 (pattern 0)) (own - 1) (pattern number)) (replicate 64 (pattern 0)) → made known numbers ≡ initial n core own number
   unfolding initial
   initial-is known numbers e f = ap (λ (k : ℕ). made k numbers) e ∙ ap (made (cond (has own core) (single own) 0)) f
 

@@ -122,7 +122,7 @@ module _ (a : Announcement) (d : Drive) (v : Pattern) where
 -- ---- the state after an accepted message, by what it computes
 
 module _ (x : Exchange) (s : List ℕ) where
-  abbrev after : ℕ → ℕ → List ℕ → Announcement → Exchange
+  abbrev after : ℕ → ℕ → List Pattern → Announcement → Exchange
   after heard known numbers announced = record {
     n = x .n;
     own = x .own;
@@ -142,12 +142,12 @@ module _ (x : Exchange) (s : List ℕ) where
     heard-is : h ≡ union (x .heard) (single (senderOf s))
     heard-is = f ∙ ap (λ (w : ℕ). union (x .heard) (single w)) e
 
-    pub known-accepted : (m : ℕ) → m ≡ maskOf s → (l : List ℕ) → l ≡ stored (x .numbers) (entriesFrom (drives m) (drop 12 s))
+    pub known-accepted : (m : ℕ) → m ≡ maskOf s → (l : List Pattern) → l ≡ stored (x .numbers) (entriesFrom (drives m) (drop 12 s))
         → after h (bitOr (x .known) m) l (x .announced) ≡ acceptKnown x s
     unfolding acceptKnown union entries
     known-accepted m g l i =
         ap (λ (w : ℕ). after w (bitOr (x .known) m) l (x .announced)) heard-is
-        ∙ (ap (λ (b : List ℕ). after (bitOr (x .heard) (single (senderOf s))) (bitOr (x .known) m) b (x .announced)) i
+        ∙ (ap (λ (b : List Pattern). after (bitOr (x .heard) (single (senderOf s))) (bitOr (x .known) m) b (x .announced)) i
         ∙ ap (λ (w : ℕ). after (bitOr (x .heard) (single (senderOf s))) (bitOr (x .known) w) (stored (x .numbers) (entriesFrom (drives w) (drop 12 s))) (x .announced)) g)
 
     pub decide-accepted : (v : ℕ) → v ≡ patternOf s → (a : Announcement) → a ≡ lower (x .announced) d v → after h (x .known) (x .numbers) a ≡ acceptDecide x s

@@ -5,7 +5,7 @@ use mathlib.Core.List.{List}
 use Prim.Native.Nat.{ℕ, _+_, _*_, _-_, _≤_, _<_}
 use native.Mathlib.Omega.{arith}
 use lib.Dec.{leb}
-use lib.ListN.{length, getD, take, drop}
+use lib.ListN.{length, take, drop}
 use borrow.Author.Tests.{le-leb, lt-leb}
 use borrow.Rule.Slice.PartMut.{putMid}
 use Rattle.drive_sets.specs.Bools.{cond-true, cond-false}
@@ -20,7 +20,7 @@ use Rattle.tables.specs.declared.writing.Writing.{Writing}
 use Rattle.tables.specs.declared.writing.Writing.the-variants as writings
 use Rattle.exchange.specs.declared.Exchange.{Exchange}
 use Rattle.exchange.specs.declared.Decision.the-variants.{Undecided, Decided}
-use Rattle.exchange.specs.State.{inCore, numberOf, broken}
+use Rattle.exchange.specs.State.{inCore, numberIn, numberOf, broken}
 use Rattle.exchange.specs.Messages.{knownBytes, decideBytes}
 use Rattle.exchange.specs.Messages.Laws.{length-known, length-decide}
 use Rattle.exchange.specs.Calls.{outgoing, sending, bufferAfter}
@@ -29,7 +29,7 @@ use Rattle.exchange.specs.Replies.{sizeSent, Sent}
 module _ (x : Exchange) where
   -- ---- the message
 
-  outgoing-known : x .decision ≡ Undecided → knownBytes (x .own .0) (x .round .0) (x .start) (λ d. getD (x .numbers) (d - 1) 0) ≡ outgoing x (x .decision)
+  outgoing-known : x .decision ≡ Undecided → knownBytes (x .own .0) (x .round .0) (x .start) (numberIn (x .numbers)) ≡ outgoing x (x .decision)
   unfolding outgoing numberOf
   outgoing-known e = sym (ap (outgoing x) e)
 
@@ -38,7 +38,7 @@ module _ (x : Exchange) where
   outgoing-decide v e = sym (ap (outgoing x) e)
 
   pub message-known : x .decision ≡ Undecided → (old new : List ℕ)
-      → new ≡ written (knownBytes (x .own .0) (x .round .0) (x .start) (λ d. getD (x .numbers) (d - 1) 0)) old → new ≡ written (outgoing x (x .decision)) old
+      → new ≡ written (knownBytes (x .own .0) (x .round .0) (x .start) (numberIn (x .numbers))) old → new ≡ written (outgoing x (x .decision)) old
   message-known e old new f = f ∙ ap (λ (l : List ℕ). written l old) (outgoing-known e)
 
   pub message-decide : (v : Pattern) → x .decision ≡ Decided v → (old new : List ℕ) → new ≡ written (decideBytes (x .own .0) (x .round .0) (v .0)) old
@@ -48,7 +48,7 @@ module _ (x : Exchange) where
   pub size-known : (k : ℕ) → x .decision ≡ Undecided → k ≡ size (x .start) → 12 + 2 * k ≡ length (outgoing x (x .decision))
   size-known k e f =
       ap (λ (i : ℕ). 12 + 2 * i) f
-      ∙ (sym (length-known (x .own .0) (x .round .0) (x .start) (λ d. getD (x .numbers) (d - 1) 0)) ∙ ap length (outgoing-known e))
+      ∙ (sym (length-known (x .own .0) (x .round .0) (x .start) (numberIn (x .numbers))) ∙ ap length (outgoing-known e))
 
   pub size-decide : (v : Pattern) → x .decision ≡ Decided v → 6 ≡ length (outgoing x (x .decision))
   size-decide v e = sym (length-decide (x .own .0) (x .round .0) (v .0)) ∙ ap length (outgoing-decide v e)

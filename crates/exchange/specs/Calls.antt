@@ -6,6 +6,7 @@ use mathlib.Core.Option.{Option, none, some}
 use Prim.Native.Nat.{ℕ, _+_, _-_}
 use lib.Dec.{leb, ltb, eqb}
 use lib.ListN.{length, set, replicate}
+use Rattle.drive_sets.specs.declared.Pattern.{Pattern}
 use Rattle.drive_sets.specs.declared.Refusal.the-variants.{EndsTooSoon, TrailingBytes, DriveNumber, NoRoom, KnownMask, AlreadyAccepted, OutsideCore, Halted, SenderMissing, PatternDiffers, OtherRound, ListenerSends, BrokenState}
 use Rattle.drive_sets.specs.Lists.{smallest}
 use Rattle.drive_sets.specs.Masks.{has, single, full, union, subset, size, drives}
@@ -21,7 +22,7 @@ use Rattle.exchange.specs.declared.Announcement.{Announcement}
 use Rattle.exchange.specs.declared.Announcement.the-variants.{Absent, By}
 use Rattle.exchange.specs.declared.Decision.{Decision}
 use Rattle.exchange.specs.declared.Decision.the-variants.{Undecided, Decided}
-use Rattle.exchange.specs.State.{isDrive, inCore, numberOf, isDecided, broken}
+use Rattle.exchange.specs.State.{isDrive, inCore, pattern, numberOf, isDecided, broken}
 use Rattle.exchange.specs.Messages.{knownBytes, decideBytes, isKnown, senderOf, roundOf, maskOf, patternOf, Entry, entries, lengthOf}
 pub mod Laws
 pub mod Results
@@ -40,7 +41,7 @@ initial n core own number = record {
   heard = 0;
   known = cond (has own core) (single own) 0;
   start = cond (has own core) (single own) 0;
-  numbers = cond (has own core) (set (replicate 64 0) (own - 1) number) (replicate 64 0);
+  numbers = cond (has own core) (set (replicate 64 (pattern 0)) (own - 1) (pattern number)) (replicate 64 (pattern 0));
   announced = Absent;
   decision = Undecided;
   halted = false;
@@ -97,9 +98,9 @@ unfoldable pub differs : Kind → Exchange → List ℕ → Bool
 differs kind x s = isKnown kind && anyDiffers x (entries s)
 
 -- the pattern numbers with those of the entries
-unfoldable pub stored : List ℕ → List Entry → List ℕ
+unfoldable pub stored : List Pattern → List Entry → List Pattern
 stored numbers [] = numbers
-stored numbers (e ∷ es) = stored (set numbers (e .drive - 1) (e .number)) es
+stored numbers (e ∷ es) = stored (set numbers (e .drive - 1) (pattern (e .number))) es
 
 -- an accepted KN adds its drives' numbers
 unfoldable pub acceptKnown : Exchange → List ℕ → Exchange

@@ -18,13 +18,13 @@ use Rattle.exchange.specs.declared.Exchange.{Exchange}
 use Rattle.exchange.specs.declared.Announcement.the-variants.{Absent}
 use Rattle.exchange.specs.declared.Decision.{Decision}
 use Rattle.exchange.specs.declared.Decision.the-variants.{Undecided, Decided}
-use Rattle.exchange.specs.State.{isDrive, inCore, numberOf, isDecided, broken}
+use Rattle.exchange.specs.State.{isDrive, inCore, pattern, numberIn, numberOf, isDecided, broken}
 use Rattle.exchange.specs.Messages.{numberBytes, knownBytes, decideBytes, isKnown, fieldAt, senderOf, roundOf, maskOf, patternOf, entriesFrom, entries, lengthOf}
 use Rattle.exchange.specs.Calls.{initial, opening, outgoing, sending, bufferAfter, wrongMask, outsideCore, anyDiffers, differs, stored, acceptKnown, lower, acceptDecide, accept, admitting, receivingOf, receiving, heardAtClose, quiet, decisionOn, quietDecision, decide, decisionAfter, halts, next, closing}
 
 -- all that a call computes with: an `unfolding` line that names this opens it
 unfoldable pub evaluated : Unit {0}
-unfolding onesIn range keep all any smaller smallest has single full union common minus meets subset size drives alone forEach search minimals byMask bySize insert sort dropRepeats holdsAnother normal fromBytes toBytes written writtenAt ascii markText mark bodyWidth kindOf isKind isDue headOf isFrame isSet isEmpty cores chosen uncrowded normalTable isDrive inCore numberOf isDecided broken numberBytes knownBytes decideBytes isKnown fieldAt senderOf roundOf maskOf patternOf entriesFrom entries lengthOf initial opening outgoing sending bufferAfter wrongMask outsideCore anyDiffers differs stored acceptKnown lower acceptDecide accept admitting receivingOf receiving heardAtClose quiet decisionOn quietDecision decide decisionAfter halts next closing
+unfolding onesIn range keep all any smaller smallest has single full union common minus meets subset size drives alone forEach search minimals byMask bySize insert sort dropRepeats holdsAnother normal fromBytes toBytes written writtenAt ascii markText mark bodyWidth kindOf isKind isDue headOf isFrame isSet isEmpty cores chosen uncrowded normalTable isDrive inCore numberIn numberOf isDecided broken numberBytes knownBytes decideBytes isKnown fieldAt senderOf roundOf maskOf patternOf entriesFrom entries lengthOf initial opening outgoing sending bufferAfter wrongMask outsideCore anyDiffers differs stored acceptKnown lower acceptDecide accept admitting receivingOf receiving heardAtClose quiet decisionOn quietDecision decide decisionAfter halts next closing
 evaluated = tt
 
 -- the number that a call gives, 0 where it is not refused, and the number that is due
@@ -50,7 +50,7 @@ state n own core round before heard known start halted = record {
   heard = heard;
   known = known;
   start = start;
-  numbers = 7 ∷ 5 ∷ 9 ∷ replicate 61 0;
+  numbers = map pattern (7 ∷ 5 ∷ 9 ∷ replicate 61 0);
   announced = Absent;
   decision = Undecided;
   halted = halted;
@@ -73,7 +73,7 @@ decidedOn5 = record {
   heard = 0;
   known = 7;
   start = 7;
-  numbers = 7 ∷ 5 ∷ 9 ∷ replicate 61 0;
+  numbers = map pattern (7 ∷ 5 ∷ 9 ∷ replicate 61 0);
   announced = Absent;
   decision = Decided (record { 0 = 5 });
   halted = false;

@@ -1,8 +1,10 @@
 -- The parts of a drive's state, and the rules that a state keeps: refusal 28.
 use mathlib.Core.Bool.{Bool, true, false, not, _&&_, _||_}
+use mathlib.Core.List.{List}
 use Prim.Native.Nat.{ℕ, _-_}
 use lib.Dec.{leb}
 use lib.ListN.{getD}
+use Rattle.drive_sets.specs.declared.Pattern.{Pattern}
 use Rattle.drive_sets.specs.Masks.{has, subset, size}
 use Rattle.tables.specs.Tables.{isFrame, isSet}
 use Rattle.exchange.specs.declared.Exchange.{Exchange}
@@ -18,9 +20,17 @@ isDrive n d = leb 1 d && leb d n
 unfoldable pub inCore : Exchange → Bool
 inCore x = has (x .own .0) (x .core)
 
+-- the pattern number that is v
+abbrev pub pattern : ℕ → Pattern
+pattern v = record { 0 = v }
+
+-- what a list of pattern numbers, drive 1 first, has for a drive; 0 past its end
+unfoldable pub numberIn : List Pattern → ℕ → ℕ
+numberIn numbers d = getD numbers (d - 1) (pattern 0) .0
+
 -- the pattern number held for a drive; it counts where the drive is known
 unfoldable pub numberOf : Exchange → ℕ → ℕ
-numberOf x d = getD (x .numbers) (d - 1) 0
+numberOf x d = numberIn (x .numbers) d
 
 unfoldable pub isDecided : Decision → Bool
 isDecided Undecided = false

@@ -1,11 +1,10 @@
 // The close of a round: what was heard, the decision, whether the drive halts, and the state after it.
 ghost use mathlib.Core.Path.{_≡_};
 ghost use mathlib.Core.Bool.{not, _&&_, cond};
-ghost use Prim.Native.Nat.{_≤_, _-_, _+_};
-ghost use lib.ListN.{getD};
+ghost use Prim.Native.Nat.{_≤_, _+_};
 ghost use Rattle.drive_sets.specs.Lists.{smallest};
 ghost use Rattle.drive_sets.specs.Masks.{drives};
-ghost use Rattle.exchange.specs.State.{inCore, isDecided};
+ghost use Rattle.exchange.specs.State.{inCore, numberIn, isDecided};
 ghost use Rattle.exchange.specs.Calls.{heardAtClose, decisionOn, quietDecision, decisionAfter, halts, next, closing};
 ghost use Rattle.exchange.specs.Replies.{Replied};
 use crate::Announcement;
@@ -32,8 +31,8 @@ fn heard_at_close(x: Exchange) -> u64
 }
 
 // The decision on the smallest pattern number known; none where none is known.
-fn smallest_known(known: u64, numbers: [u16; 64]) -> Decision
-    ensures { λ r. ⌜ r ≡ decisionOn (smallest (λ d. getD numbers (d - 1) 0) (drives known)) ⌝ }
+fn smallest_known(known: u64, numbers: [Pattern; 64]) -> Decision
+    ensures { λ r. ⌜ r ≡ decisionOn (smallest (numberIn numbers) (drives known)) ⌝ }
 {
     if known == 0 {
         return Decision::Undecided;
@@ -45,11 +44,11 @@ fn smallest_known(known: u64, numbers: [u16; 64]) -> Decision
         let d = drive_sets::lowest(m);
         let v = number_at(numbers, d);
         m = drive_sets::remove(m, d);
-        if v < best {
+        if v.0 < best.0 {
             best = v;
         }
     }
-    Decision::Decided(Pattern(best))
+    Decision::Decided(best)
 }
 
 // Where heard is not empty and equals the round before, the smallest pattern number known.
@@ -120,14 +119,14 @@ fn halts(x: Exchange) -> bool
 }
 
 // A halted drive keeps its round number.
-fn next_round(round: u8, ends: bool) -> u8
-    requires { ⌜ round ≤ 64 ⌝ }
-    ensures { λ r. ⌜ r ≡ cond ends round (round + 1) ⌝ }
+fn next_round(round: Round, ends: bool) -> Round
+    requires { ⌜ round .0 ≤ 64 ⌝ }
+    ensures { λ r. ⌜ r .0 ≡ cond ends (round .0) (round .0 + 1) ⌝ }
 {
     if ends {
         return round;
     }
-    round + 1
+    Round(round.0 + 1)
 }
 
 // The state after a close.
@@ -141,12 +140,12 @@ fn next(x: Exchange) -> Exchange
     let ends = halts(x);
     let heard = heard_at_close(x);
     let decision = decision_after(x);
-    let following = next_round(round.0, ends);
+    let following = next_round(round, ends);
     Exchange {
         n: x.n,
         own,
         core: x.core,
-        round: Round(following),
+        round: following,
         before: heard,
         heard: 0,
         known: x.known,

@@ -37,10 +37,10 @@ fn byte_at(s: &[u8], at: usize) -> u8
 }
 
 // A pattern number, a field of two bytes.
-fn number_in(s: &[u8], at: usize) -> u16
-    ensures { λ r. ⌜ r ≡ fieldAt at 2 (now (s .entry)) ⌝ }
+fn number_in(s: &[u8], at: usize) -> Pattern
+    ensures { λ r. ⌜ r .0 ≡ fieldAt at 2 (now (s .entry)) ⌝ }
 {
-    records::field(s, at, 2) as u16
+    Pattern(records::field(s, at, 2) as u16)
 }
 
 pub fn sender_of(s: &[u8]) -> Drive
@@ -66,17 +66,17 @@ pub fn mask_of(s: &[u8]) -> u64
 pub fn pattern_of(s: &[u8]) -> Pattern
     ensures { λ r. ⌜ r .0 ≡ patternOf (now (s .entry)) ⌝ }
 {
-    Pattern(number_in(s, 4))
+    number_in(s, 4)
 }
 
 // The drive's number is known, and is another one.
-fn conflicts(d: Drive, known: u64, held: u16, v: u16) -> bool
-    ensures { λ r. ⌜ r ≡ (has (d .0) known && not (eqb held v)) ⌝ }
+fn conflicts(d: Drive, known: u64, held: Pattern, v: Pattern) -> bool
+    ensures { λ r. ⌜ r ≡ (has (d .0) known && not (eqb (held .0) (v .0))) ⌝ }
 {
     if !drive_sets::has(d, known) {
         return false;
     }
-    held != v
+    held.0 != v.0
 }
 
 // A number of the entries differs from the one known for its drive.
@@ -90,7 +90,8 @@ pub fn any_differs(x: Exchange, mask: u64, s: &[u8]) -> bool
         let d = drive_sets::lowest(m);
         let i = d.0;
         let v = number_in(s, at);
-        if conflicts(d, x.known, numbers[(i - 1) as usize], v) {
+        let held = numbers[(i - 1) as usize];
+        if conflicts(d, x.known, held, v) {
             return true;
         }
         m = drive_sets::remove(m, d);
@@ -100,7 +101,7 @@ pub fn any_differs(x: Exchange, mask: u64, s: &[u8]) -> bool
 }
 
 // The pattern numbers with those of the entries.
-pub fn stored(numbers: [u16; 64], mask: u64, s: &[u8]) -> [u16; 64]
+pub fn stored(numbers: [Pattern; 64], mask: u64, s: &[u8]) -> [Pattern; 64]
     ensures { λ r. ⌜ r ≡ stored numbers (entriesFrom (drives mask) (drop 12 (now (s .entry)))) ⌝ }
 {
     let mut stored = numbers;
@@ -109,7 +110,8 @@ pub fn stored(numbers: [u16; 64], mask: u64, s: &[u8]) -> [u16; 64]
     while m != 0 {
         let d = drive_sets::lowest(m);
         let i = d.0;
-        stored[(i - 1) as usize] = number_in(s, at);
+        let v = number_in(s, at);
+        stored[(i - 1) as usize] = v;
         m = drive_sets::remove(m, d);
         at += 2;
     }

@@ -2,11 +2,10 @@
 // that it keeps, and its calls.
 ghost use mathlib.Core.Path.{_≡_};
 ghost use mathlib.Core.Bool.{not, _&&_};
-ghost use Prim.Native.Nat.{_≤_, _-_};
+ghost use Prim.Native.Nat.{_≤_};
 ghost use lib.Dec.{leb};
-ghost use lib.ListN.{getD};
 ghost use Rattle.drive_sets.specs.Masks.{has, subset, size};
-ghost use Rattle.exchange.specs.State.{isDrive, broken};
+ghost use Rattle.exchange.specs.State.{isDrive, numberIn, broken};
 use drive_sets::Drive;
 use drive_sets::Pattern;
 use drive_sets::Round;
@@ -49,7 +48,7 @@ pub struct Exchange {
     // The drives whose pattern numbers were known when the round began: what is sent.
     pub start: u64,
     // The pattern numbers, drive 1 first; one counts where its drive is known.
-    pub numbers: [u16; 64],
+    pub numbers: [Pattern; 64],
     // The decision announced in this round.
     pub announced: Announcement,
     // The drive's own decision.
@@ -80,11 +79,11 @@ fn forgets_own(own: Drive, core: u64, known: u64, start: u64) -> bool
 }
 
 // A round of an exchange whose core this is: 1 to the core's size.
-fn is_round(round: u8, core: u64) -> bool
-    ensures { λ r. ⌜ r ≡ (leb 1 round && leb round (size core)) ⌝ }
+fn is_round(round: Round, core: u64) -> bool
+    ensures { λ r. ⌜ r ≡ (leb 1 (round .0) && leb (round .0) (size core)) ⌝ }
 {
     let last = drive_sets::size(core);
-    1 <= round && round as u32 <= last
+    1 <= round.0 && round.0 as u32 <= last
 }
 
 // The four sets of a state are in the core.
@@ -114,16 +113,16 @@ fn is_broken(x: Exchange) -> bool
     if !is_drive(n, own) {
         return true;
     }
-    if !is_round(round.0, core) {
+    if !is_round(round, core) {
         return true;
     }
     !all_inside(x.before, x.heard, x.known, x.start, core)
 }
 
 // The pattern number of a drive.
-fn number_at(numbers: [u16; 64], d: Drive) -> u16
+fn number_at(numbers: [Pattern; 64], d: Drive) -> Pattern
     requires { ⌜ (1 ≤ d .0) × (d .0 ≤ 64) ⌝ }
-    ensures { λ r. ⌜ r ≡ getD numbers (d .0 - 1) 0 ⌝ }
+    ensures { λ r. ⌜ r .0 ≡ numberIn numbers (d .0) ⌝ }
 {
     let i = d.0;
     numbers[(i - 1) as usize]

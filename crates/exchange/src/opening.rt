@@ -5,6 +5,7 @@ ghost use Prim.Native.Nat.{_-_};
 ghost use lib.ListN.{set, replicate};
 ghost use Rattle.drive_sets.specs.Masks.{has, single};
 ghost use Rattle.drive_sets.specs.Refusals.{refused};
+ghost use Rattle.exchange.specs.State.{pattern};
 ghost use Rattle.exchange.specs.Calls.{initial, opening};
 ghost use Rattle.exchange.specs.Replies.{Replied, notOpened};
 use crate::Announcement;
@@ -29,10 +30,10 @@ fn own_known(own: Drive, core: u64) -> u64
     0
 }
 
-fn own_numbers(own: Drive, core: u64, number: u16) -> [u16; 64]
-    ensures { λ r. ⌜ r ≡ cond (has (own .0) core) (set (replicate 64 0) (own .0 - 1) number) (replicate 64 0) ⌝ }
+fn own_numbers(own: Drive, core: u64, number: Pattern) -> [Pattern; 64]
+    ensures { λ r. ⌜ r ≡ cond (has (own .0) core) (set (replicate 64 (pattern 0)) (own .0 - 1) number) (replicate 64 (pattern 0)) ⌝ }
 {
-    let mut numbers = [0u16; 64];
+    let mut numbers = [Pattern(0); 64];
     if !drive_sets::has(own, core) {
         return numbers;
     }
@@ -46,7 +47,7 @@ pub fn initial(n: u8, core: u64, own: Drive, number: Pattern) -> Exchange
     ensures { λ r. ⌜ r ≡ initial n core (own .0) (number .0) ⌝ }
 {
     let known = own_known(own, core);
-    let numbers = own_numbers(own, core, number.0);
+    let numbers = own_numbers(own, core, number);
     Exchange {
         n,
         own,

@@ -2,13 +2,14 @@
 ghost use mathlib.Core.Path.{_≡_};
 ghost use mathlib.Core.Bool.{not};
 ghost use mathlib.Core.List.{_++_};
-ghost use Prim.Native.Nat.{_+_, _-_};
+ghost use Prim.Native.Nat.{_+_};
 ghost use lib.Dec.{leb};
-ghost use lib.ListN.{length, getD};
+ghost use lib.ListN.{length};
 ghost use Rattle.drive_sets.specs.Masks.{drives};
 ghost use Rattle.drive_sets.specs.Refusals.{refuseIf, result};
 ghost use Rattle.records.specs.Fields.{toBytes, written};
 ghost use Rattle.records.specs.Marks.{recordBytes};
+ghost use Rattle.exchange.specs.State.{numberIn};
 ghost use Rattle.exchange.specs.Messages.{numberBytes, knownBytes, decideBytes};
 ghost use Rattle.exchange.specs.Calls.{outgoing, sending};
 ghost use Rattle.exchange.specs.Replies.{Sent};
@@ -24,8 +25,8 @@ use tables::writing::Writing;
 
 // The pattern numbers of the mask's drives, from the lowest, over the first bytes of the part; every other byte stays. Nothing where
 // they do not fit.
-fn put_numbers(part: &mut [u8], mask: u64, numbers: [u16; 64])
-    ensures { λ _. ⌜ now (part .exit) ≡ written (numberBytes (λ d. getD numbers (d - 1) 0) (drives mask)) (now (part .entry)) ⌝ }
+fn put_numbers(part: &mut [u8], mask: u64, numbers: [Pattern; 64])
+    ensures { λ _. ⌜ now (part .exit) ≡ written (numberBytes (numberIn numbers) (drives mask)) (now (part .entry)) ⌝ }
 {
     if part.len() / 2 < drive_sets::size(mask) as usize {
         return;
@@ -35,7 +36,7 @@ fn put_numbers(part: &mut [u8], mask: u64, numbers: [u16; 64])
     while m != 0 {
         let d = drive_sets::lowest(m);
         let v = crate::number_at(numbers, d);
-        records::put_field(&mut part[at..], 2, v as u64);
+        records::put_field(&mut part[at..], 2, v.0 as u64);
         m = drive_sets::remove(m, d);
         at += 2;
     }
@@ -53,8 +54,8 @@ fn put_start(part: &mut [u8], m: u64, sender: Drive, round: Round)
 }
 
 // KN over the first bytes of the part; every other byte stays. Nothing where it does not fit.
-fn put_known(part: &mut [u8], sender: Drive, round: Round, mask: u64, numbers: [u16; 64])
-    ensures { λ _. ⌜ now (part .exit) ≡ written (knownBytes (sender .0) (round .0) mask (λ d. getD numbers (d - 1) 0)) (now (part .entry)) ⌝ }
+fn put_known(part: &mut [u8], sender: Drive, round: Round, mask: u64, numbers: [Pattern; 64])
+    ensures { λ _. ⌜ now (part .exit) ≡ written (knownBytes (sender .0) (round .0) mask (numberIn numbers)) (now (part .entry)) ⌝ }
 {
     if part.len() < 12 + 2 * drive_sets::size(mask) as usize {
         return;

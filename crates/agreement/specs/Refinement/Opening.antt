@@ -6,6 +6,7 @@ use Prim.Native.Nat.{ℕ, _-_, _≤_}
 use lib.Dec.{eqb}
 use lib.ListN.{set, replicate}
 use borrow.Author.Tests.{eqb-true}
+use Rattle.drive_sets.specs.declared.Pattern.{Pattern}
 use Rattle.drive_sets.specs.Bools.{clash, by-test, and-left, and-right, and-fails-left, and-fails-right, or-second, cond-true, cond-false}
 use Rattle.drive_sets.specs.Lists.Laws.{all-elem}
 use Rattle.drive_sets.specs.Lists.{range}
@@ -14,7 +15,7 @@ use Rattle.drive_sets.specs.Masks.Tests.{setOf, setOf-none, setOf-single}
 use Rattle.drive_sets.specs.Refusals.{result}
 use Rattle.hitting_sets.specs.Order.{normal}
 use Rattle.exchange.specs.declared.Decision.the-variants.{Undecided}
-use Rattle.exchange.specs.State.{isDrive}
+use Rattle.exchange.specs.State.{isDrive, pattern}
 use Rattle.exchange.specs.State.Laws.{isDrive-range}
 use Rattle.exchange.specs.Calls.{initial, opening, decisionOn}
 use Rattle.exchange.specs.Calls.Laws.{opening-accepted}
@@ -58,11 +59,11 @@ module _ {s : Scenario} (ok : Valid s) where
         (λ h. cond-true _ _ h ∙ (setOf-single e (bounds .0) (bounds .1) ∙ sym (ap setOf (own-alone h))))
         (λ h. cond-false _ _ h ∙ sym (setOf-none own (λ x. and-fails-left _ h)))
 
-    known-numbers : cond (has e (coreOf s)) (set (replicate 64 0) (e - 1) (s .proposal e)) (replicate 64 0) ≡ numbersOf (s .proposal) own
+    known-numbers : cond (has e (coreOf s)) (set (replicate 64 (pattern 0)) (e - 1) (pattern (s .proposal e))) (replicate 64 (pattern 0)) ≡ numbersOf (s .proposal) own
     known-numbers =
         by-test (has e (coreOf s))
         (λ h. cond-true _ _ h
-        ∙ (ap (λ (l : List ℕ). set l (e - 1) (s .proposal e)) (sym (numbers-none (s .proposal)))
+        ∙ (ap (λ (l : List Pattern). set l (e - 1) (pattern (s .proposal e))) (sym (numbers-none (s .proposal)))
         ∙ (store-one (s .proposal) (λ x. false) e (bounds .0) (bounds .1) ∙ sym (ap (numbersOf (s .proposal)) (own-alone h)))))
         (λ h. cond-false _ _ h ∙ (sym (numbers-none (s .proposal)) ∙ sym (ap (numbersOf (s .proposal)) (own-none h))))
 

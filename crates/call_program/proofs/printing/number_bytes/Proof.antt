@@ -16,8 +16,8 @@ loop-holds c = search needs
 mul-v : tie.Need-mul-v Inv-loop μ-loop
 mul-v c = search needs
 
-array-read-v : tie.Need-array-read-v Inv-loop μ-loop
-array-read-v c = search needs
+array-copy-out-v : tie.Need-array-copy-out-v Inv-loop μ-loop
+array-copy-out-v c = search needs
 
 high-byte-requires : tie.Need-high-byte-requires Inv-loop μ-loop
 high-byte-requires c κs = search needs
@@ -60,7 +60,7 @@ number-bytes-spec =
     μ-loop
     loop-holds
     mul-v
-    array-read-v
+    array-copy-out-v
     high-byte-requires
     mul-bytes
     array-write-bytes

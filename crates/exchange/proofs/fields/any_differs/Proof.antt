@@ -1,6 +1,7 @@
 -- The entries one after the other: what is left says what the whole says.
 use borrow.Author.Needs.{needs}
 use Rattle.exchange.proofs.Entries.{Walk, left, walk-start, walk-bounds, walk-less, walk-step, differs-end, differs-stop, differs-step}
+use Rattle.exchange.specs.State.{numberIn}
 use Rattle.exchange.specs.Calls.{anyDiffers}
 use Rattle.drive_sets.specs.Masks.{size}
 use native.Mathlib.Omega.{arith}
@@ -23,35 +24,37 @@ lowest-requires c κs = search needs
 number-in-requires : tie.Need-number-in-requires Inv-loop μ-loop
 number-in-requires c κs = search needs
 
-sub-conflicts : tie.Need-sub-conflicts Inv-loop μ-loop
-sub-conflicts c = let l = c .before .before .before .loop in let w = walk-bounds (c .before .before .before .before .before .before .args .s .now) (l .m) (l .at) _ (l .inv .0) (c .before .before .loop-test .taken) (c .before .lowest .ensures) in omega (arith, w .0, w .1)
+sub-held : tie.Need-sub-held Inv-loop μ-loop
+sub-held c = let l = c .before .before .before .loop in let w = walk-bounds (c .before .before .before .before .before .before .args .s .now) (l .m) (l .at) _ (l .inv .0) (c .before .before .loop-test .taken) (c .before .lowest .ensures) in omega (arith, w .0, w .1)
 
-cast-conflicts : tie.Need-cast-conflicts Inv-loop μ-loop
-cast-conflicts c = search needs
+cast-held : tie.Need-cast-held Inv-loop μ-loop
+cast-held c = search needs
 
-mul-conflicts : tie.Need-mul-conflicts Inv-loop μ-loop
-mul-conflicts c = search needs
+mul-held : tie.Need-mul-held Inv-loop μ-loop
+mul-held c = search needs
 
-array-read-conflicts : tie.Need-array-read-conflicts Inv-loop μ-loop
-array-read-conflicts c = let l = c .before .before .before .loop in let w = walk-bounds (c .before .before .before .before .before .before .args .s .now) (l .m) (l .at) _ (l .inv .0) (c .before .before .loop-test .taken) (c .before .lowest .ensures) in omega (arith, w .0, w .1)
+array-copy-out-held : tie.Need-array-copy-out-held Inv-loop μ-loop
+array-copy-out-held c = let l = c .before .before .before .loop in let w = walk-bounds (c .before .before .before .before .before .before .args .s .now) (l .m) (l .at) _ (l .inv .0) (c .before .before .loop-test .taken) (c .before .lowest .ensures) in omega (arith, w .0, w .1)
 
 conflicts-requires : tie.Need-conflicts-requires Inv-loop μ-loop
 conflicts-requires c κs = search needs
 
 returns : tie.Need-returns Inv-loop μ-loop
-returns c = let l = c .before .before .before .before .before .loop in let a = c .before .before .before .before .before .before .before .before .args in sym (differs-stop (a .s .now) (l .m) (l .at) _ (l .inv .0) (c .before .before .before .before .loop-test .taken) (c .before .before .before .lowest .ensures) _ (c .before .before .number-in .ensures) (a .x) _ (c .before .conflicts .ensures) (c .if1 .taken)) ∙ l .inv .1
+unfolding numberIn
+returns c = let l = c .before .before .before .before .before .before .loop in let a = c .before .before .before .before .before .before .before .before .before .args in sym (differs-stop (a .s .now) (l .m) (l .at) _ (l .inv .0) (c .before .before .before .before .before .loop-test .taken) (c .before .before .before .before .lowest .ensures) _ (c .before .before .before .number-in .ensures) (a .x) _ (c .before .conflicts .ensures) (c .if1 .taken)) ∙ l .inv .1
 
 remove-requires : tie.Need-remove-requires Inv-loop μ-loop
 remove-requires c κs = search needs
 
 add-at : tie.Need-add-at Inv-loop μ-loop
-add-at c = let l = c .before .before .before .before .before .before .loop in omega (arith, l .inv .0 .near)
+add-at c = let l = c .before .before .before .before .before .before .before .loop in omega (arith, l .inv .0 .near)
 
 loop-less : tie.Need-loop-less Inv-loop μ-loop
-loop-less c = let l = c .before .before .before .before .before .before .loop in walk-less (c .before .before .before .before .before .before .before .before .before .args .s .now) (l .m) (l .at) _ (l .inv .0) (c .before .before .before .before .before .loop-test .taken) (c .before .before .before .before .lowest .ensures) _ (c .remove .ensures)
+loop-less c = let l = c .before .before .before .before .before .before .before .loop in walk-less (c .before .before .before .before .before .before .before .before .before .before .args .s .now) (l .m) (l .at) _ (l .inv .0) (c .before .before .before .before .before .before .loop-test .taken) (c .before .before .before .before .before .lowest .ensures) _ (c .remove .ensures)
 
 loop-again : tie.Need-loop-again Inv-loop μ-loop
-loop-again c = let l = c .before .before .before .before .before .before .loop in let a = c .before .before .before .before .before .before .before .before .before .args in (walk-step (a .s .now) (l .m) (l .at) _ (l .inv .0) (c .before .before .before .before .before .loop-test .taken) (c .before .before .before .before .lowest .ensures) _ (c .remove .ensures), differs-step (a .s .now) (l .m) (l .at) _ (l .inv .0) (c .before .before .before .before .before .loop-test .taken) (c .before .before .before .before .lowest .ensures) _ (c .before .before .before .number-in .ensures) (a .x) _ (c .before .before .conflicts .ensures) (c .before .if1 .left) _ (c .remove .ensures) ∙ l .inv .1)
+unfolding numberIn
+loop-again c = let l = c .before .before .before .before .before .before .before .loop in let a = c .before .before .before .before .before .before .before .before .before .before .args in (walk-step (a .s .now) (l .m) (l .at) _ (l .inv .0) (c .before .before .before .before .before .before .loop-test .taken) (c .before .before .before .before .before .lowest .ensures) _ (c .remove .ensures), differs-step (a .s .now) (l .m) (l .at) _ (l .inv .0) (c .before .before .before .before .before .before .loop-test .taken) (c .before .before .before .before .before .lowest .ensures) _ (c .before .before .before .before .number-in .ensures) (a .x) _ (c .before .before .conflicts .ensures) (c .before .if1 .left) _ (c .remove .ensures) ∙ l .inv .1)
 
 returns-2 : tie.Need-returns-2 Inv-loop μ-loop
 returns-2 c = let l = c .before .loop in let a = c .before .before .before .before .args in sym (differs-end (a .s .now) (a .x) (l .m) (l .at) (c .loop-test .left)) ∙ l .inv .1
@@ -65,10 +68,10 @@ any-differs-spec =
     loop-holds
     lowest-requires
     number-in-requires
-    sub-conflicts
-    cast-conflicts
-    mul-conflicts
-    array-read-conflicts
+    sub-held
+    cast-held
+    mul-held
+    array-copy-out-held
     conflicts-requires
     returns
     remove-requires

@@ -16,7 +16,7 @@ returns : tie.Need-returns
 returns c = sym (and-fails-left _ (sym (c .before .has .ensures) ∙ not-true _ (c .if1 .taken)))
 
 returns-2 : tie.Need-returns-2
-returns-2 c = let a = c .before .before .args in and-second (has (a .d .0) (a .known)) (not (eqb (a .held) (a .v))) (sym (c .before .has .ensures) ∙ not-false _ (c .if1 .left))
+returns-2 c = let a = c .before .before .before .before .args in and-second (has (a .d .0) (a .known)) (not (eqb (a .held .0) (a .v .0))) (sym (c .before .before .before .has .ensures) ∙ not-false _ (c .before .before .if1 .left))
 
 pub conflicts-spec : {M : Type 1} → statement M
 conflicts-spec = tie.close (tie.spec has-requires returns returns-2)

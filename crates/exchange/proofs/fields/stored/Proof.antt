@@ -32,8 +32,8 @@ cast-stored c = search needs
 mul-stored : tie.Need-mul-stored Inv-loop μ-loop
 mul-stored c = search needs
 
-array-write-stored : tie.Need-array-write-stored Inv-loop μ-loop
-array-write-stored c = let l = c .before .before .before .loop in let w = walk-bounds (c .before .before .before .before .before .args .s .now) (l .m) (l .at) _ (l .inv .0) (c .before .before .loop-test .taken) (c .before .lowest .ensures) in omega (arith, w .0, w .1)
+array-set-from-stored : tie.Need-array-set-from-stored Inv-loop μ-loop
+array-set-from-stored c = let l = c .before .before .before .loop in let w = walk-bounds (c .before .before .before .before .before .args .s .now) (l .m) (l .at) _ (l .inv .0) (c .before .before .loop-test .taken) (c .before .lowest .ensures) in omega (arith, w .0, w .1)
 
 remove-requires : tie.Need-remove-requires Inv-loop μ-loop
 remove-requires c κs = search needs
@@ -62,7 +62,7 @@ stored-spec =
     sub-stored
     cast-stored
     mul-stored
-    array-write-stored
+    array-set-from-stored
     remove-requires
     add-at
     loop-less

@@ -23,8 +23,8 @@ cast-numbers c = search needs
 mul-numbers : tie.Need-mul-numbers
 mul-numbers c = search needs
 
-array-write-numbers : tie.Need-array-write-numbers
-array-write-numbers c = let s = c .before .before in let w = own-bounds (s .args .own .0) (s .args .core) _ (s .fits .core .fits) (c .before .has .ensures) (c .if1 .left) in omega (arith, w .0, w .1)
+array-set-from-numbers : tie.Need-array-set-from-numbers
+array-set-from-numbers c = let s = c .before .before in let w = own-bounds (s .args .own .0) (s .args .core) _ (s .fits .core .fits) (c .before .has .ensures) (c .if1 .left) in omega (arith, w .0, w .1)
 
 returns-2 : tie.Need-returns-2
 returns-2 c = sym (cond-true _ _ (sym (c .before .has .ensures) ∙ not-false _ (c .if1 .left)))
@@ -38,5 +38,5 @@ own-numbers-spec =
     sub-numbers
     cast-numbers
     mul-numbers
-    array-write-numbers
+    array-set-from-numbers
     returns-2)

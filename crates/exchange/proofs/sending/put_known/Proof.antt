@@ -1,11 +1,10 @@
 -- The start, the mask behind it, the numbers behind that; nothing where they do not fit.
 use mathlib.Core.Path.{refl}
-use Prim.Native.Nat.{_-_}
-use lib.ListN.{getD}
 use Rattle.records.specs.Fields.{fromBytes}
 use Rattle.records.specs.Marks.{ascii, markText, mark}
 use Rattle.exchange.proofs.Sends.{known-none, known-written}
 use borrow.Author.Needs.{needs}
+use Rattle.exchange.specs.State.{numberIn}
 use Rattle.exchange.proofs.sending.put_known.Statement.{statement}
 use Rattle.exchange.proofs.sending.put_known.Tie as tie
 
@@ -22,7 +21,7 @@ add-if1 : tie.Need-add-if1
 add-if1 c = search needs
 
 returns : tie.Need-returns
-returns c = let a = c .before .before .before .args in known-none (a .sender .0) (a .round .0) (a .mask) (λ d. getD (a .numbers) (d - 1) 0) (a .part .now) _ (c .before .size .ensures) (c .if1 .taken)
+returns c = let a = c .before .before .before .args in known-none (a .sender .0) (a .round .0) (a .mask) (numberIn (a .numbers)) (a .part .now) _ (c .before .size .ensures) (c .if1 .taken)
 
 put-start-requires : tie.Need-put-start-requires
 put-start-requires c κs = search needs
@@ -58,7 +57,7 @@ returns-2 : tie.Need-returns-2
 unfolding mark markText ascii fromBytes
 returns-2 c =
     let a = c .before .before .before .before .before .before .before .before .before .before .before .before .before .before .before .args in
-    known-written (a .sender .0) (a .round .0) (a .mask) (λ d. getD (a .numbers) (d - 1) 0) (a .part .now) _ _ _ _ _ _ refl (c .before .before .before .before .before .before .before .before .before .before .before .before .before .size .ensures) (c .before .before .before .before .before .before .before .before .before .before .before .before .if1 .left) (c .before .before .before .before .before .before .before .before .before .before .put-start .ensures) (c .before .before .before .before .before .before .put-field .ensures) refl (c .before .before .put-numbers .ensures)
+    known-written (a .sender .0) (a .round .0) (a .mask) (numberIn (a .numbers)) (a .part .now) _ _ _ _ _ _ refl (c .before .before .before .before .before .before .before .before .before .before .before .before .before .size .ensures) (c .before .before .before .before .before .before .before .before .before .before .before .before .if1 .left) (c .before .before .before .before .before .before .before .before .before .before .put-start .ensures) (c .before .before .before .before .before .before .put-field .ensures) refl (c .before .before .put-numbers .ensures)
 
 pub put-known-spec : {M : Type 1} → statement M
 put-known-spec =

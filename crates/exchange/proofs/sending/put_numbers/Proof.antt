@@ -1,15 +1,14 @@
 -- The mask's drives from the lowest, each number behind the one before.
 use borrow.Author.Needs.{needs}
-use Prim.Native.Nat.{_-_}
-use lib.ListN.{getD}
 use Rattle.drive_sets.specs.Masks.{size}
 use Rattle.exchange.proofs.Sends.{Telling, numbers-none, telling-start, telling-turn, telling-end}
 use Rattle.exchange.proofs.Least.{lowest-bounds, removed-less}
+use Rattle.exchange.specs.State.{numberIn}
 use Rattle.exchange.proofs.sending.put_numbers.Statement.{statement}
 use Rattle.exchange.proofs.sending.put_numbers.Tie as tie
 
 abbrev Inv-loop : tie.InvT-loop
-Inv-loop part₀ mask numbers at₀ m₀ part at m = Telling (λ d. getD numbers (d - 1) 0) mask part₀ part at m
+Inv-loop part₀ mask numbers at₀ m₀ part at m = Telling (numberIn numbers) mask part₀ part at m
 
 abbrev μ-loop : tie.MeasureT-loop
 μ-loop part₀ mask numbers at₀ m₀ part at m = size m
@@ -21,10 +20,10 @@ cast-if1 : tie.Need-cast-if1 Inv-loop μ-loop
 cast-if1 c = search needs
 
 returns : tie.Need-returns Inv-loop μ-loop
-returns c = let a = c .before .before .before .args in numbers-none (λ d. getD (a .numbers) (d - 1) 0) (a .mask) (a .part .now) _ (c .before .size .ensures) (c .if1 .taken)
+returns c = let a = c .before .before .before .args in numbers-none (numberIn (a .numbers)) (a .mask) (a .part .now) _ (c .before .size .ensures) (c .if1 .taken)
 
 loop-holds : tie.Need-loop-holds Inv-loop μ-loop
-loop-holds c = let s = c .before .before .before in telling-start (λ d. getD (s .args .numbers) (d - 1) 0) (s .args .mask) (s .args .part .now) _ (s .fits .mask .fits) (c .before .size .ensures) (c .if1 .left)
+loop-holds c = let s = c .before .before .before in telling-start (numberIn (s .args .numbers)) (s .args .mask) (s .args .part .now) _ (s .fits .mask .fits) (c .before .size .ensures) (c .if1 .left)
 
 lowest-requires : tie.Need-lowest-requires Inv-loop μ-loop
 lowest-requires c κs = search needs
@@ -54,16 +53,16 @@ add-at : tie.Need-add-at Inv-loop μ-loop
 add-at c = search needs
 
 loop-less : tie.Need-loop-less Inv-loop μ-loop
-loop-less c = let l = c .before .before .before .before .before .before .before .before .loop in removed-less (l .m) _ _ (l .inv .word) (c .before .before .before .before .before .before .before .loop-test .taken) (c .before .before .before .before .before .before .lowest .ensures) (c .remove .ensures)
+loop-less c = let l = c .before .before .before .before .before .before .before .before .before .loop in removed-less (l .m) _ _ (l .inv .word) (c .before .before .before .before .before .before .before .before .loop-test .taken) (c .before .before .before .before .before .before .before .lowest .ensures) (c .remove .ensures)
 
 loop-again : tie.Need-loop-again Inv-loop μ-loop
-loop-again c = let a = c .before .before .before .before .before .before .before .before .before .before .before .before .args in telling-turn (λ d. getD (a .numbers) (d - 1) 0) _ _ _ _ (c .before .before .before .before .before .before .before .before .loop .inv) (c .before .before .before .before .before .before .before .loop-test .taken) (c .before .before .before .before .before .before .lowest .ensures) (c .before .before .before .before .before .number-at .ensures) (c .before .before .before .put-field .ensures) (c .remove .ensures)
+loop-again c = let a = c .before .before .before .before .before .before .before .before .before .before .before .before .before .args in telling-turn (numberIn (a .numbers)) _ _ _ _ (c .before .before .before .before .before .before .before .before .before .loop .inv) (c .before .before .before .before .before .before .before .before .loop-test .taken) (c .before .before .before .before .before .before .before .lowest .ensures) (c .before .before .before .before .before .before .number-at .ensures) (c .before .before .before .put-field .ensures) (c .remove .ensures)
 
 same-length : tie.Need-same-length Inv-loop μ-loop
 same-length c = c .before .loop .inv .long
 
 returns-2 : tie.Need-returns-2 Inv-loop μ-loop
-returns-2 c = let a = c .before .before .before .before .before .args in telling-end (λ d. getD (a .numbers) (d - 1) 0) (c .before .loop .inv) (c .loop-test .left)
+returns-2 c = let a = c .before .before .before .before .before .args in telling-end (numberIn (a .numbers)) (c .before .loop .inv) (c .loop-test .left)
 
 pub put-numbers-spec : {M : Type 1} → statement M
 put-numbers-spec =
