@@ -99,9 +99,9 @@ module _ (s : List ℕ) (n core : ℕ) (c : Crashes) (last count at : ℕ) (r : 
       high : d .0 ≤ 64
       high = omega (arith, crash-bounds .1)
 
-      one-more : crashesIn (noted c (d .0) (q .0) m) ≡ crashesIn c ++ (crashRecord d q m ∷ [])
+      one-more : crashesIn (noted c (d .0) q m) ≡ crashesIn c ++ (crashRecord d q m ∷ [])
       unfolding crashRecord
-      one-more = noted-listed c (d .0) (q .0) m (r .word) (r .rounds) (r .sends) low high (λ x h. omega (arith, r .below x h, crash-bounds .2))
+      one-more = noted-listed c (d .0) q m (r .word) (r .rounds) (r .sends) low high (λ x h. omega (arith, r .below x h, crash-bounds .2))
 
       after : (bytes : ℕ) → r .bytes ≡ bytes → length s ≤ at + bytes
           → (left : ℕ) × (length s ≤ at + 5 + left) × (readCrashes left n core (d .0) (crashesIn c ++ (crashRecord d q m ∷ [])) (drop 5 (drop at s)) ≡ readCrashes (length s) n core 0 [] s)
@@ -112,7 +112,7 @@ module _ (s : List ℕ) (n core : ℕ) (c : Crashes) (last count at : ℕ) (r : 
         ap (λ (k : ℕ). follow k n core (crashesIn c) (drop at s) (Crash d q m)) (sym f) ∙ (ap (follow (r .bytes) n core (crashesIn c) (drop at s)) e ∙ next),
       )
 
-      pub listing-turn : Listing s n core (noted c (d .0) (q .0) m) (d .0) (count + 1) (at + 5)
+      pub listing-turn : Listing s n core (noted c (d .0) q m) (d .0) (count + 1) (at + 5)
       unfolding noted
       listing-turn =
           let w = after (r .bytes) refl (r .enough) in
@@ -122,7 +122,7 @@ module _ (s : List ℕ) (n core : ℕ) (c : Crashes) (last count at : ℕ) (r : 
             within = crash-within;
             upTo = crash-bounds .1;
             word = insert-lt (d .0) low high (c .crashed) (r .word);
-            rounds = length-set (c .rounds) (d .0 - 1) (q .0) ∙ r .rounds;
+            rounds = length-set (c .rounds) (d .0 - 1) q ∙ r .rounds;
             sends = length-set (c .sends) (d .0 - 1) m ∙ r .sends;
             below = λ x h. ⊎-elim (λ i. omega (arith, r .below x i, crash-bounds .2)) (λ i. omega arith) (insert-cases (d .0) low high x (c .crashed) h);
             counted = ap length one-more ∙ (length-append (crashesIn c) (crashRecord d q m ∷ []) ∙ omega (arith, r .counted));

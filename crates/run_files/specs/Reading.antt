@@ -30,9 +30,17 @@ pub mod Laws
 
 -- ---- what the answers say
 
+-- a round for the places that an array does not have
+abbrev pub noRound : Round
+noRound = record { 0 = 0 }
+
+-- the round at the place of a drive
+abbrev pub roundAt : List Round → ℕ → ℕ
+roundAt rounds d = getD rounds (d - 1) noRound .0
+
 -- the CR records of crashes by drive: one for each drive of the mask, rising
 unfoldable pub crashIn : Crashes → ℕ → CrashRecord
-crashIn c d = record { drive = d; round = getD (c .rounds) (d - 1) 0; sends = getD (c .sends) (d - 1) 0 }
+crashIn c d = record { drive = d; round = roundAt (c .rounds) d; sends = getD (c .sends) (d - 1) 0 }
 
 unfoldable pub crashesIn : Crashes → List CrashRecord
 crashesIn c = map (crashIn c) (drives (c .crashed))
@@ -80,7 +88,7 @@ unfoldable pub stepOf : ℕ → ℕ → ℕ → ℕ → List ℕ → Step
 stepOf n core last count s = stepAt (headOf AtCrashOrEnd s) n core last count s
 
 -- the crashes with that of one more drive
-unfoldable pub noted : Crashes → ℕ → ℕ → ℕ → Crashes
+unfoldable pub noted : Crashes → ℕ → Round → ℕ → Crashes
 noted c d round sends = record {
   crashed = union (c .crashed) (single d);
   rounds = set (c .rounds) (d - 1) round;

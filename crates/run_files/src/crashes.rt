@@ -11,7 +11,7 @@ use tables::reading::Answer;
 // Crashes by drive: the drives with a CR, and of each such drive d, at place d - 1, the round and the sends.
 pub struct Crashes {
     pub crashed: u64,
-    pub rounds: [u8; 64],
+    pub rounds: [Round; 64],
     pub sends: [u8; 64],
 }
 

@@ -76,7 +76,7 @@ pub fn none() -> Crashes
 {
     Crashes {
         crashed: 0,
-        rounds: [0u8; 64],
+        rounds: [Round(0); 64],
         sends: [0u8; 64],
     }
 }
@@ -94,12 +94,12 @@ fn refused(r: Refusal) -> CrashesRead
 // The crashes with that of one more drive.
 fn note(c: Crashes, drive: Drive, round: Round, made: u8) -> Crashes
     requires { ⌜ (1 ≤ drive .0) × (drive .0 ≤ 64) ⌝ }
-    ensures { λ r. ⌜ r ≡ noted c (drive .0) (round .0) made ⌝ }
+    ensures { λ r. ⌜ r ≡ noted c (drive .0) round made ⌝ }
 {
     let i = (drive.0 - 1) as usize;
     let mut rounds = c.rounds;
     let mut sends = c.sends;
-    rounds[i] = round.0;
+    rounds[i] = round;
     sends[i] = made;
     Crashes {
         crashed: drive_sets::insert(c.crashed, drive),

@@ -16,13 +16,13 @@ use Rattle.tables.specs.Reading.{outcomeOf}
 use Rattle.exchange.proofs.Least.{lowest-first}
 use Rattle.runs.specs.CrashRecords.{CrashRecord, checkedCrash}
 use Rattle.run_files.specs.declared.crashes.Crashes.{Crashes}
-use Rattle.run_files.specs.Reading.{crashIn, crashesIn, crashRecord}
+use Rattle.run_files.specs.Reading.{roundAt, crashIn, crashesIn, crashRecord}
 use Rattle.simulation.specs.Simulation.{checkedCrashes}
 
 -- ---- one drive
 
 module _ (n core last : ℕ) (c : Crashes) (d : Drive) (round : Round) (made : ℕ) where
-  pub same-crash : round .0 ≡ getD (c .rounds) (d .0 - 1) 0 → made ≡ getD (c .sends) (d .0 - 1) 0 → (r : Answer)
+  pub same-crash : round .0 ≡ roundAt (c .rounds) (d .0) → made ≡ getD (c .sends) (d .0 - 1) 0 → (r : Answer)
       → outcomeOf r (crashRecord d round made) ≡ checkedCrash n core last (crashRecord d round made)
       → outcomeOf r (crashIn c (d .0)) ≡ checkedCrash n core last (crashIn c (d .0))
   unfolding crashRecord crashIn

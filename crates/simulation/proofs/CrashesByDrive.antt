@@ -11,6 +11,7 @@ use Rattle.drive_sets.specs.Bools.{cond-true, cond-false}
 use Rattle.drive_sets.specs.Masks.{has}
 use Rattle.runs.specs.Scenario.{stays, crashes, goneBefore, goneBy, cut}
 use Rattle.run_files.specs.declared.crashes.Crashes.{Crashes}
+use Rattle.run_files.specs.Reading.{roundAt}
 use Rattle.simulation.specs.States.{crashAt}
 
 module _ (c : Crashes) (d : ℕ) (b : Bool) (is : b ≡ has d (c .crashed)) where
@@ -36,11 +37,11 @@ module _ (c : Crashes) (d : ℕ) (b : Bool) (is : b ≡ has d (c .crashed)) wher
   -- ---- a drive with a CR
 
   module _ (h : not b ≡ false) where
-    crashes-in : crashAt c d ≡ crashes (getD (c .rounds) (d - 1) 0) (getD (c .sends) (d - 1) 0)
+    crashes-in : crashAt c d ≡ crashes (roundAt (c .rounds) d) (getD (c .sends) (d - 1) 0)
     unfolding crashAt
     crashes-in = cond-true _ _ (sym is ∙ not-false b h)
 
-    module _ (r q : ℕ) (e : q ≡ getD (c .rounds) (d - 1) 0) where
+    module _ (r q : ℕ) (e : q ≡ roundAt (c .rounds) d) where
       pub gone-before-by : ltb q r ≡ goneBefore (crashAt c d) r
       unfolding goneBefore
       gone-before-by = ap (λ x. ltb x r) e ∙ sym (ap (λ x. goneBefore x r) crashes-in)

@@ -33,6 +33,7 @@ use Rattle.runs.specs.Canonical.{canonicalEnding, CanonicalGives}
 use Rattle.agreement.specs.Refinement.Endings.{canonical-gives}
 use Rattle.run_files.specs.declared.crashes.Crashes.{Crashes}
 use Rattle.run_files.specs.Reading as files
+use Rattle.run_files.specs.Reading.{roundAt}
 use Rattle.run_files.specs.Reading.Laws.{crashed-in}
 use Rattle.simulation.specs.Simulation.{checkedCrashes, Simulated, simulatedOf, unlessTouched, simulated}
 use Rattle.simulation.specs.Simulation.Laws.{checked-valid}
@@ -49,7 +50,7 @@ module _ {A : Type 0} where
 
 module _ (n core : ℕ) (c : Crashes) (s : Scenario) (g : Says n core c s) where
   -- a drive with a CR, and one with none
-  crashes-at : (d : ℕ) → has d (c .crashed) ≡ true → s .crash d ≡ crashes (getD (c .rounds) (d - 1) 0) (getD (c .sends) (d - 1) 0)
+  crashes-at : (d : ℕ) → has d (c .crashed) ≡ true → s .crash d ≡ crashes (roundAt (c .rounds) d) (getD (c .sends) (d - 1) 0)
   unfolding crashAt
   crashes-at d t = g .crash-is d ∙ cond-true _ _ t
 
@@ -97,17 +98,17 @@ module _ (n core : ℕ) (c : Crashes) (s : Scenario) (g : Says n core c s) where
 
 -- the CR of a drive among the records is the one at its place
 crash-listed : (c : Crashes) (l : List ℕ) (d : ℕ)
-    → crashIn (map (files.crashIn c) l) d ≡ cond (elem d l) (crashes (getD (c .rounds) (d - 1) 0) (getD (c .sends) (d - 1) 0)) stays
+    → crashIn (map (files.crashIn c) l) d ≡ cond (elem d l) (crashes (roundAt (c .rounds) d) (getD (c .sends) (d - 1) 0)) stays
 unfolding crashIn elem files.crashIn
 crash-listed c [] d = sym (cond-false _ _ (elem-none d))
 crash-listed c (x ∷ l) d =
     by-test (eqb x d)
     (λ t. cond-true _ _ t
-    ∙ (ap (λ (y : ℕ). crashes (getD (c .rounds) (y - 1) 0) (getD (c .sends) (y - 1) 0)) (eqb-true x d t)
+    ∙ (ap (λ (y : ℕ). crashes (roundAt (c .rounds) y) (getD (c .sends) (y - 1) 0)) (eqb-true x d t)
     ∙ sym (cond-true _ _ (any-true (eqb d) x l (eq-eqb d x (sym (eqb-true x d t)))))))
     (λ t. cond-false _ _ t
     ∙ (crash-listed c l d
-    ∙ ap (λ (b : Bool). cond b (crashes (getD (c .rounds) (d - 1) 0) (getD (c .sends) (d - 1) 0)) stays)
+    ∙ ap (λ (b : Bool). cond b (crashes (roundAt (c .rounds) d) (getD (c .sends) (d - 1) 0)) stays)
     (sym (any-false (eqb d) x l (ne-eqb d x (λ e. eqb-false x d t (sym e)))))))
 
 module _ (n : ℕ) (sets numbers : List ℕ) (c : Crashes) (core : ℕ) (word : c .crashed < 2 ^ 64) (e : chosenCore n sets ≡ result core) where
@@ -136,7 +137,7 @@ module _ (n : ℕ) (sets numbers : List ℕ) (c : Crashes) (core : ℕ) (word : 
       crash-is : (d : ℕ) → crashIn (files.crashesIn c) d ≡ crashAt c d
       crash-is d =
           crash-listed c (drives (c .crashed)) d
-          ∙ ap (λ (b : Bool). cond b (crashes (getD (c .rounds) (d - 1) 0) (getD (c .sends) (d - 1) 0)) stays) (elem-drives d (c .crashed) word)
+          ∙ ap (λ (b : Bool). cond b (crashes (roundAt (c .rounds) d) (getD (c .sends) (d - 1) 0)) stays) (elem-drives d (c .crashed) word)
 
   -- ---- 11, by the code's test
 

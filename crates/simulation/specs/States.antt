@@ -17,10 +17,11 @@ use Rattle.runs.specs.Runs.{joined}
 use Rattle.runs.specs.Statement.{Valid}
 use Rattle.runs.specs.Canonical.{room, deliveries}
 use Rattle.run_files.specs.declared.crashes.Crashes.{Crashes}
+use Rattle.run_files.specs.Reading.{roundAt}
 
 -- the CR of a drive
 unfoldable pub crashAt : Crashes → ℕ → Crash
-crashAt c d = cond (has d (c .crashed)) (crashes (getD (c .rounds) (d - 1) 0) (getD (c .sends) (d - 1) 0)) stays
+crashAt c d = cond (has d (c .crashed)) (crashes (roundAt (c .rounds) d) (getD (c .sends) (d - 1) 0)) stays
 
 -- a state for the places that an array does not have
 abbrev pub blank : Exchange

@@ -8,7 +8,6 @@ ghost use Rattle.run_files.specs.Reading.{crashIn, crashesIn};
 ghost use Rattle.simulation.specs.Simulation.{checkedCrashes};
 use crate::crashes;
 use drive_sets::Drive;
-use drive_sets::Round;
 use run_files::crashes::Crashes;
 use tables::reading::Answer;
 
@@ -19,9 +18,9 @@ fn check_one(n: u8, core: u64, last: Drive, d: Drive, crashes: Crashes) -> Answe
 {
     let rounds = crashes.rounds;
     let sends = crashes.sends;
-    let round = crashes::byte_at(rounds, d);
-    let made = crashes::byte_at(sends, d);
-    run_files::crashes::check_crash(n, core, last, d, Round(round), made)
+    let round = crashes::round_at(rounds, d);
+    let made = crashes::sends_at(sends, d);
+    run_files::crashes::check_crash(n, core, last, d, round, made)
 }
 
 // The first refusal that a crash meets.

@@ -4,19 +4,31 @@ ghost use mathlib.Core.List.{List};
 ghost use Prim.Native.Nat.{ℕ, _≤_, _-_};
 ghost use lib.ListN.{length, take, getD};
 ghost use Rattle.runs.specs.Scenario.{goneBefore, goneBy, cut};
+ghost use Rattle.run_files.specs.Reading.{roundAt};
 ghost use Rattle.simulation.specs.States.{crashAt};
 use drive_sets::Drive;
 use drive_sets::MAX_DRIVES;
 use drive_sets::Round;
 use run_files::crashes::Crashes;
 
-// What stands at a drive's place.
-pub fn byte_at(bytes: [u8; 64], d: Drive) -> u8
+// The round at a drive's place.
+pub fn round_at(rounds: [Round; 64], d: Drive) -> Round
     requires { ⌜ (1 ≤ d .0) × (d .0 ≤ 64) ⌝ }
-    ensures { λ r. ⌜ r ≡ getD bytes (d .0 - 1) 0 ⌝ }
+    ensures { λ r. ⌜ r .0 ≡ roundAt rounds (d .0) ⌝ }
 {
     let i = d.0;
-    bytes[(i - 1) as usize]
+    let at = (i - 1) as usize;
+    let round = rounds[at];
+    round
+}
+
+// The sends at a drive's place.
+pub fn sends_at(sends: [u8; 64], d: Drive) -> u8
+    requires { ⌜ (1 ≤ d .0) × (d .0 ≤ 64) ⌝ }
+    ensures { λ r. ⌜ r ≡ getD sends (d .0 - 1) 0 ⌝ }
+{
+    let i = d.0;
+    sends[(i - 1) as usize]
 }
 
 // A CR for an earlier round.
@@ -27,8 +39,8 @@ pub fn gone_before(crashes: Crashes, d: Drive, round: Round) -> bool
         return false;
     }
     let rounds = crashes.rounds;
-    let last = byte_at(rounds, d);
-    last < round.0
+    let last = round_at(rounds, d);
+    last.0 < round.0
 }
 
 // A CR for this round or an earlier one.
@@ -39,8 +51,8 @@ pub fn gone_by(crashes: Crashes, d: Drive, round: Round) -> bool
         return false;
     }
     let rounds = crashes.rounds;
-    let last = byte_at(rounds, d);
-    last <= round.0
+    let last = round_at(rounds, d);
+    last.0 <= round.0
 }
 
 // How many sends of this round's list the drive makes; 64, which no list is longer than, where it has no CR for this round.
@@ -51,10 +63,10 @@ pub fn sends_made(crashes: Crashes, d: Drive, round: Round) -> u8
         return MAX_DRIVES;
     }
     let rounds = crashes.rounds;
-    let last = byte_at(rounds, d);
-    if last != round.0 {
+    let last = round_at(rounds, d);
+    if last.0 != round.0 {
         return MAX_DRIVES;
     }
     let sends = crashes.sends;
-    byte_at(sends, d)
+    sends_at(sends, d)
 }

@@ -8,6 +8,7 @@ use lib.Dec.{eqb, ltb}
 use lib.ListN.{length, getD, set}
 use lib.Seq.{getD-set-same, getD-set-other}
 use borrow.Author.Tests.{lt-ltb}
+use Rattle.drive_sets.specs.declared.Round.{Round}
 use Rattle.drive_sets.specs.Bools.{and-intro, and-left, and-right}
 use Rattle.drive_sets.specs.Lists.{all, elem, ordered}
 use Rattle.drive_sets.specs.Lists.Laws.{elem-head, elem-tail, elem-last, all-append}
@@ -17,7 +18,7 @@ use Rattle.drive_sets.specs.Masks.OneDrive.{has-insert, insert-lt}
 use Rattle.drive_sets.specs.Masks.Sizes.{elem-drives, drives-rising, drives-none, rising-unique, ofDrives-drives}
 use Rattle.run_files.specs.declared.crashes.Crashes.{Crashes}
 use Rattle.runs.specs.CrashRecords.{CrashRecord, crashed}
-use Rattle.run_files.specs.Reading.{crashIn, crashesIn, noted}
+use Rattle.run_files.specs.Reading.{noRound, roundAt, crashIn, crashesIn, noted}
 
 -- ---- lists
 
@@ -60,7 +61,7 @@ pub crashed-in : (c : Crashes) → c .crashed < 2 ^ 64 → crashed (crashesIn c)
 unfolding crashed crashesIn
 crashed-in c word = ap ofDrives (map-drives c (drives (c .crashed))) ∙ ofDrives-drives (c .crashed) word
 
-module _ (c : Crashes) (d q m : ℕ) (word : c .crashed < 2 ^ 64) (rounds : length (c .rounds) ≡ 64) (sends : length (c .sends) ≡ 64)
+module _ (c : Crashes) (d : ℕ) (q : Round) (m : ℕ) (word : c .crashed < 2 ^ 64) (rounds : length (c .rounds) ≡ 64) (sends : length (c .sends) ≡ 64)
     (low : 1 ≤ d) (high : d ≤ 64) (above : (e : ℕ) → has e (c .crashed) ≡ true → e < d) where
   other : (e : ℕ) → elem e (drives (c .crashed)) ≡ true → crashIn (noted c d q m) e ≡ crashIn c e
   unfolding crashIn noted
@@ -68,17 +69,17 @@ module _ (c : Crashes) (d q m : ℕ) (word : c .crashed < 2 ^ 64) (rounds : leng
       let i : has e (c .crashed) ≡ true = sym (elem-drives e (c .crashed) word) ∙ h in
       let b = has-bounds 64 e (c .crashed) word i in
       let l = above e i in
-      let r : getD (set (c .rounds) (d - 1) q) (e - 1) 0 ≡ getD (c .rounds) (e - 1) 0 = getD-set-other (c .rounds) (d - 1) (e - 1) q 0 (λ f. omega (arith, b .0)) in
+      let r : roundAt (set (c .rounds) (d - 1) q) e ≡ roundAt (c .rounds) e = ap (λ (x : Round). x .0) (getD-set-other (c .rounds) (d - 1) (e - 1) q noRound (λ f. omega (arith, b .0))) in
       let s : getD (set (c .sends) (d - 1) m) (e - 1) 0 ≡ getD (c .sends) (e - 1) 0 = getD-set-other (c .sends) (d - 1) (e - 1) m 0 (λ f. omega (arith, b .0)) in
       ap₂ (λ (x y : ℕ). record { drive = e; round = x; sends = y }) r s
 
-  itself : crashIn (noted c d q m) d ≡ record { drive = d; round = q; sends = m }
+  itself : crashIn (noted c d q m) d ≡ record { drive = d; round = q .0; sends = m }
   unfolding crashIn noted
   itself =
       ap₂ (λ (x y : ℕ). record { drive = d; round = x; sends = y })
-      (getD-set-same (c .rounds) (d - 1) q 0 (omega arith)) (getD-set-same (c .sends) (d - 1) m 0 (omega arith))
+      (ap (λ (x : Round). x .0) (getD-set-same (c .rounds) (d - 1) q noRound (omega arith))) (getD-set-same (c .sends) (d - 1) m 0 (omega arith))
 
-  pub noted-listed : crashesIn (noted c d q m) ≡ crashesIn c ++ (record { drive = d; round = q; sends = m } ∷ [])
+  pub noted-listed : crashesIn (noted c d q m) ≡ crashesIn c ++ (record { drive = d; round = q .0; sends = m } ∷ [])
   unfolding crashesIn noted
   noted-listed =
       ap (map (crashIn (noted c d q m))) mask

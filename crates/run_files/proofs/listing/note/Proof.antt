@@ -10,8 +10,8 @@ sub-i c = search needs
 cast-i : tie.Need-cast-i
 cast-i c = search needs
 
-array-write-rounds : tie.Need-array-write-rounds
-array-write-rounds c = search needs
+array-set-from-rounds : tie.Need-array-set-from-rounds
+array-set-from-rounds c = search needs
 
 array-write-sends : tie.Need-array-write-sends
 array-write-sends c = search needs
@@ -25,4 +25,4 @@ returns c = rw (c .insert .ensures)
 
 pub note-spec : {M : Type 1} → statement M
 note-spec =
-    tie.close (tie.spec sub-i cast-i array-write-rounds array-write-sends insert-requires returns)
+    tie.close (tie.spec sub-i cast-i array-set-from-rounds array-write-sends insert-requires returns)

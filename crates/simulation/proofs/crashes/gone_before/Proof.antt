@@ -12,14 +12,14 @@ has-requires c κs = search needs
 returns : tie.Need-returns
 returns c = let a = c .before .before .args in not-gone-before (a .crashes) (a .d .0) _ (c .before .has .ensures) (c .if1 .taken) (a .round .0)
 
-byte-at-requires : tie.Need-byte-at-requires
-byte-at-requires c κs =
+round-at-requires : tie.Need-round-at-requires
+round-at-requires c κs =
     let a = c .before .before .before .args in
     let word : a .crashes .crashed < 2 ^ 64 = search needs in
     own-bounds (a .d .0) (a .crashes .crashed) _ word (c .before .before .has .ensures) (c .before .if1 .left)
 
 returns-2 : tie.Need-returns-2
-returns-2 c = let a = c .before .before .before .before .before .args in gone-before-by (a .crashes) (a .d .0) _ (c .before .before .before .before .has .ensures) (c .before .before .before .if1 .left) (a .round .0) _ (c .before .byte-at .ensures)
+returns-2 c = let a = c .before .before .before .before .before .before .args in gone-before-by (a .crashes) (a .d .0) _ (c .before .before .before .before .before .has .ensures) (c .before .before .before .before .if1 .left) (a .round .0) _ (c .before .before .round-at .ensures)
 
 pub gone-before-spec : {M : Type 1} → statement M
-gone-before-spec = tie.close (tie.spec has-requires returns byte-at-requires returns-2)
+gone-before-spec = tie.close (tie.spec has-requires returns round-at-requires returns-2)
