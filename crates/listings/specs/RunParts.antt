@@ -1,10 +1,13 @@
 -- The parts of the run program's text, as the code writes them one after the other.
 use mathlib.Core.Bool.{Bool, cond}
 use mathlib.Core.List.{List, [], _∷_, _++_}
-use Prim.Native.Nat.{ℕ, _-_}
-use lib.ListN.{getD}
+use Prim.Native.Nat.{ℕ}
+use Rattle.drive_sets.specs.declared.Pattern.{Pattern}
+use Rattle.drive_sets.specs.declared.Round.{Round}
 use Rattle.drive_sets.specs.Masks.{has}
 use Rattle.runs.specs.Simulated.{Ending, stopped}
+use Rattle.run_files.specs.Reading.{roundAt}
+use Rattle.simulation.specs.States.{numberAt}
 use Rattle.simulation.specs.Endings.{endingBy}
 use Rattle.listings.specs.Text.{inBase}
 use Rattle.listings.specs.RunListing.{driveLine}
@@ -14,8 +17,8 @@ unfoldable pub endingFor : Bool → ℕ → ℕ → Ending
 endingFor crashes round number = cond crashes stopped (endingBy round number)
 
 -- the same from the drives with a CR, and the rounds and numbers by drive
-unfoldable pub endingAt : ℕ → List ℕ → List ℕ → ℕ → Ending
-endingAt crashed rounds numbers d = endingFor (has d crashed) (getD rounds (d - 1) 0) (getD numbers (d - 1) 0)
+unfoldable pub endingAt : ℕ → List Round → List Pattern → ℕ → Ending
+endingAt crashed rounds numbers d = endingFor (has d crashed) (roundAt rounds d) (numberAt numbers d)
 
 -- the lines of some drives
 unfoldable pub driveLines : (ℕ → Ending) → List ℕ → List ℕ

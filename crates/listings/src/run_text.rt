@@ -10,6 +10,8 @@ use crate::lines::put_value;
 use crate::text::put;
 use crate::text::put_all;
 use drive_sets::Drive;
+use drive_sets::Pattern;
+use drive_sets::Round;
 
 // A word and a number.
 fn put_named(buf: &mut [u8], at: usize, word: &[u8], base: u64, most: u8, x: u64) -> usize
@@ -21,18 +23,18 @@ fn put_named(buf: &mut [u8], at: usize, word: &[u8], base: u64, most: u8, x: u64
 }
 
 // How a drive ends: the round is 0 where it has not decided.
-fn put_ending(buf: &mut [u8], at: usize, crashes: bool, round: u8, number: u16) -> usize
+fn put_ending(buf: &mut [u8], at: usize, crashes: bool, round: Round, number: Pattern) -> usize
     requires { ⌜ (at ≤ length (now buf) + 1) × (length (now buf) ≤ 65536) ⌝ }
-    ensures { λ r. ⌜ Filled (now (buf .entry)) (now (buf .exit)) at r (endingText (endingFor crashes round number)) ⌝ }
+    ensures { λ r. ⌜ Filled (now (buf .entry)) (now (buf .exit)) at r (endingText (endingFor crashes (round .0) (number .0))) ⌝ }
 {
     if crashes {
         return put_all(buf, at, b" stopped");
     }
-    if round == 0 {
+    if round.0 == 0 {
         return put_all(buf, at, b" undecided");
     }
-    let decided = put_named(buf, at, b" decides", 10, 20, number as u64);
-    put_named(buf, decided, b" round", 10, 20, round as u64)
+    let decided = put_named(buf, at, b" decides", 10, 20, number.0 as u64);
+    put_named(buf, decided, b" round", 10, 20, round.0 as u64)
 }
 
 // The line of a drive.
@@ -41,22 +43,18 @@ fn put_drive(
     at: usize,
     d: Drive,
     crashed: u64,
-    rounds: [u8; 64],
-    numbers: [u16; 64],
+    rounds: [Round; 64],
+    numbers: [Pattern; 64],
 ) -> usize
     requires { ⌜ (at ≤ length (now buf) + 1) × (length (now buf) ≤ 65536) × (1 ≤ d .0) × (d .0 ≤ 64) ⌝ }
     ensures { λ r. ⌜ Filled (now (buf .entry)) (now (buf .exit)) at r (driveLine (d .0) (endingAt crashed rounds numbers (d .0))) ⌝ }
 {
     let i = d.0;
     let place = (i - 1) as usize;
+    let round = rounds[place];
+    let number = numbers[place];
     let headed = put_named(buf, at, b"drive", 10, 20, i as u64);
-    let ended = put_ending(
-        buf,
-        headed,
-        drive_sets::has(d, crashed),
-        rounds[place],
-        numbers[place],
-    );
+    let ended = put_ending(buf, headed, drive_sets::has(d, crashed), round, number);
     put(buf, ended, 10)
 }
 
@@ -66,8 +64,8 @@ pub fn put_drives(
     start: usize,
     n: u8,
     crashed: u64,
-    rounds: [u8; 64],
-    numbers: [u16; 64],
+    rounds: [Round; 64],
+    numbers: [Pattern; 64],
 ) -> usize
     requires { ⌜ (start ≤ length (now buf) + 1) × (length (now buf) ≤ 65536) × (n ≤ 64) ⌝ }
     ensures { λ r. ⌜ Filled (now (buf .entry)) (now (buf .exit)) start r (driveLines (endingAt crashed rounds numbers) (range 1 n)) ⌝ }

@@ -10,6 +10,7 @@ use lib.Seq.{getD-set-same, getD-set-other}
 use borrow.Author.Tests.{eqb-true, eqb-false, ne-eqb}
 use Rattle.drive_sets.specs.Bools.{by-test, cond-false}
 use Rattle.drive_sets.specs.declared.Pattern.{Pattern}
+use Rattle.drive_sets.specs.declared.Round.{Round}
 use Rattle.exchange.specs.declared.Exchange.{Exchange}
 use Rattle.exchange.specs.declared.Decision.{Decision}
 use Rattle.exchange.specs.declared.Decision.the-variants.{Undecided, Decided}
@@ -17,15 +18,17 @@ use Rattle.exchange.specs.State.{isDrive}
 use Rattle.exchange.specs.State.Laws.{drive-bounds}
 use Rattle.runs.specs.Simulated.{Ending, decides, undecided}
 use Rattle.runs.specs.Canonical.{endingOn}
-use Rattle.simulation.specs.States.{blank, stateAt}
+use Rattle.run_files.specs.Reading.{noRound, roundAt}
+use Rattle.simulation.specs.States.{noPattern, numberAt, blank, stateAt}
 use Rattle.simulation.specs.Endings.{endingBy, orLater}
 
 -- ---- nothing found
 
-pub zero-at : (k j : ℕ) → getD {A = ℕ} (replicate k 0) j 0 ≡ 0
-zero-at zero j = refl
-zero-at (suc k) zero = refl
-zero-at (suc k) (suc j) = zero-at k j
+module _ {A : Type 0} where
+  pub same-at : (k j : ℕ) (a : A) → getD (replicate k a) j a ≡ a
+  same-at zero j a = refl
+  same-at (suc k) zero a = refl
+  same-at (suc k) (suc j) a = same-at k j a
 
 pub none-found : (round number : ℕ) → round ≡ 0 → endingBy round number ≡ undecided
 unfolding endingBy
@@ -54,18 +57,18 @@ module _ (was number : ℕ) (decision : Decision) (r : ℕ) where
 
 -- ---- the loop
 
-module _ (rounds₀ numbers₀ : List ℕ) (states : List Exchange) (r : ℕ) where
+module _ (rounds₀ : List Round) (numbers₀ : List Pattern) (states : List Exchange) (r : ℕ) where
   -- how a drive ends, with its decision after the round
   abbrev after : ℕ → Decision → Ending
-  after place decision = orLater (endingBy (getD rounds₀ place 0) (getD numbers₀ place 0)) (endingOn decision r undecided)
+  after place decision = orLater (endingBy (getD rounds₀ place noRound .0) (getD numbers₀ place noPattern .0)) (endingOn decision r undecided)
 
   -- the drives 1 to i have been noted
-  pub record Noting (rounds numbers : List ℕ) (i : ℕ) : Type 0 where
+  pub record Noting (rounds : List Round) (numbers : List Pattern) (i : ℕ) : Type 0 where
     pub long : length rounds ≡ 64
     pub wide : length numbers ≡ 64
-    pub below : (j : ℕ) → j < i → endingBy (getD rounds j 0) (getD numbers j 0) ≡ after j (getD states j blank .decision)
-    pub round-above : (j : ℕ) → i ≤ j → getD rounds j 0 ≡ getD rounds₀ j 0
-    pub number-above : (j : ℕ) → i ≤ j → getD numbers j 0 ≡ getD numbers₀ j 0
+    pub below : (j : ℕ) → j < i → endingBy (getD rounds j noRound .0) (getD numbers j noPattern .0) ≡ after j (getD states j blank .decision)
+    pub round-above : (j : ℕ) → i ≤ j → getD rounds j noRound ≡ getD rounds₀ j noRound
+    pub number-above : (j : ℕ) → i ≤ j → getD numbers j noPattern ≡ getD numbers₀ j noPattern
 
   pub note-start : length rounds₀ ≡ 64 → length numbers₀ ≡ 64 → Noting rounds₀ numbers₀ 0
   note-start long wide = record {
@@ -76,31 +79,31 @@ module _ (rounds₀ numbers₀ : List ℕ) (states : List Exchange) (r : ℕ) wh
     number-above = λ j h. refl;
   }
 
-  pub note-turn : (rounds numbers : List ℕ) (i q v : ℕ) → Noting rounds numbers i → i < 64
-      → endingBy q v ≡ orLater (endingBy (getD rounds i 0) (getD numbers i 0)) (endingOn (getD states i blank .decision) r undecided)
+  pub note-turn : (rounds : List Round) (numbers : List Pattern) (i : ℕ) (q : Round) (v : Pattern) → Noting rounds numbers i → i < 64
+      → endingBy (q .0) (v .0) ≡ orLater (endingBy (getD rounds i noRound .0) (getD numbers i noPattern .0)) (endingOn (getD states i blank .decision) r undecided)
       → Noting (set rounds i q) (set numbers i v) (i + 1)
   note-turn rounds numbers i q v g h e = record {
     long = length-set rounds i q ∙ g .long;
     wide = length-set numbers i v ∙ g .wide;
     below = below;
-    round-above = λ j a. getD-set-other rounds i j q 0 (λ z. absurd (omega (arith, a, z))) ∙ g .round-above j (omega (arith, a));
-    number-above = λ j a. getD-set-other numbers i j v 0 (λ z. absurd (omega (arith, a, z))) ∙ g .number-above j (omega (arith, a));
+    round-above = λ j a. getD-set-other rounds i j q noRound (λ z. absurd (omega (arith, a, z))) ∙ g .round-above j (omega (arith, a));
+    number-above = λ j a. getD-set-other numbers i j v noPattern (λ z. absurd (omega (arith, a, z))) ∙ g .number-above j (omega (arith, a));
   }
     where
-      here : endingBy (getD (set rounds i q) i 0) (getD (set numbers i v) i 0) ≡ after i (getD states i blank .decision)
+      here : endingBy (getD (set rounds i q) i noRound .0) (getD (set numbers i v) i noPattern .0) ≡ after i (getD states i blank .decision)
       here =
-          ap₂ endingBy (getD-set-same rounds i q 0 (omega (arith, h, g .long))) (getD-set-same numbers i v 0 (omega (arith, h, g .wide)))
-          ∙ (e ∙ ap₂ (λ (x y : ℕ). orLater (endingBy x y) (endingOn (getD states i blank .decision) r undecided))
+          ap₂ (λ (x : Round) (y : Pattern). endingBy (x .0) (y .0)) (getD-set-same rounds i q noRound (omega (arith, h, g .long))) (getD-set-same numbers i v noPattern (omega (arith, h, g .wide)))
+          ∙ (e ∙ ap₂ (λ (x : Round) (y : Pattern). orLater (endingBy (x .0) (y .0)) (endingOn (getD states i blank .decision) r undecided))
           (g .round-above i (omega arith)) (g .number-above i (omega arith)))
 
-      below : (j : ℕ) → j < i + 1 → endingBy (getD (set rounds i q) j 0) (getD (set numbers i v) j 0) ≡ after j (getD states j blank .decision)
+      below : (j : ℕ) → j < i + 1 → endingBy (getD (set rounds i q) j noRound .0) (getD (set numbers i v) j noPattern .0) ≡ after j (getD states j blank .decision)
       below j l =
           by-test (eqb j i)
-          (λ t. subst (λ (k : ℕ). endingBy (getD (set rounds i q) k 0) (getD (set numbers i v) k 0) ≡ after k (getD states k blank .decision)) (sym (eqb-true j i t)) here)
+          (λ t. subst (λ (k : ℕ). endingBy (getD (set rounds i q) k noRound .0) (getD (set numbers i v) k noPattern .0) ≡ after k (getD states k blank .decision)) (sym (eqb-true j i t)) here)
           (λ t. let other = eqb-false j i t in
-          ap₂ endingBy (getD-set-other rounds i j q 0 other) (getD-set-other numbers i j v 0 other) ∙ g .below j (omega (arith, l, other)))
+          ap₂ (λ (x : Round) (y : Pattern). endingBy (x .0) (y .0)) (getD-set-other rounds i j q noRound other) (getD-set-other numbers i j v noPattern other) ∙ g .below j (omega (arith, l, other)))
 
-  pub note-end : (n : ℕ) (rounds numbers : List ℕ) (i : ℕ) → Noting rounds numbers i → n ≤ i → (d : ℕ) → isDrive n d ≡ true
-      → endingBy (getD rounds (d - 1) 0) (getD numbers (d - 1) 0) ≡ after (d - 1) (stateAt states d .decision)
+  pub note-end : (n : ℕ) (rounds : List Round) (numbers : List Pattern) (i : ℕ) → Noting rounds numbers i → n ≤ i → (d : ℕ) → isDrive n d ≡ true
+      → endingBy (roundAt rounds d) (numberAt numbers d) ≡ after (d - 1) (stateAt states d .decision)
   unfolding stateAt
   note-end n rounds numbers i g h d t = let b = drive-bounds n d t in g .below (d - 1) (omega (arith, b .0, b .1, h))

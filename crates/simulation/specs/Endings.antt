@@ -1,24 +1,25 @@
 -- What the code's record of decisions says: how a drive ends, as far as it is known.
 use mathlib.Core.Bool.{cond}
 use mathlib.Core.List.{List, map}
-use Prim.Native.Nat.{ℕ, _-_}
+use Prim.Native.Nat.{ℕ}
 use lib.Dec.{eqb}
-use lib.ListN.{getD}
 use Rattle.drive_sets.specs.Lists.{range}
 use Rattle.drive_sets.specs.Masks.{has}
 use Rattle.drive_sets.specs.Refusals.{Outcome}
 use Rattle.tables.specs.Reading.{outcomeOf}
 use Rattle.runs.specs.Simulated.{Ending, decides, undecided, stopped}
+use Rattle.run_files.specs.Reading.{roundAt}
 use Rattle.simulation.specs.declared.simulating.Found.{Found}
 use Rattle.simulation.specs.declared.simulating.Simulated as answers
 use Rattle.simulation.specs.Simulation.{Simulated}
+use Rattle.simulation.specs.States.{numberAt}
 
 -- from a round, 0 where the drive has not decided, and a pattern number
 unfoldable pub endingBy : ℕ → ℕ → Ending
 endingBy round number = cond (eqb round 0) undecided (decides number round)
 
 unfoldable pub foundOf : Found → ℕ → Ending
-foundOf f d = endingBy (getD (f .rounds) (d - 1) 0) (getD (f .numbers) (d - 1) 0)
+foundOf f d = endingBy (roundAt (f .rounds) d) (numberAt (f .numbers) d)
 
 -- the first decision counts
 unfoldable pub orLater : Ending → Ending → Ending

@@ -4,6 +4,7 @@ use mathlib.Core.Bool.{Bool, true, false, not, _&&_, cond}
 use mathlib.Core.List.{List, [], _++_, map}
 use Prim.Native.Nat.{ℕ, _-_}
 use lib.ListN.{getD}
+use Rattle.drive_sets.specs.declared.Pattern.{Pattern}
 use Rattle.drive_sets.specs.Lists.{range, keep}
 use Rattle.drive_sets.specs.Masks.{has, single, minus, outside, drives}
 use Rattle.exchange.specs.declared.Exchange.{Exchange}
@@ -22,6 +23,14 @@ use Rattle.run_files.specs.Reading.{roundAt}
 -- the CR of a drive
 unfoldable pub crashAt : Crashes → ℕ → Crash
 crashAt c d = cond (has d (c .crashed)) (crashes (roundAt (c .rounds) d) (getD (c .sends) (d - 1) 0)) stays
+
+-- a pattern number for the places that an array does not have
+abbrev pub noPattern : Pattern
+noPattern = record { 0 = 0 }
+
+-- the pattern number at the place of a drive
+abbrev pub numberAt : List Pattern → ℕ → ℕ
+numberAt numbers d = getD numbers (d - 1) noPattern .0
 
 -- a state for the places that an array does not have
 abbrev pub blank : Exchange

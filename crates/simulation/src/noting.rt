@@ -8,14 +8,15 @@ ghost use Rattle.runs.specs.Canonical.{endingOn};
 ghost use Rattle.simulation.specs.States.{stateAt};
 ghost use Rattle.simulation.specs.Endings.{endingBy, foundOf, orLater};
 use crate::simulating::Found;
+use drive_sets::Pattern;
 use drive_sets::Round;
 use exchange::Decision;
 use exchange::Exchange;
 
 // The round in which one drive decided, 0 where it has not, and the pattern number.
 struct First {
-    round: u8,
-    number: u16,
+    round: Round,
+    number: Pattern,
 }
 
 // Nothing found yet.
@@ -23,25 +24,25 @@ pub fn nothing() -> Found
     ensures { λ r. ⌜ ((d : ℕ) → foundOf r d ≡ undecided) ⌝ }
 {
     Found {
-        rounds: [0u8; 64],
-        numbers: [0u16; 64],
+        rounds: [Round(0); 64],
+        numbers: [Pattern(0); 64],
     }
 }
 
 // What was found of a drive, with its decision after this round.
-fn first_decision(was: u8, number: u16, decision: Decision, round: Round) -> First
+fn first_decision(was: Round, number: Pattern, decision: Decision, round: Round) -> First
     requires { ⌜ 1 ≤ round .0 ⌝ }
-    ensures { λ r. ⌜ endingBy (r .round) (r .number) ≡ orLater (endingBy was number) (endingOn decision (round .0) undecided) ⌝ }
+    ensures { λ r. ⌜ endingBy (r .round .0) (r .number .0) ≡ orLater (endingBy (was .0) (number .0)) (endingOn decision (round .0) undecided) ⌝ }
 {
-    if was != 0 {
+    if was.0 != 0 {
         return First { round: was, number };
     }
     match decision {
-        Decision::Undecided => First { round: 0, number },
-        Decision::Decided(v) => First {
-            round: round.0,
-            number: v.0,
+        Decision::Undecided => First {
+            round: Round(0),
+            number,
         },
+        Decision::Decided(v) => First { round, number: v },
     }
 }
 
@@ -57,9 +58,13 @@ pub fn note_all(found: Found, states: [Exchange; 64], n: u8, round: Round) -> Fo
         let at = i as usize;
         let x = states[at];
         let decision = x.decision;
-        let next = first_decision(rounds[at], numbers[at], decision, round);
-        rounds[at] = next.round;
-        numbers[at] = next.number;
+        let was = rounds[at];
+        let had = numbers[at];
+        let next = first_decision(was, had, decision, round);
+        let first = next.round;
+        let decided = next.number;
+        rounds[at] = first;
+        numbers[at] = decided;
         i += 1;
     }
     Found { rounds, numbers }

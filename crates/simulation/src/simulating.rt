@@ -13,15 +13,17 @@ ghost use Rattle.simulation.specs.Endings.{simulatedOutcome};
 use crate::checking;
 use crate::noting;
 use crate::running;
+use drive_sets::Pattern;
 use drive_sets::Refusal;
+use drive_sets::Round;
 use run_files::crashes::Crashes;
 use tables::calls::Chosen;
 use tables::reading::Answer;
 
 // For each drive, drive 1 first, the round in which it decided, 0 where it has not, and the pattern number.
 pub struct Found {
-    pub rounds: [u8; 64],
-    pub numbers: [u16; 64],
+    pub rounds: [Round; 64],
+    pub numbers: [Pattern; 64],
 }
 
 // How the drives end, where the call is accepted: a drive with a CR is stopped, and the first decisions of the others; the core, and f.

@@ -1,9 +1,9 @@
 -- The drive, how it ends, the newline.
-use Prim.Native.Nat.{_-_}
-use lib.ListN.{getD}
 use mathlib.Core.Path.{sym, ap}
 use mathlib.Core.Bool.{Bool}
 use Rattle.records.specs.Marks.{ascii}
+use Rattle.run_files.specs.Reading.{roundAt}
+use Rattle.simulation.specs.States.{numberAt}
 use Rattle.listings.specs.RunListing.{endingText}
 use Rattle.listings.specs.RunParts.{endingFor, endingAt}
 use Rattle.listings.proofs.RunTexts.{drive-line}
@@ -18,6 +18,15 @@ sub-place c = search needs
 cast-place : tie.Need-cast-place
 cast-place c = search needs
 
+array-copy-out-round : tie.Need-array-copy-out-round
+array-copy-out-round c = search needs
+
+mul-number : tie.Need-mul-number
+mul-number c = search needs
+
+array-copy-out-number : tie.Need-array-copy-out-number
+array-copy-out-number c = search needs
+
 slice-aggregate-put-named : tie.Need-slice-aggregate-put-named
 slice-aggregate-put-named c = search needs
 
@@ -30,15 +39,6 @@ put-named-requires c κs = search needs
 has-requires : tie.Need-has-requires
 has-requires c κs = search needs
 
-array-read-put-ending : tie.Need-array-read-put-ending
-array-read-put-ending c = search needs
-
-mul-put-ending : tie.Need-mul-put-ending
-mul-put-ending c = search needs
-
-array-read-put-ending-2 : tie.Need-array-read-put-ending-2
-array-read-put-ending-2 c = search needs
-
 put-ending-requires : tie.Need-put-ending-requires
 put-ending-requires c κs = search needs
 
@@ -50,7 +50,7 @@ same-length c = search needs
 
 returns : tie.Need-returns
 unfolding ascii endingAt
-returns c = let a = c .before .before .before .before .before .before .before .before .before .before .before .before .before .before .before .args in filled-same (drive-line (a .d .0) (endingAt (a .crashed) (a .t5) (a .t6) (a .d .0))) (filled-then _ _ _ _ _ _ _ _ (search needs) (filled-then _ _ _ _ _ _ _ _ (search needs) (c .before .before .before .before .before .before .before .before .before .before .before .put-named .ensures) (filled-same (ap (λ (b : Bool). endingText (endingFor b (getD (a .t5) (a .d .0 - 1) 0) (getD (a .t6) (a .d .0 - 1) 0))) (sym (c .before .before .before .before .before .before .before .has .ensures))) (c .before .before .before .before .before .before .put-ending .ensures))) (c .before .before .put .ensures))
+returns c = let a = c .before .before .before .before .before .before .before .before .before .before .before .before .before .before .before .before .before .args in filled-same (drive-line (a .d .0) (endingAt (a .crashed) (a .t5) (a .t6) (a .d .0))) (filled-then _ _ _ _ _ _ _ _ (search needs) (filled-then _ _ _ _ _ _ _ _ (search needs) (c .before .before .before .before .before .before .before .before .before .before .before .put-named .ensures) (filled-same (ap (λ (b : Bool). endingText (endingFor b (roundAt (a .t5) (a .d .0)) (numberAt (a .t6) (a .d .0)))) (sym (c .before .before .before .before .before .before .before .has .ensures))) (c .before .before .before .before .before .before .put-ending .ensures))) (c .before .before .put .ensures))
 
 pub put-drive-spec : {M : Type 1} → statement M
 put-drive-spec =
@@ -58,13 +58,13 @@ put-drive-spec =
     (tie.spec
     sub-place
     cast-place
+    array-copy-out-round
+    mul-number
+    array-copy-out-number
     slice-aggregate-put-named
     cast-put-named
     put-named-requires
     has-requires
-    array-read-put-ending
-    mul-put-ending
-    array-read-put-ending-2
     put-ending-requires
     put-requires
     same-length

@@ -2,6 +2,8 @@
 use borrow.Author.Needs.{needs}
 use Rattle.simulation.proofs.FirstDecisions.{Noting, note-start, note-turn, note-end}
 use Rattle.simulation.specs.Endings.{foundOf}
+use mathlib.Core.Path.{sym, _∙_}
+use lib.ListN.{length-map}
 use native.Mathlib.Omega.{arith}
 use Prim.Native.Nat.{_-_}
 use Rattle.simulation.proofs.noting.note_all.Statement.{statement}
@@ -14,7 +16,10 @@ abbrev μ-loop : tie.MeasureT-loop
 μ-loop n round states rounds₀ numbers₀ i₀ rounds numbers i = n - i
 
 loop-holds : tie.Need-loop-holds Inv-loop μ-loop
-loop-holds c = let a = c .before .before .args in note-start (a .found .rounds) (a .found .numbers) (a .t2) (a .round .0) (search needs) (search needs)
+loop-holds c =
+    let a = c .before .before .args in
+    let fields = c .before .before .good .0 .1 .1 in
+    note-start (a .found .rounds) (a .found .numbers) (a .t2) (a .round .0) (sym (length-map (a .found .rounds) _) ∙ fields .0 .1 .0 .1) (sym (length-map (a .found .numbers) _) ∙ fields .1 .0 .1 .0 .1)
 
 cast-at : tie.Need-cast-at Inv-loop μ-loop
 cast-at c = search needs
@@ -25,26 +30,26 @@ mul-x c = search needs
 array-copy-out-x : tie.Need-array-copy-out-x Inv-loop μ-loop
 array-copy-out-x c = search needs
 
-array-read-first-decision : tie.Need-array-read-first-decision Inv-loop μ-loop
-array-read-first-decision c = search needs
+array-copy-out-was : tie.Need-array-copy-out-was Inv-loop μ-loop
+array-copy-out-was c = search needs
 
-mul-first-decision : tie.Need-mul-first-decision Inv-loop μ-loop
-mul-first-decision c = search needs
+mul-had : tie.Need-mul-had Inv-loop μ-loop
+mul-had c = search needs
 
-array-read-first-decision-2 : tie.Need-array-read-first-decision-2 Inv-loop μ-loop
-array-read-first-decision-2 c = search needs
+array-copy-out-had : tie.Need-array-copy-out-had Inv-loop μ-loop
+array-copy-out-had c = search needs
 
 first-decision-requires : tie.Need-first-decision-requires Inv-loop μ-loop
 first-decision-requires c κs = search needs
 
-array-write-rounds : tie.Need-array-write-rounds Inv-loop μ-loop
-array-write-rounds c = search needs
+array-set-from-rounds : tie.Need-array-set-from-rounds Inv-loop μ-loop
+array-set-from-rounds c = search needs
 
 mul-numbers : tie.Need-mul-numbers Inv-loop μ-loop
 mul-numbers c = search needs
 
-array-write-numbers : tie.Need-array-write-numbers Inv-loop μ-loop
-array-write-numbers c = search needs
+array-set-from-numbers : tie.Need-array-set-from-numbers Inv-loop μ-loop
+array-set-from-numbers c = search needs
 
 add-i : tie.Need-add-i Inv-loop μ-loop
 add-i c = search needs
@@ -54,9 +59,9 @@ loop-less c = search needs
 
 loop-again : tie.Need-loop-again Inv-loop μ-loop
 loop-again c =
-    let a = c .before .before .before .before .before .before .args in
-    let l = c .before .before .before .loop in
-    note-turn (a .found .rounds) (a .found .numbers) (a .t2) (a .round .0) (l .rounds) (l .numbers) (l .i) _ _ (l .inv) (omega arith) (c .first-decision .ensures)
+    let a = c .before .before .before .before .before .before .before .before .before .before .args in
+    let l = c .before .before .before .before .before .before .before .loop in
+    note-turn (a .found .rounds) (a .found .numbers) (a .t2) (a .round .0) (l .rounds) (l .numbers) (l .i) _ _ (l .inv) (omega arith) (c .before .before .first-decision .ensures)
 
 returns : tie.Need-returns Inv-loop μ-loop
 unfolding foundOf
@@ -75,13 +80,13 @@ note-all-spec =
     cast-at
     mul-x
     array-copy-out-x
-    array-read-first-decision
-    mul-first-decision
-    array-read-first-decision-2
+    array-copy-out-was
+    mul-had
+    array-copy-out-had
     first-decision-requires
-    array-write-rounds
+    array-set-from-rounds
     mul-numbers
-    array-write-numbers
+    array-set-from-numbers
     add-i
     loop-less
     loop-again
