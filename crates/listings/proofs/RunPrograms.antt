@@ -14,7 +14,7 @@ use Rattle.tables.specs.declared.files.TableFile.{TableFile}
 use Rattle.tables.specs.declared.reading.Answer.{Answer}
 use Rattle.tables.specs.declared.reading.Answer.the-variants as answers
 use Rattle.run_files.specs.RunFiles.{RunFile, readRunFile}
-use Rattle.run_files.specs.Reading.{crashesIn, runFileOutcome}
+use Rattle.run_files.specs.Reading.{values, crashesIn, runFileOutcome}
 use Rattle.run_files.specs.declared.reading.RunFile as files
 use Rattle.simulation.specs.Simulation.{Simulated, simulated}
 use Rattle.simulation.specs.Endings.{endingsIn, foundOf, endingBy, simulatedOutcome}
@@ -53,14 +53,14 @@ module _ (file : TableFile) (s : List ℕ) (e : fileOutcome file s ≡ readCompl
 
 module _ (n : ℕ) (sets rest : List ℕ) (file : files.RunFile) (e : runFileOutcome n file ≡ readRunFile n sets rest) where
   abbrev said : RunFile
-  said = record { numbers = take n (file .numbers); crashes = crashesIn (file .crashes) }
+  said = record { numbers = take n (values (file .numbers)); crashes = crashesIn (file .crashes) }
 
   pub run-file-refused : (q : Refusal) → file .answer ≡ answers.Refused q → runText (simulatedWith n sets rest) ≡ refusalLine (number q)
   unfolding runFileOutcome simulatedWith
   run-file-refused q f =
       ap (λ (o : Outcome RunFile). runText (andThen o (λ r. simulated n sets (r .numbers) (r .crashes)))) (sym e ∙ ap (λ (a : Answer). outcomeOf a said) f)
 
-  pub run-file-accepted : file .answer ≡ answers.Accepted → runText (simulatedWith n sets rest) ≡ runText (simulated n sets (take n (file .numbers)) (crashesIn (file .crashes)))
+  pub run-file-accepted : file .answer ≡ answers.Accepted → runText (simulatedWith n sets rest) ≡ runText (simulated n sets (take n (values (file .numbers))) (crashesIn (file .crashes)))
   unfolding runFileOutcome simulatedWith
   run-file-accepted f =
       ap (λ (o : Outcome RunFile). runText (andThen o (λ r. simulated n sets (r .numbers) (r .crashes)))) (sym e ∙ ap (λ (a : Answer). outcomeOf a said) f)

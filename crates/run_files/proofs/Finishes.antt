@@ -5,6 +5,7 @@ use mathlib.Core.List.{List, []}
 use Prim.Native.Nat.{ℕ, _^_, _≤_, _<_}
 use native.Mathlib.Omega.{arith}
 use lib.ListN.{length, take, drop, length-drop}
+use Rattle.drive_sets.specs.declared.Pattern.{Pattern}
 use Rattle.drive_sets.specs.declared.Refusal.{Refusal}
 use Rattle.drive_sets.specs.declared.Refusal.the-variants.{TrailingBytes, NoneUntouched}
 use Rattle.drive_sets.specs.Bools.{cond-true, cond-false}
@@ -25,16 +26,16 @@ use Rattle.run_files.specs.declared.proposals.Proposals.{Proposals}
 use Rattle.run_files.specs.declared.reading.RunFile as files
 use Rattle.runs.specs.CrashRecords.{crashed}
 use Rattle.run_files.specs.RunFiles.{RunFile, ReadProposals, ReadCrashes, readProposals, readCrashes, untouchedLeft, readRest, readBehind, readRunFile}
-use Rattle.run_files.specs.Reading.{crashesIn, proposalsOutcome, crashesOutcome, runFileOutcome, finished}
+use Rattle.run_files.specs.Reading.{values, crashesIn, proposalsOutcome, crashesOutcome, runFileOutcome, finished}
 use Rattle.run_files.specs.Reading.Laws.{crashed-in}
 
 pub refused-outcome : (r : files.RunFile) (q : Refusal) → r .answer ≡ answers.Refused q → (n : ℕ) → runFileOutcome n r ≡ refused q
 unfolding runFileOutcome
-refused-outcome r q e n = ap (λ (a : Answer). outcomeOf a (record { numbers = take n (r .numbers); crashes = crashesIn (r .crashes) })) e
+refused-outcome r q e n = ap (λ (a : Answer). outcomeOf a (record { numbers = take n (values (r .numbers)); crashes = crashesIn (r .crashes) })) e
 
 -- ---- 11
 
-module _ (sets numbers : List ℕ) (c : Crashes) (word : c .crashed < 2 ^ 64) (t : Bool) (e : t ≡ hits sets (c .crashed)) (n : ℕ) where
+module _ (sets : List ℕ) (numbers : List Pattern) (c : Crashes) (word : c .crashed < 2 ^ 64) (t : Bool) (e : t ≡ hits sets (c .crashed)) (n : ℕ) where
   touched : hits sets (crashed (crashesIn c)) ≡ t
   touched = ap (hits sets) (crashed-in c word) ∙ sym e
 
@@ -42,36 +43,36 @@ module _ (sets numbers : List ℕ) (c : Crashes) (word : c .crashed < 2 ^ 64) (t
   unfolding finished untouchedLeft
   none-untouched h = sym (cond-true _ _ (touched ∙ h))
 
-  pub some-untouched : t ≡ false → result (record { numbers = take n numbers; crashes = crashesIn c }) ≡ finished n sets numbers c
+  pub some-untouched : t ≡ false → result (record { numbers = take n (values numbers); crashes = crashesIn c }) ≡ finished n sets numbers c
   unfolding finished untouchedLeft
   some-untouched h = sym (cond-false _ _ (touched ∙ h))
 
 -- ---- the records after the numbers
 
-module _ (n core : ℕ) (sets numbers s : List ℕ) (r : CrashesRead) (e : crashesOutcome r s ≡ readCrashes (length s) n core 0 [] s) where
+module _ (n core : ℕ) (sets : List ℕ) (numbers : List Pattern) (s : List ℕ) (r : CrashesRead) (e : crashesOutcome r s ≡ readCrashes (length s) n core 0 [] s) where
   given : ReadProposals
-  given = record { numbers = take n numbers; rest = s }
+  given = record { numbers = take n (values numbers); rest = s }
 
   ended : ReadCrashes → Outcome RunFile
-  ended c = refuseIf (not (isEmpty (c .rest))) TrailingBytes (untouchedLeft sets (record { numbers = take n numbers; crashes = c .crashes }))
+  ended c = refuseIf (not (isEmpty (c .rest))) TrailingBytes (untouchedLeft sets (record { numbers = take n (values numbers); crashes = c .crashes }))
 
   rest-answer : (a : Answer) → r .answer ≡ a
-      → andThen (outcomeOf a (record { crashes = crashesIn (r .crashes); rest = drop (r .used) s })) ended ≡ readRest n core sets (record { numbers = take n numbers; rest = s })
+      → andThen (outcomeOf a (record { crashes = crashesIn (r .crashes); rest = drop (r .used) s })) ended ≡ readRest n core sets (record { numbers = take n (values numbers); rest = s })
   unfolding readRest crashesOutcome ended
   rest-answer a f =
       ap (λ (x : Answer). andThen (outcomeOf x (record { crashes = crashesIn (r .crashes); rest = drop (r .used) s })) ended) (sym f)
       ∙ ap (λ (o : Outcome ReadCrashes). andThen o ended) e
 
-  pub rest-refused : (q : Refusal) → r .answer ≡ answers.Refused q → refused q ≡ readRest n core sets (record { numbers = take n numbers; rest = s })
+  pub rest-refused : (q : Refusal) → r .answer ≡ answers.Refused q → refused q ≡ readRest n core sets (record { numbers = take n (values numbers); rest = s })
   rest-refused q f = rest-answer (answers.Refused q) f
 
   module _ (f : r .answer ≡ answers.Accepted) where
-    pub rest-trailing : r .used < length s → refused TrailingBytes ≡ readRest n core sets (record { numbers = take n numbers; rest = s })
+    pub rest-trailing : r .used < length s → refused TrailingBytes ≡ readRest n core sets (record { numbers = take n (values numbers); rest = s })
     unfolding ended
     rest-trailing h =
         sym (cond-true _ _ (ap not (some-elements (drop (r .used) s) (λ z. omega (arith, length-drop (r .used) s))))) ∙ rest-answer answers.Accepted f
 
-    pub rest-finished : length s ≤ r .used → finished n sets numbers (r .crashes) ≡ readRest n core sets (record { numbers = take n numbers; rest = s })
+    pub rest-finished : length s ≤ r .used → finished n sets numbers (r .crashes) ≡ readRest n core sets (record { numbers = take n (values numbers); rest = s })
     unfolding finished ended
     rest-finished h =
         sym (cond-false _ _ (ap not (no-elements (drop (r .used) s) (omega (arith, length-drop (r .used) s))))) ∙ rest-answer answers.Accepted f
@@ -80,17 +81,17 @@ module _ (n core : ℕ) (sets numbers s : List ℕ) (r : CrashesRead) (e : crash
 
 module _ (n core : ℕ) (sets s : List ℕ) (p : Proposals) (f : proposalsOutcome n p s ≡ readProposals n [] s) where
   behind-answer : (a : Answer) → p .answer ≡ a
-      → andThen (outcomeOf a (record { numbers = take n (p .numbers); rest = drop (p .used) s })) (readRest n core sets) ≡ readBehind n core sets s
+      → andThen (outcomeOf a (record { numbers = take n (values (p .numbers)); rest = drop (p .used) s })) (readRest n core sets) ≡ readBehind n core sets s
   unfolding readBehind proposalsOutcome
   behind-answer a g =
-      ap (λ (x : Answer). andThen (outcomeOf x (record { numbers = take n (p .numbers); rest = drop (p .used) s })) (readRest n core sets)) (sym g)
+      ap (λ (x : Answer). andThen (outcomeOf x (record { numbers = take n (values (p .numbers)); rest = drop (p .used) s })) (readRest n core sets)) (sym g)
       ∙ ap (λ (o : Outcome ReadProposals). andThen o (readRest n core sets)) f
 
   pub behind-refused : (q : Refusal) → p .answer ≡ answers.Refused q → refused q ≡ readBehind n core sets s
   behind-refused q g = behind-answer (answers.Refused q) g
 
   pub behind-rest : p .answer ≡ answers.Accepted
-      → readRest n core sets (record { numbers = take n (p .numbers); rest = drop (p .used) s }) ≡ readBehind n core sets s
+      → readRest n core sets (record { numbers = take n (values (p .numbers)); rest = drop (p .used) s }) ≡ readBehind n core sets s
   behind-rest g = behind-answer answers.Accepted g
 
 -- ---- the whole call

@@ -1,13 +1,13 @@
 -- The PR records: one record, and the loop over them, in which what is left to read gives what the whole gives.
-use mathlib.Core.Path.{_≡_, refl, sym, ap, ap₂, _∙_}
+use mathlib.Core.Path.{_≡_, refl, sym, ap, ap₂, _∙_, subst}
 use mathlib.Core.Bool.{Bool, true, false, not, cond}
 use mathlib.Core.List.{List, [], _∷_, _++_}
-use Prim.Native.Nat.{ℕ, suc, _+_, _-_, _*_, _≤_, _<_}
+use Prim.Native.Nat.{ℕ, zero, suc, _+_, _-_, _≤_, _<_}
 use native.Mathlib.Omega.{arith}
 use native.Mathlib.Numerals.{add-one}
 use lib.Dec.{eqb}
-use lib.ListN.{length, getD, take, drop, set, length-set, length-drop}
-use lib.Seq.{drop-cons, take-suc-set, drop-drop, length-take-le}
+use lib.ListN.{length, getD, take, drop, set, length-map, length-set, length-take, length-drop}
+use lib.Seq.{getD-drop, take-suc-set, drop-drop, length-take-le}
 use borrow.Author.Tests.{eq-eqb, ne-eqb}
 use Rattle.drive_sets.specs.declared.Pattern.{Pattern}
 use Rattle.drive_sets.specs.declared.Refusal.{Refusal}
@@ -19,31 +19,30 @@ use Rattle.records.specs.declared.Kind.{Kind}
 use Rattle.records.specs.declared.Kind.the-variants as kinds
 use Rattle.records.specs.declared.Head.{Head}
 use Rattle.records.specs.declared.Head.the-variants as heads
-use Rattle.records.specs.Fields.{fromBytes, fieldAt}
+use Rattle.records.specs.Fields.{fieldAt}
+use Rattle.records.specs.Fields.Laws.{fromBytes-lt}
 use Rattle.records.specs.Marks.{bodyWidth, isDue, headOf}
 use Rattle.records.specs.Marks.Laws.{head-present, kind-is}
 use Rattle.tables.specs.declared.reading.Answer.{Answer}
 use Rattle.tables.specs.declared.reading.Answer.the-variants as answers
 use Rattle.tables.specs.Files.{atRecord}
 use Rattle.tables.specs.Reading.{outcomeOf}
+use Rattle.records.proofs.Loops.{bytes-take}
 use Rattle.records.proofs.Parts.{rest-is}
 use Rattle.run_files.specs.declared.proposals.Proposals.{Proposals}
 use Rattle.run_files.specs.declared.proposals.Proposal.{Proposal}
 use Rattle.run_files.specs.declared.proposals.Proposal.the-variants.{Number, Stop}
 use Rattle.run_files.specs.RunFiles.{ReadProposals, readProposals}
-use Rattle.run_files.specs.Reading.{proposalAt, proposalStep, proposalsOutcome}
+use Rattle.run_files.specs.Reading.{values, proposalAt, proposalStep, proposalsOutcome}
 use Rattle.run_files.proofs.CrashSteps.{first-byte}
 
 -- ---- one record
 
--- a field of two bytes, lowest first
-pub two-bytes : (s : List ℕ) (i : ℕ) → i + 1 < length s → getD s i 0 + 256 * getD s (i + 1) 0 ≡ fieldAt i 2 s
-unfolding fromBytes
-two-bytes s i h =
-    sym (ap (λ (l : List ℕ). fromBytes (take 2 l)) (drop-cons s i 0 (omega arith) ∙ ap (λ (l : List ℕ). getD s i 0 ∷ l) second) ∙ omega arith)
-  where
-    second : drop (suc i) s ≡ getD s (i + 1) 0 ∷ drop (suc (i + 1)) s
-    second = ap (λ (k : ℕ). drop k s) (sym (add-one i)) ∙ drop-cons s (i + 1) 0 h
+-- a field of two bytes is a pattern number
+pub pattern-lt : (s : List ℕ) → ((i : ℕ) → getD s i 0 < 256) → fieldAt 3 2 s < 65536
+pattern-lt s bytes =
+    fromBytes-lt 2 (take 2 (drop 3 s)) (omega (arith, length-take 2 (drop 3 s)))
+    (bytes-take 2 (drop 3 s) (λ i. subst (λ (b : ℕ). b < 256) (sym (getD-drop 3 s i 0)) (bytes (3 + i))))
 
 proposal-width : bodyWidth kinds.Proposal ≡ 3
 unfolding bodyWidth
@@ -88,7 +87,7 @@ from-part d s at x y e f = sym e ∙ (f ∙ ap (proposalStep d) (rest-is s at))
 -- a refusal's answer
 pub refused-outcome : (n : ℕ) (r : Proposals) (s : List ℕ) (q : Refusal) → r .answer ≡ answers.Refused q → proposalsOutcome n r s ≡ refused q
 unfolding proposalsOutcome
-refused-outcome n r s q e = ap (λ (a : Answer). outcomeOf a (record { numbers = take n (r .numbers); rest = drop (r .used) s })) e
+refused-outcome n r s q e = ap (λ (a : Answer). outcomeOf a (record { numbers = take n (values (r .numbers)); rest = drop (r .used) s })) e
 
 -- ---- reading goes on as the step says
 
@@ -124,55 +123,65 @@ number-long d s v e = go (headOf AtProposal s) refl e
 
 -- ---- the loop
 
+length-values : (l : List Pattern) → length (values l) ≡ length l
+length-values l = length-map l (λ (v : Pattern). v .0)
+
+values-set : (l : List Pattern) (i : ℕ) (v : Pattern) → values (set l i v) ≡ set (values l) i (v .0)
+values-set [] i v = refl
+values-set (x ∷ l) zero v = refl
+values-set (x ∷ l) (suc i) v = ap (λ (m : List ℕ). x .0 ∷ m) (values-set l i v)
+
 -- so many numbers are in the array, and reading on from `at` gives what the bytes give
-pub record Proposing (s : List ℕ) (n : ℕ) (numbers : List ℕ) (given at : ℕ) : Type 0 where
+pub record Proposing (s : List ℕ) (n : ℕ) (numbers : List Pattern) (given at : ℕ) : Type 0 where
   pub few : given ≤ n
   pub within : at ≤ length s
   pub room : length numbers ≡ 64
-  pub same : readProposals (n - given) (take given numbers) (drop at s) ≡ readProposals n [] s
+  pub same : readProposals (n - given) (take given (values numbers)) (drop at s) ≡ readProposals n [] s
 
-pub proposing-start : (s : List ℕ) (n : ℕ) (numbers : List ℕ) → length numbers ≡ 64 → Proposing s n numbers 0 0
+pub proposing-start : (s : List ℕ) (n : ℕ) (numbers : List Pattern) → length numbers ≡ 64 → Proposing s n numbers 0 0
 proposing-start s n numbers e =
     let all : n - 0 ≡ n = omega arith in
     record { few = omega arith; within = omega arith; room = e; same = ap (λ (k : ℕ). readProposals k [] s) all }
 
-module _ (s : List ℕ) (n : ℕ) (numbers : List ℕ) (given at : ℕ) (r : Proposing s n numbers given at) where
-  pub proposing-end : n ≤ given → result (record { numbers = take n numbers; rest = drop at s }) ≡ readProposals n [] s
+module _ (s : List ℕ) (n : ℕ) (numbers : List Pattern) (given at : ℕ) (r : Proposing s n numbers given at) where
+  pub proposing-end : n ≤ given → result (record { numbers = take n (values numbers); rest = drop at s }) ≡ readProposals n [] s
   unfolding readProposals
   proposing-end h =
       let all : given ≡ n = omega (arith, r .few) in
       let none : n - given ≡ 0 = omega arith in
-      ap (λ (k : ℕ). result (record { numbers = take k numbers; rest = drop at s })) (sym all)
-      ∙ (sym (ap (λ (k : ℕ). readProposals k (take given numbers) (drop at s)) none) ∙ r .same)
+      ap (λ (k : ℕ). result (record { numbers = take k (values numbers); rest = drop at s })) (sym all)
+      ∙ (sym (ap (λ (k : ℕ). readProposals k (take given (values numbers)) (drop at s)) none) ∙ r .same)
 
   module _ (h : given < n) (frame : n ≤ 64) where
-    listed : length (take given numbers) ≡ given
-    listed = length-take-le given numbers (omega (arith, r .room))
+    listed : length (take given (values numbers)) ≡ given
+    listed = length-take-le given (values numbers) (omega (arith, r .room, length-values numbers))
 
-    next : follow (n - (given + 1)) (take given numbers) (drop at s) (proposalStep (given + 1) (drop at s)) ≡ readProposals n [] s
+    next : follow (n - (given + 1)) (take given (values numbers)) (drop at s) (proposalStep (given + 1) (drop at s)) ≡ readProposals n [] s
     next =
-        ap (λ (k : ℕ). follow (n - (given + 1)) (take given numbers) (drop at s) (proposalStep k (drop at s))) (add-one given ∙ ap suc (sym listed))
-        ∙ (sym (ap (λ (k : ℕ). readProposals k (take given numbers) (drop at s)) left ∙ read-step (n - (given + 1)) (take given numbers) (drop at s)) ∙ r .same)
+        ap (λ (k : ℕ). follow (n - (given + 1)) (take given (values numbers)) (drop at s) (proposalStep k (drop at s))) (add-one given ∙ ap suc (sym listed))
+        ∙ (sym (ap (λ (k : ℕ). readProposals k (take given (values numbers)) (drop at s)) left ∙ read-step (n - (given + 1)) (take given (values numbers)) (drop at s)) ∙ r .same)
       where
         left : n - given ≡ suc (n - (given + 1))
         left = omega arith
 
     pub proposing-stop : (q : Refusal) → Stop q ≡ proposalStep (given + 1) (drop at s) → refused q ≡ readProposals n [] s
-    proposing-stop q e = ap (follow (n - (given + 1)) (take given numbers) (drop at s)) e ∙ next
+    proposing-stop q e = ap (follow (n - (given + 1)) (take given (values numbers)) (drop at s)) e ∙ next
 
     module _ (v : Pattern) (e : Number v ≡ proposalStep (given + 1) (drop at s)) where
       pub number-within : at + 5 ≤ length s
       number-within = omega (arith, number-long (given + 1) (drop at s) v (sym e), length-drop at s)
 
-      pub proposing-turn : Proposing s n (set numbers given (v .0)) (given + 1) (at + 5)
+      pub proposing-turn : Proposing s n (set numbers given v) (given + 1) (at + 5)
       proposing-turn = record {
         few = omega arith;
         within = number-within;
-        room = length-set numbers given (v .0) ∙ r .room;
+        room = length-set numbers given v ∙ r .room;
         same =
             ap₂ (λ (l b : List ℕ). readProposals (n - (given + 1)) l b) more (sym (drop-drop 5 at s))
-            ∙ (ap (follow (n - (given + 1)) (take given numbers) (drop at s)) e ∙ next);
+            ∙ (ap (follow (n - (given + 1)) (take given (values numbers)) (drop at s)) e ∙ next);
       }
         where
-          more : take (given + 1) (set numbers given (v .0)) ≡ take given numbers ++ (v .0 ∷ [])
-          more = ap (λ (k : ℕ). take k (set numbers given (v .0))) (add-one given) ∙ take-suc-set numbers given (v .0) (omega (arith, r .room))
+          more : take (given + 1) (values (set numbers given v)) ≡ take given (values numbers) ++ (v .0 ∷ [])
+          more =
+              ap (λ (k : ℕ). take k (values (set numbers given v))) (add-one given)
+              ∙ (ap (take (suc given)) (values-set numbers given v) ∙ take-suc-set (values numbers) given (v .0) (omega (arith, r .room, length-values numbers)))

@@ -5,6 +5,7 @@ use Prim.Native.Nat.{ℕ, _-_}
 use lib.Dec.{eqb}
 use lib.ListN.{getD, take, drop, set}
 use Rattle.drive_sets.specs.declared.Drive.{Drive}
+use Rattle.drive_sets.specs.declared.Pattern.{Pattern}
 use Rattle.drive_sets.specs.declared.Round.{Round}
 use Rattle.drive_sets.specs.declared.Refusal.the-variants.{DriveNumber, CountDiffers}
 use Rattle.drive_sets.specs.Masks.{single, union, drives}
@@ -30,6 +31,10 @@ pub mod Laws
 
 -- ---- what the answers say
 
+-- the numbers of an array of pattern numbers
+abbrev pub values : List Pattern → List ℕ
+values numbers = map (λ (v : Pattern). v .0) numbers
+
 -- a round for the places that an array does not have
 abbrev pub noRound : Round
 noRound = record { 0 = 0 }
@@ -46,14 +51,14 @@ unfoldable pub crashesIn : Crashes → List CrashRecord
 crashesIn c = map (crashIn c) (drives (c .crashed))
 
 unfoldable pub proposalsOutcome : ℕ → Proposals → List ℕ → Outcome ReadProposals
-proposalsOutcome n r s = outcomeOf (r .answer) (record { numbers = take n (r .numbers); rest = drop (r .used) s })
+proposalsOutcome n r s = outcomeOf (r .answer) (record { numbers = take n (values (r .numbers)); rest = drop (r .used) s })
 
 unfoldable pub crashesOutcome : CrashesRead → List ℕ → Outcome ReadCrashes
 crashesOutcome r s = outcomeOf (r .answer) (record { crashes = crashesIn (r .crashes); rest = drop (r .used) s })
 
 -- the answer of a reader of a run file for n drives
 unfoldable pub runFileOutcome : ℕ → answers.RunFile → Outcome RunFile
-runFileOutcome n r = outcomeOf (r .answer) (record { numbers = take n (r .numbers); crashes = crashesIn (r .crashes) })
+runFileOutcome n r = outcomeOf (r .answer) (record { numbers = take n (values (r .numbers)); crashes = crashesIn (r .crashes) })
 
 -- ---- a record at a time
 
@@ -96,5 +101,5 @@ noted c d round sends = record {
 }
 
 -- the numbers and the crashes together, where a survivor set is untouched
-unfoldable pub finished : ℕ → List ℕ → List ℕ → Crashes → Outcome RunFile
-finished n sets numbers c = untouchedLeft sets (record { numbers = take n numbers; crashes = crashesIn c })
+unfoldable pub finished : ℕ → List ℕ → List Pattern → Crashes → Outcome RunFile
+finished n sets numbers c = untouchedLeft sets (record { numbers = take n (values numbers); crashes = crashesIn c })

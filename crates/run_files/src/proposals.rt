@@ -16,7 +16,7 @@ use tables::reading::Answer;
 // The numbers read, drive 1 first, and how many bytes they took, where all are accepted.
 pub struct Proposals {
     pub answer: Answer,
-    pub numbers: [u16; 64],
+    pub numbers: [Pattern; 64],
     pub used: usize,
 }
 
@@ -31,25 +31,16 @@ fn refused(r: Refusal) -> Proposals
 {
     Proposals {
         answer: Answer::Refused(r),
-        numbers: [0u16; 64],
+        numbers: [Pattern(0); 64],
         used: 0,
     }
 }
 
-fn wide(x: u8) -> u16
-    ensures { λ r. ⌜ r ≡ x ⌝ }
-{
-    x as u16
-}
-
 // The pattern number of the PR at the start of the bytes.
 fn pattern_at(s: &[u8]) -> Pattern
-    requires { ⌜ 5 ≤ length (now s) ⌝ }
     ensures { λ r. ⌜ r .0 ≡ fieldAt 3 2 (now (s .entry)) ⌝ }
 {
-    let low = wide(s[3]);
-    let high = wide(s[4]);
-    Pattern(low + 256 * high)
+    Pattern(records::field(s, 3, 2) as u16)
 }
 
 // The record at the start of the bytes, where the PR of this drive is due.
@@ -74,7 +65,7 @@ pub fn read_proposals(s: &[u8], n: u8) -> Proposals
     requires { ⌜ n ≤ 64 ⌝ }
     ensures { λ r. ⌜ (proposalsOutcome n r (now (s .entry)) ≡ readProposals n [] (now (s .entry))) × (r .used ≤ length (now (s .entry))) ⌝ }
 {
-    let mut numbers = [0u16; 64];
+    let mut numbers = [Pattern(0); 64];
     let mut given = 0u8;
     let mut at = 0usize;
     while given < n {
@@ -82,7 +73,8 @@ pub fn read_proposals(s: &[u8], n: u8) -> Proposals
         match next {
             Proposal::Stop(r) => return refused(r),
             Proposal::Number(v) => {
-                numbers[given as usize] = v.0;
+                let place = given as usize;
+                numbers[place] = v;
                 given += 1;
                 at += 5;
             }

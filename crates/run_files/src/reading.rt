@@ -3,10 +3,11 @@ ghost use mathlib.Core.Path.{_≡_};
 ghost use Prim.Native.Nat.{ℕ, _≤_};
 ghost use lib.ListN.{take};
 ghost use Rattle.run_files.specs.RunFiles.{readRest, readBehind, readRunFile};
-ghost use Rattle.run_files.specs.Reading.{finished, runFileOutcome};
+ghost use Rattle.run_files.specs.Reading.{values, finished, runFileOutcome};
 use crate::crashes::Crashes;
 use crate::listing;
 use crate::proposals;
+use drive_sets::Pattern;
 use drive_sets::Refusal;
 use tables::calls::Chosen;
 use tables::reading::Answer;
@@ -14,7 +15,7 @@ use tables::reading::Answer;
 // What a run file says, where it is accepted: the pattern numbers, drive 1 first, and the crashes by drive.
 pub struct RunFile {
     pub answer: Answer,
-    pub numbers: [u16; 64],
+    pub numbers: [Pattern; 64],
     pub crashes: Crashes,
 }
 
@@ -23,13 +24,13 @@ fn refused_file(r: Refusal) -> RunFile
 {
     RunFile {
         answer: Answer::Refused(r),
-        numbers: [0u16; 64],
+        numbers: [Pattern(0); 64],
         crashes: listing::none(),
     }
 }
 
 // The numbers and the crashes together. 11: every survivor set has a drive with a CR.
-fn finish(sets: &[u64], numbers: [u16; 64], crashes: Crashes) -> RunFile
+fn finish(sets: &[u64], numbers: [Pattern; 64], crashes: Crashes) -> RunFile
     ensures { λ r. ⌜ ((n : ℕ) → runFileOutcome n r ≡ finished n (now (sets .entry)) numbers crashes) ⌝ }
 {
     if tables::calls::meets_all(sets, crashes.crashed) {
@@ -43,9 +44,9 @@ fn finish(sets: &[u64], numbers: [u16; 64], crashes: Crashes) -> RunFile
 }
 
 // The records after the numbers.
-fn read_rest(s: &[u8], n: u8, core: u64, sets: &[u64], numbers: [u16; 64]) -> RunFile
+fn read_rest(s: &[u8], n: u8, core: u64, sets: &[u64], numbers: [Pattern; 64]) -> RunFile
     requires { ⌜ n ≤ 64 ⌝ }
-    ensures { λ r. ⌜ runFileOutcome n r ≡ readRest n core (now (sets .entry)) (record { numbers = take n numbers; rest = now (s .entry) }) ⌝ }
+    ensures { λ r. ⌜ runFileOutcome n r ≡ readRest n core (now (sets .entry)) (record { numbers = take n (values numbers); rest = now (s .entry) }) ⌝ }
 {
     let listed = listing::read_crashes(s, n, core);
     let answer = listed.answer;

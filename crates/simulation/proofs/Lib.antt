@@ -1,5 +1,5 @@
 -- Laws of the code: the crashes by drive, the world of the array of states, a round's closes, messages and calls, the openings, the first
--- decisions, all rounds, the checks of the crashes, and the result.
+-- decisions, all rounds, the checks of the crashes, the bound on pattern numbers, and the result.
 pub mod CrashesByDrive
 pub mod Worlds
 pub mod Walks
@@ -12,4 +12,5 @@ pub mod Openings
 pub mod FirstDecisions
 pub mod AllRounds
 pub mod CrashChecks
+pub mod Patterns
 pub mod Results

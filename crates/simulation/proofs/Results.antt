@@ -4,7 +4,7 @@ use mathlib.Core.Bool.{Bool, true, false, _&&_, cond}
 use mathlib.Core.List.{List, [], _∷_, map}
 use Prim.Native.Nat.{ℕ, _-_, _^_, _≤_, _<_}
 use native.Mathlib.Omega.{arith}
-use lib.ListN.{length, getD, take}
+use lib.ListN.{length, getD, take, List·getD-map}
 use lib.Seq.{getD-take}
 use lib.Dec.{eqb}
 use borrow.Author.Tests.{eqb-true, eqb-false, eq-eqb, ne-eqb}
@@ -15,6 +15,7 @@ use Rattle.drive_sets.specs.Lists.Takes.{keep-keep}
 use Rattle.drive_sets.specs.Masks.{has, common, size, drives}
 use Rattle.drive_sets.specs.Masks.Laws.{has-common}
 use Rattle.drive_sets.specs.Masks.Sizes.{elem-drives, length-drives}
+use Rattle.drive_sets.specs.declared.Pattern.{Pattern}
 use Rattle.drive_sets.specs.declared.Refusal.{Refusal}
 use Rattle.drive_sets.specs.declared.Refusal.the-variants.{NoneUntouched}
 use Rattle.drive_sets.specs.Refusals.{Outcome, refused, result, refuseIf, andThen}
@@ -33,11 +34,11 @@ use Rattle.runs.specs.Canonical.{canonicalEnding, CanonicalGives}
 use Rattle.agreement.specs.Refinement.Endings.{canonical-gives}
 use Rattle.run_files.specs.declared.crashes.Crashes.{Crashes}
 use Rattle.run_files.specs.Reading as files
-use Rattle.run_files.specs.Reading.{roundAt}
+use Rattle.run_files.specs.Reading.{values, roundAt}
 use Rattle.run_files.specs.Reading.Laws.{crashed-in}
 use Rattle.simulation.specs.Simulation.{checkedCrashes, Simulated, simulatedOf, unlessTouched, simulated}
 use Rattle.simulation.specs.Simulation.Laws.{checked-valid}
-use Rattle.simulation.specs.States.{crashAt, Says, Told}
+use Rattle.simulation.specs.States.{crashAt, noPattern, numberAt, Says, Told}
 
 -- ---- lists
 
@@ -111,7 +112,7 @@ crash-listed c (x ∷ l) d =
     ∙ ap (λ (b : Bool). cond b (crashes (roundAt (c .rounds) d) (getD (c .sends) (d - 1) 0)) stays)
     (sym (any-false (eqb d) x l (ne-eqb d x (λ e. eqb-false x d t (sym e)))))))
 
-module _ (n : ℕ) (sets numbers : List ℕ) (c : Crashes) (core : ℕ) (word : c .crashed < 2 ^ 64) (e : chosenCore n sets ≡ result core) where
+module _ (n : ℕ) (sets : List ℕ) (numbers : List Pattern) (c : Crashes) (core : ℕ) (word : c .crashed < 2 ^ 64) (e : chosenCore n sets ≡ result core) where
   -- the table is accepted, and this is its chosen core
   given : Accepted n sets × (chosen (normal sets) ≡ core)
   given = core-given n sets e
@@ -119,20 +120,22 @@ module _ (n : ℕ) (sets numbers : List ℕ) (c : Crashes) (core : ℕ) (word : 
   pub chosen-bounds : (n ≤ 64) × (core < 2 ^ n)
   chosen-bounds = (given .0 .high, subst (λ (x : ℕ). x < 2 ^ n) (given .1) (chosen-core n sets (given .0) .within))
 
-  pub told : ((i : ℕ) → getD numbers i 0 < 65536)
+  pub told : ((i : ℕ) → getD numbers i noPattern .0 < 65536)
       → checkedCrashes n core 0 (files.crashesIn c) (result (files.crashesIn c)) ≡ result (files.crashesIn c)
-      → Told n core numbers c (scenario n sets (take n numbers) (files.crashesIn c))
+      → Told n core numbers c (scenario n sets (take n (values numbers)) (files.crashesIn c))
   unfolding scenario coreOf crashAt files.crashesIn
   told small checks = record {
     says = record { frame-is = refl; core-is = given .1; crash-is = crash-is };
-    valid = checked-valid n sets (take n numbers) (files.crashesIn c) (accepted-table n sets (given .0))
+    valid = checked-valid n sets (take n (values numbers)) (files.crashesIn c) (accepted-table n sets (given .0))
         (λ d h. subst (λ (v : ℕ). v < 65536) (sym (proposed d h)) (small (d - 1)))
         (ap (λ (k : ℕ). checkedCrashes n k 0 (files.crashesIn c) (result (files.crashesIn c))) (given .1) ∙ checks);
     proposal-is = proposed;
   }
     where
-      proposed : (d : ℕ) → isDrive n d ≡ true → getD (take n numbers) (d - 1) 0 ≡ getD numbers (d - 1) 0
-      proposed d h = let b = drive-bounds n d h in getD-take n numbers (d - 1) 0 (omega (arith, b .0, b .1))
+      proposed : (d : ℕ) → isDrive n d ≡ true → getD (take n (values numbers)) (d - 1) 0 ≡ numberAt numbers d
+      proposed d h =
+          let b = drive-bounds n d h in
+          getD-take n (values numbers) (d - 1) 0 (omega (arith, b .0, b .1)) ∙ List·getD-map (λ (v : Pattern). v .0) numbers (d - 1) noPattern
 
       crash-is : (d : ℕ) → crashIn (files.crashesIn c) d ≡ crashAt c d
       crash-is d =

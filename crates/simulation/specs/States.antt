@@ -85,7 +85,7 @@ pub record Says (n core : ℕ) (c : Crashes) (s : Scenario) : Type 0 where
   pub crash-is : (d : ℕ) → s .crash d ≡ crashAt c d
 
 -- and so is what the drives propose; the scenario is valid
-pub record Told (n core : ℕ) (numbers : List ℕ) (c : Crashes) (s : Scenario) : Type 0 where
+pub record Told (n core : ℕ) (numbers : List Pattern) (c : Crashes) (s : Scenario) : Type 0 where
   pub says : Says n core c s
   pub valid : Valid s
-  pub proposal-is : (d : ℕ) → isDrive n d ≡ true → s .proposal d ≡ getD numbers (d - 1) 0
+  pub proposal-is : (d : ℕ) → isDrive n d ≡ true → s .proposal d ≡ numberAt numbers d

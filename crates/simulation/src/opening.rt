@@ -1,26 +1,26 @@
 // The openings: each drive of the frame once, from one table.
 ghost use mathlib.Core.Path.{_≡_};
 ghost use mathlib.Core.Bool.{true};
-ghost use Prim.Native.Nat.{ℕ, _-_, _≤_};
-ghost use lib.ListN.{getD};
+ghost use Prim.Native.Nat.{ℕ, _≤_};
 ghost use Rattle.exchange.specs.State.{isDrive};
 ghost use Rattle.exchange.specs.Calls.{initial};
-ghost use Rattle.simulation.specs.States.{stateAt};
+ghost use Rattle.simulation.specs.States.{numberAt, stateAt};
 use drive_sets::Drive;
 use drive_sets::Pattern;
 use exchange::Exchange;
 
 // The states of the drives 1 to n at opening, where the table has this chosen core.
-pub fn open_all(n: u8, core: u64, numbers: [u16; 64]) -> [Exchange; 64]
+pub fn open_all(n: u8, core: u64, numbers: [Pattern; 64]) -> [Exchange; 64]
     requires { ⌜ n ≤ 64 ⌝ }
-    ensures { λ r. ⌜ ((d : ℕ) → isDrive n d ≡ true → stateAt r d ≡ initial n core d (getD numbers (d - 1) 0)) ⌝ }
+    ensures { λ r. ⌜ ((d : ℕ) → isDrive n d ≡ true → stateAt r d ≡ initial n core d (numberAt numbers d)) ⌝ }
 {
     let first = exchange::opening::initial(n, core, Drive(1), Pattern(0));
     let mut all = [first; 64];
     let mut i = 0u8;
     while i < n {
         let at = i as usize;
-        let x = exchange::opening::initial(n, core, Drive(i + 1), Pattern(numbers[at]));
+        let number = numbers[at];
+        let x = exchange::opening::initial(n, core, Drive(i + 1), number);
         all[at] = x;
         i += 1;
     }

@@ -11,11 +11,12 @@ use crate::noting;
 use crate::opening;
 use crate::rounds;
 use crate::simulating::Found;
+use drive_sets::Pattern;
 use drive_sets::Round;
 use run_files::crashes::Crashes;
 
 // The first decisions of the drives 1 to n, where the table has this chosen core.
-pub fn run(n: u8, core: u64, numbers: [u16; 64], crashes: Crashes) -> Found
+pub fn run(n: u8, core: u64, numbers: [Pattern; 64], crashes: Crashes) -> Found
     requires { ⌜ (n ≤ 64) × (core < 2 ^ n) ⌝ }
     ensures { λ r. ⌜ ((s : Scenario) → Told n core numbers crashes s → (d : ℕ) → isDrive n d ≡ true → foundOf r d ≡ canonicalEnding s d) ⌝ }
 {

@@ -6,7 +6,7 @@ ghost use Rattle.drive_sets.specs.Refusals.{refused, result};
 ghost use Rattle.tables.specs.Tables.{chosenCore};
 ghost use Rattle.runs.specs.Scenario.{Scenario};
 ghost use Rattle.runs.specs.CrashRecords.{crashed};
-ghost use Rattle.run_files.specs.Reading.{crashesIn};
+ghost use Rattle.run_files.specs.Reading.{values, crashesIn};
 ghost use Rattle.simulation.specs.Simulation.{checkedCrashes, simulatedOf, unlessTouched, simulated};
 ghost use Rattle.simulation.specs.States.{Told};
 ghost use Rattle.simulation.specs.Endings.{simulatedOutcome};
@@ -48,7 +48,7 @@ fn refused(r: Refusal) -> Simulated
 }
 
 // The simulated exchange of an accepted table with this core, where the crashes pass.
-fn result_on(n: u8, core: u64, numbers: [u16; 64], crashes: Crashes) -> Simulated
+fn result_on(n: u8, core: u64, numbers: [Pattern; 64], crashes: Crashes) -> Simulated
     requires { ⌜ (n ≤ 64) × (core < 2 ^ n) ⌝ }
     ensures { λ r. ⌜ ((s : Scenario) → Told n core numbers crashes s → simulatedOutcome n r ≡ result (simulatedOf s)) ⌝ }
 {
@@ -69,11 +69,11 @@ fn where_untouched(
     n: u8,
     core: u64,
     sets: &[u64],
-    numbers: [u16; 64],
+    numbers: [Pattern; 64],
     crashes: Crashes,
 ) -> Simulated
     requires { ⌜ (chosenCore n (now sets) ≡ result core) × (checkedCrashes n core 0 (crashesIn crashes) (result (crashesIn crashes)) ≡ result (crashesIn crashes)) ⌝ }
-    ensures { λ r. ⌜ simulatedOutcome n r ≡ unlessTouched n (now (sets .entry)) (take n numbers) (crashesIn crashes) ⌝ }
+    ensures { λ r. ⌜ simulatedOutcome n r ≡ unlessTouched n (now (sets .entry)) (take n (values numbers)) (crashesIn crashes) ⌝ }
 {
     if tables::calls::meets_all(sets, crashes.crashed) {
         return refused(Refusal::NoneUntouched);
@@ -82,9 +82,15 @@ fn where_untouched(
 }
 
 // The same, with 8, 9 and 10 of each crash.
-fn where_checked(n: u8, core: u64, sets: &[u64], numbers: [u16; 64], crashes: Crashes) -> Simulated
+fn where_checked(
+    n: u8,
+    core: u64,
+    sets: &[u64],
+    numbers: [Pattern; 64],
+    crashes: Crashes,
+) -> Simulated
     requires { ⌜ chosenCore n (now sets) ≡ result core ⌝ }
-    ensures { λ r. ⌜ simulatedOutcome n r ≡ checkedCrashes n core 0 (crashesIn crashes) (unlessTouched n (now (sets .entry)) (take n numbers) (crashesIn crashes)) ⌝ }
+    ensures { λ r. ⌜ simulatedOutcome n r ≡ checkedCrashes n core 0 (crashesIn crashes) (unlessTouched n (now (sets .entry)) (take n (values numbers)) (crashesIn crashes)) ⌝ }
 {
     let checked = checking::check_all(n, core, crashes);
     match checked {
@@ -95,8 +101,8 @@ fn where_checked(n: u8, core: u64, sets: &[u64], numbers: [u16; 64], crashes: Cr
 
 // The simulated exchange: from n and sets, the pattern numbers, drive 1 first, and the crashes. The table's refusals, then those of each
 // crash, then 11.
-pub fn simulate(n: u8, sets: &[u64], numbers: [u16; 64], crashes: Crashes) -> Simulated
-    ensures { λ r. ⌜ simulatedOutcome n r ≡ simulated n (now (sets .entry)) (take n numbers) (crashesIn crashes) ⌝ }
+pub fn simulate(n: u8, sets: &[u64], numbers: [Pattern; 64], crashes: Crashes) -> Simulated
+    ensures { λ r. ⌜ simulatedOutcome n r ≡ simulated n (now (sets .entry)) (take n (values numbers)) (crashesIn crashes) ⌝ }
 {
     let chosen = tables::calls::chosen_core(n, sets);
     match chosen {

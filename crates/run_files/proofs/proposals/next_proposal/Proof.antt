@@ -21,7 +21,7 @@ returns : tie.Need-returns
 returns c = let a = c .before .before .before .before .before .before .args in not-next (a .due .0) (a .s .now) _ (c .before .before .before .before .read-head .ensures) _ (c .before .before .enum-told .given .1) (c .if1 .taken)
 
 pattern-at-requires : tie.Need-pattern-at-requires
-pattern-at-requires c κs = let a = c .before .before .before .before .before .before .args in proposal-long (a .due .0) (a .s .now) _ (c .before .before .before .before .read-head .ensures) _ (c .before .before .enum-told .given .1)
+pattern-at-requires c κs = search needs
 
 returns-2 : tie.Need-returns-2
 returns-2 c = let a = c .before .before .before .before .before .args in proposal-refused (a .due .0) (a .s .now) _ (c .before .before .before .read-head .ensures) _ (c .before .head .given .1)

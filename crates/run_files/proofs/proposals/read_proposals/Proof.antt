@@ -26,8 +26,8 @@ part-next-proposal-start c = search needs
 part-next-proposal-end : tie.Need-part-next-proposal-end Inv-loop μ-loop
 part-next-proposal-end c = search needs
 
-add-t14 : tie.Need-add-t14 Inv-loop μ-loop
-add-t14 c = omega (arith, c .before .before .before .before .pre)
+add-t16 : tie.Need-add-t16 Inv-loop μ-loop
+add-t16 c = omega (arith, c .before .before .before .before .pre)
 
 next-proposal-requires : tie.Need-next-proposal-requires Inv-loop μ-loop
 next-proposal-requires c κs = search needs
@@ -44,14 +44,14 @@ returns c = let l = c .before .before .before .before .before .before .before .l
 enum-known-next-2 : tie.Need-enum-known-next-2 Inv-loop μ-loop
 enum-known-next-2 c = search needs
 
-cast-numbers : tie.Need-cast-numbers Inv-loop μ-loop
-cast-numbers c = search needs
+cast-place : tie.Need-cast-place Inv-loop μ-loop
+cast-place c = search needs
 
 mul-numbers : tie.Need-mul-numbers Inv-loop μ-loop
 mul-numbers c = omega (arith, c .before .before .before .before .before .before .before .before .pre)
 
-array-write-numbers : tie.Need-array-write-numbers Inv-loop μ-loop
-array-write-numbers c = omega (arith, c .before .before .before .before .before .before .before .before .pre)
+array-set-from-numbers : tie.Need-array-set-from-numbers Inv-loop μ-loop
+array-set-from-numbers c = omega (arith, c .before .before .before .before .before .before .before .before .pre)
 
 add-given : tie.Need-add-given Inv-loop μ-loop
 add-given c = omega (arith, c .before .before .before .before .before .before .before .before .pre)
@@ -79,15 +79,15 @@ read-proposals-spec =
     sub-next-proposal
     part-next-proposal-start
     part-next-proposal-end
-    add-t14
+    add-t16
     next-proposal-requires
     enum-known-next
     refused-requires
     returns
     enum-known-next-2
-    cast-numbers
+    cast-place
     mul-numbers
-    array-write-numbers
+    array-set-from-numbers
     add-given
     add-at
     loop-less

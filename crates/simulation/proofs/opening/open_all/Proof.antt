@@ -21,14 +21,14 @@ loop-holds c = let a = c .before .args in open-start (a .n) (a .core) (a .t3) _ 
 cast-at : tie.Need-cast-at Inv-loop μ-loop
 cast-at c = search needs
 
-add-t13 : tie.Need-add-t13 Inv-loop μ-loop
-add-t13 c = search needs
+mul-number : tie.Need-mul-number Inv-loop μ-loop
+mul-number c = search needs
 
-mul-t15 : tie.Need-mul-t15 Inv-loop μ-loop
-mul-t15 c = search needs
+array-copy-out-number : tie.Need-array-copy-out-number Inv-loop μ-loop
+array-copy-out-number c = search needs
 
-array-read-t18 : tie.Need-array-read-t18 Inv-loop μ-loop
-array-read-t18 c = search needs
+add-t18 : tie.Need-add-t18 Inv-loop μ-loop
+add-t18 c = search needs
 
 initial-requires-2 : tie.Need-initial-requires-2 Inv-loop μ-loop
 initial-requires-2 c κs = search needs
@@ -47,8 +47,8 @@ loop-less c = search needs
 
 loop-again : tie.Need-loop-again Inv-loop μ-loop
 loop-again c =
-    let a = c .before .before .before .before .args in
-    let l = c .before .before .loop in
+    let a = c .before .before .before .before .before .args in
+    let l = c .before .before .before .loop in
     open-turn (a .n) (a .core) (a .t3) (l .all) (l .i) _ (l .inv) (omega arith) (c .initial2 .ensures)
 
 returns : tie.Need-returns Inv-loop μ-loop
@@ -66,9 +66,9 @@ open-all-spec =
     initial-requires
     loop-holds
     cast-at
-    add-t13
-    mul-t15
-    array-read-t18
+    mul-number
+    array-copy-out-number
+    add-t18
     initial-requires-2
     mul-all
     array-set-from-all

@@ -1,6 +1,6 @@
 -- The table's refusal, or the call with the chosen core.
 use Rattle.simulation.proofs.Results.{with-core, table-refused}
-use Rattle.run_files.specs.Reading.{crashesIn}
+use Rattle.run_files.specs.Reading.{values, crashesIn}
 use Rattle.tables.specs.Answers.{chosenOutcome}
 use lib.ListN.{take}
 use Prim.Native.Nat.{_^_, _<_}
@@ -28,7 +28,7 @@ returns : tie.Need-returns
 returns c =
     let a = c .before .before .before .before .before .before .args in
     c .refused .ensures (a .n)
-    ∙ table-refused (a .n) (a .sets .now) (take (a .n) (a .numbers)) (crashesIn (a .crashes)) _ (sym (c .before .before .before .before .chosen-core .ensures) ∙ ap chosenOutcome (c .before .before .chosen .given .1))
+    ∙ table-refused (a .n) (a .sets .now) (take (a .n) (values (a .numbers))) (crashesIn (a .crashes)) _ (sym (c .before .before .before .before .chosen-core .ensures) ∙ ap chosenOutcome (c .before .before .chosen .given .1))
 
 returns-2 : tie.Need-returns-2
 returns-2 c =
@@ -36,7 +36,7 @@ returns-2 c =
     let word : a .crashes .crashed < 2 ^ 64 = search needs in
     c .where-checked .ensures
     ∙ with-core (a .n) (a .sets .now) (a .numbers) (a .crashes) _ word (sym (c .before .before .before .before .chosen-core .ensures) ∙ ap chosenOutcome (c .before .before .chosen2 .given .1))
-    (take (a .n) (a .numbers)) (crashesIn (a .crashes))
+    (take (a .n) (values (a .numbers))) (crashesIn (a .crashes))
 
 pub simulate-spec : {M : Type 1} → statement M
 simulate-spec =

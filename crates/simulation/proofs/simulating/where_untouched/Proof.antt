@@ -1,9 +1,7 @@
 -- 11, or the result.
 use Rattle.simulation.proofs.Results.{chosen-bounds, told, all-touched, some-untouched}
-use lib.ListN.{getD}
-use mir.Syntax.{w16}
-use mir.Val.{Fits}
-use Prim.Native.Nat.{ℕ, _^_, _<_}
+use Rattle.simulation.proofs.Patterns.{patterns-below}
+use Prim.Native.Nat.{_^_, _<_}
 use mathlib.Core.Path.{_∙_}
 use borrow.Author.Needs.{needs}
 use Rattle.simulation.proofs.simulating.where_untouched.Statement.{statement}
@@ -32,8 +30,7 @@ returns-2 c =
     let a = c .before .before .before .before .args in
     let pre = c .before .before .before .before .pre in
     let word : a .crashes .crashed < 2 ^ 64 = search needs in
-    let small : (i : ℕ) → Fits w16 (getD (a .numbers) i 0) = λ i. search needs in
-    c .result-on .ensures _ (told (a .n) (a .sets .now) (a .numbers) (a .crashes) (a .core) word (pre .0) (λ i. small i .fits) (pre .1))
+    c .result-on .ensures _ (told (a .n) (a .sets .now) (a .numbers) (a .crashes) (a .core) word (pre .0) (patterns-below (a .numbers) _ (c .before .before .before .before .good .1 .1 .1 .0 .1 .1)) (pre .1))
     ∙ some-untouched (a .n) (a .sets .now) (a .numbers) (a .crashes) (a .core) word (pre .0) _ (c .before .before .meets-all .ensures) _ (c .before .if1 .left)
 
 pub where-untouched-spec : {M : Type 1} → statement M
