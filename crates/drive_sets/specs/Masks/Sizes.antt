@@ -16,9 +16,9 @@ use Rattle.drive_sets.specs.Bools.{clash, by-test, same-test, and-intro,
 use Rattle.drive_sets.specs.Lists.{range, keep, any, elem, ordered, distinct}
 use Rattle.drive_sets.specs.Lists.Laws.{elem-head, elem-tail, all-intro, keep-true, keep-false, elem-keep, range-elem, ordered-keep, ordered-range, ordered-unique}
 use Rattle.drive_sets.specs.Lists.Distinct.{ordered-distinct}
-use Rattle.drive_sets.specs.Masks.{has, single, full, union, common, minus, meets, subset, size, lowest, drives, ofDrives}
+use Rattle.drive_sets.specs.Masks.{has, single, full, union, common, minus, subset, size, lowest, drives, ofDrives}
 use Rattle.drive_sets.specs.Masks.Bits.{bit, bit-lt, bit-zero, bit-suc, half-lt, and-odd, and-half, or-odd, or-half, minus-half, minus-odd}
-use Rattle.drive_sets.specs.Masks.Laws.{has-none, has-union, has-minus, has-single, has-bounds, has-ext, union-lt, minus-lt, single-lt, full-lt, full-is, has-subset, meets-none}
+use Rattle.drive_sets.specs.Masks.Laws.{has-none, has-union, has-minus, has-single, has-bounds, has-ext, union-lt, minus-lt, single-lt, full-lt, full-is, has-subset}
 
 -- ---- the count of ones
 
@@ -77,9 +77,6 @@ size-union a b = union-count 64 a b
 pub size-minus : (a b : ℕ) → size (minus a b) + size (common a b) ≡ size a
 unfolding size minus common
 size-minus a b = minus-count 64 a b
-
-pub size-disjoint : (a b : ℕ) → meets a b ≡ false → size (union a b) ≡ size a + size b
-size-disjoint a b e = omega (arith, size-union a b, ap size (meets-none a b e), size-none)
 
 pub size-single : (d : ℕ) → 1 ≤ d → d ≤ 64 → size (single d) ≡ 1
 unfolding single

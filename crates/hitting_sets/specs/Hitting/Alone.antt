@@ -1,16 +1,16 @@
 -- The drives of m that have a private set: which they are, and when they are all of m.
 use mathlib.Core.Path.{_≡_, sym, ap, ap₂, _∙_}
 use mathlib.Core.Bool.{Bool, true, false, _||_}
-use mathlib.Core.List.{List, [], _∷_, _++_}
+use mathlib.Core.List.{List, [], _∷_}
 use Prim.Native.Nat.{ℕ, _^_, _≤_, _<_}
 use lib.Pow.{pow-pos}
 use lib.Dec.{eqb}
 use borrow.Author.Tests.{eqb-true, eqb-false, eq-eqb, ne-eqb}
 use Rattle.drive_sets.specs.Bools.{by-test, false-of, cond-true, cond-false}
 use Rattle.drive_sets.specs.Lists.{any, elem}
-use Rattle.drive_sets.specs.Lists.Laws.{any-append, any-elem, any-intro}
+use Rattle.drive_sets.specs.Lists.Laws.{any-elem, any-intro}
 use Rattle.drive_sets.specs.Masks.{has, single, union, common, subset, size}
-use Rattle.drive_sets.specs.Masks.Laws.{has-none, has-union, has-bounds, has-ext, common-lt-right, union-lt, has-subset, subset-antisym, subset-not}
+use Rattle.drive_sets.specs.Masks.Laws.{has-none, has-union, has-bounds, common-lt-right, union-lt, has-subset, subset-antisym, subset-not}
 use Rattle.drive_sets.specs.Masks.Sizes.{size-single}
 use Rattle.drive_sets.specs.Masks.OneDrive.{has-lone, shared-has}
 use Rattle.hitting_sets.specs.Hitting.{alone}
@@ -57,14 +57,6 @@ alone-subset sets m h =
     let b = has-bounds 64 d (alone sets m) (alone-lt 64 sets m h) e in
     let w = alone-private d sets m h e in
     shared-has d (b .0) (b .1) (w .0) m (w .2) .1)
-
-pub alone-append : (l k : List ℕ) (m : ℕ) → m < 2 ^ 64 → alone (l ++ k) m ≡ union (alone l m) (alone k m)
-alone-append l k m h =
-    has-ext 64 (alone (l ++ k) m) (union (alone l m) (alone k m)) (alone-lt 64 (l ++ k) m h)
-    (union-lt 64 (alone l m) (alone k m) (alone-lt 64 l m h) (alone-lt 64 k m h))
-    (λ d low high. has-alone d low high (l ++ k) m h
-    ∙ (any-append (λ s. eqb (common s m) (single d)) l k
-    ∙ sym (has-union d (alone l m) (alone k m) ∙ ap₂ _||_ (has-alone d low high l m h) (has-alone d low high k m h))))
 
 -- ---- every drive of m has a private set, or one has none
 

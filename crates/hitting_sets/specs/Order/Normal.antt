@@ -11,14 +11,14 @@ use borrow.Author.Tests.{eqb-true, eqb-false, ne-eqb, leb-true, leb-false, le-le
 use Rattle.drive_sets.specs.Bools.{clash, by-test, false-of, true-of, same-test, and-intro, and-left, and-right, or-and-not, cond-true, cond-false}
 use Rattle.drive_sets.specs.Lists.{keep, any, elem, distinct, ordered}
 use Rattle.drive_sets.specs.Lists.Laws.{elem-some, some-elem, any-elem, any-intro, elem-keep, length-keep, ordered-unique}
-use Rattle.drive_sets.specs.Lists.Distinct.{distinct-none, distinct-cons, distinct-keep, ordered-distinct}
+use Rattle.drive_sets.specs.Lists.Distinct.{distinct-none, distinct-cons, distinct-keep}
 use Rattle.drive_sets.specs.Masks.{subset, size}
 use Rattle.drive_sets.specs.Masks.Laws.{subset-refl, subset-trans, meets-sym, meets-subset}
 use Rattle.drive_sets.specs.Masks.Sizes.{subset-size}
 use Rattle.hitting_sets.specs.Hitting.{hits}
 use Rattle.hitting_sets.specs.Hitting.Laws.{Below, hits-meets, meets-hits}
 use Rattle.hitting_sets.specs.Order.{byMask, dropRepeats, holdsAnother, normal, normalWithin}
-use Rattle.hitting_sets.specs.Order.Strict.{strict-irr, byMask-strict}
+use Rattle.hitting_sets.specs.Order.Strict.{byMask-strict}
 use Rattle.hitting_sets.specs.Order.Sort.{elem-sort, length-sort, ordered-sort}
 
 -- no set of the list is part of another
@@ -94,9 +94,6 @@ unfolding normal
 ordered-normal sets =
     ordered-sort byMask byMask-strict (keep (λ s. not (holdsAnother sets s)) (dropRepeats sets))
     (distinct-keep (λ s. not (holdsAnother sets s)) (dropRepeats sets) (distinct-dropRepeats sets))
-
-pub distinct-normal : (sets : List ℕ) → distinct (normal sets) ≡ true
-distinct-normal sets = ordered-distinct byMask (strict-irr byMask-strict) (normal sets) (ordered-normal sets)
 
 pub antichain-normal : (sets : List ℕ) → Antichain (normal sets)
 antichain-normal sets s t p q e =

@@ -3,13 +3,12 @@ use mathlib.Core.Path.{_≡_, refl, sym, ap, _∙_}
 use mathlib.Core.Bool.{Bool, true, false, _&&_}
 use mathlib.Core.List.{List, [], _∷_}
 use Prim.Native.Nat.{ℕ, _^_, _<_}
-use Rattle.drive_sets.specs.Bools.{and-left, and-right, false-of}
+use Rattle.drive_sets.specs.Bools.{and-left, and-right}
 use Rattle.drive_sets.specs.Lists.{all, elem}
 use Rattle.drive_sets.specs.Lists.Laws.{all-elem}
-use Rattle.drive_sets.specs.Masks.{has, full, common}
-use Rattle.drive_sets.specs.Masks.Laws.{has-common, has-bounds, none-has, common-lt, full-lt}
-use Rattle.verdicts.specs.Verdicts.{setsAt}
-use Rattle.verdicts.specs.Meaning.{SharedDrive, inEvery, NoneShared}
+use Rattle.drive_sets.specs.Masks.{has, common}
+use Rattle.drive_sets.specs.Masks.Laws.{has-common, common-lt}
+use Rattle.verdicts.specs.Meaning.{inEvery}
 
 pub every-lt : (b m : ℕ) (sets : List ℕ) → m < 2 ^ b → inEvery m sets < 2 ^ b
 unfolding inEvery
@@ -35,12 +34,3 @@ pub in-every : (d m : ℕ) (sets : List ℕ) → has d (inEvery m sets) ≡ true
 in-every d m sets h =
     let both = sym (has-every d m sets) ∙ h in
     (and-left (has d m) (all (has d) sets) both, λ s i. all-elem (has d) sets s (and-right (has d m) (all (has d) sets) both) i)
-
--- named sets that share no drive have nothing of the frame in common
-pub none-shared-empty : (k n : ℕ) (table ps : List ℕ) → NoneShared k n table ps → inEvery (full n) (setsAt table ps) ≡ 0
-none-shared-empty k n table ps w =
-    none-has n (inEvery (full n) (setsAt table ps)) (every-lt n (full n) (setsAt table ps) (full-lt n)) (λ d.
-    false-of (has d (inEvery (full n) (setsAt table ps))) (λ h. w .share-none (shared d (in-every d (full n) (setsAt table ps) h))))
-  where
-    shared : (d : ℕ) → (has d (full n) ≡ true) × ((s : ℕ) → elem s (setsAt table ps) ≡ true → has d s ≡ true) → SharedDrive n (setsAt table ps)
-    shared d both = let b = has-bounds n d (full n) (full-lt n) (both .0) in record { drive = d; low = b .0; high = b .1; in-each = both .1 }

@@ -87,10 +87,6 @@ module _ (n : ℕ) (frame : n ≤ 64) where
     none-intersection : disjoint k 1 table (full n) ≡ none → Intersection k n table
     none-intersection e sets count from = shared-drive sets (disjoint-none k table 1 (full n) (full-word n) e sets count from)
 
-    -- where nothing is found, the sets at any k positions, in any order, repeats allowed, share a drive
-    pub none-positions : disjoint k 1 table (full n) ≡ none → (ps : List ℕ) → Positions k table ps → SharedDrive n (setsAt table ps)
-    none-positions e ps at = none-intersection e (setsAt table ps) (length-map ps (setAt table) ∙ at .count) (sets-from ps at)
-
 -- ---- k-Intersection
 
 module _ (k n : ℕ) (table : List ℕ) (accepted : Accepted n table) where
