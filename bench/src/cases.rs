@@ -141,9 +141,7 @@ fn write(input: Input) -> Case {
 
 fn read(input: Input) -> Case {
     let Input { name, n, sets } = input;
-    let mut file = vec![0; 2048];
-    let size = library::write_table(n, &sets, &mut file, 0);
-    file.truncate(size as usize);
+    let file = inputs::table_bytes(n, &sets);
     let same = file.clone();
     Case::new(
         format!("read a table, {name}"),
@@ -210,16 +208,13 @@ pub const PAIRS: [(&str, u32); 3] =
 /// In the last pairs one KN tells all numbers. Core drive 1 has heard only its sender, so it is undecided and sends all 64. Listener 64 hears
 /// nobody in the later rounds, so it goes on to the last, 16: with a larger core the opening takes too much longer than the closes.
 pub fn all() -> Vec<Case> {
-    vec![
+    let mut cases = vec![
         cores(inputs::all_but_one(45)),
         cores(inputs::all_but_two(16)),
         cores(inputs::one_of_each_pair(false)),
-        cores(inputs::cores_1015()),
-        cores(inputs::pairs_and_three()),
-        cores(inputs::late_doom()),
-        cores(inputs::joined_clusters("joined clusters, 31 of 2", 2)),
-        cores(inputs::joined_clusters("joined clusters, 20 of 3", 3)),
-        cores(inputs::level_doom()),
+    ];
+    cases.extend(inputs::hard_tables().into_iter().map(cores));
+    cases.extend([
         verdict("128 sets that share a drive", inputs::one_of_each_pair(true)),
         verdict("120 sets, 14 of 16", inputs::all_but_two(16)),
         verdict("128 sets, 7 pairs", inputs::one_of_each_pair(false)),
@@ -233,5 +228,6 @@ pub fn all() -> Vec<Case> {
         send("the same, then 1000 sends of 64 numbers", inputs::single_drives(64, 1, 1), SENDS),
         close("opening, core of 16, message", inputs::single_drives(16, 64, 1), 0),
         close("the same, then 16 closes", inputs::single_drives(16, 64, 1), CLOSES),
-    ]
+    ]);
+    cases
 }

@@ -1,10 +1,10 @@
 //! The tables and messages that are timed.
 
-use crate::listed::{CORES_1015, LEVEL_DOOM};
+use std::path::Path;
 
 /// A name, n and the sets.
 pub struct Input {
-    pub name: &'static str,
+    pub name: String,
     pub n: u8,
     pub sets: Vec<u64>,
 }
@@ -16,14 +16,14 @@ fn full(n: u8) -> u64 {
 /// Every drive but one: at most one drops out.
 pub fn all_but_one(n: u8) -> Input {
     let sets = (0..n).map(|place| full(n) & !(1 << place)).collect();
-    Input { name: "44 of 45", n, sets }
+    Input { name: "44 of 45".to_string(), n, sets }
 }
 
 /// Every drive but two.
 pub fn all_but_two(n: u8) -> Input {
     let pairs = (0..n).flat_map(|low| (low + 1..n).map(move |high| (low, high)));
     let sets = pairs.map(|(low, high)| full(n) & !(1 << low | 1 << high)).collect();
-    Input { name: "14 of 16", n, sets }
+    Input { name: "14 of 16".to_string(), n, sets }
 }
 
 /// One drive of each of seven pairs, in every way: 128 sets, whose cores are the pairs. With a drive that all sets share, if asked for.
@@ -31,39 +31,29 @@ pub fn one_of_each_pair(shared: bool) -> Input {
     let extra = if shared { 1 << 14 } else { 0 };
     let choice = |taken: u64| (0..7).map(|pair| 1 << (2 * pair + (taken >> pair & 1))).sum::<u64>();
     let sets = (0..128).map(|taken| choice(taken) | extra).collect();
-    Input { name: "7 pairs, one of each", n: if shared { 15 } else { 14 }, sets }
+    Input { name: "7 pairs, one of each".to_string(), n: if shared { 15 } else { 14 }, sets }
 }
 
-/// 32 pairs, and the second of each of the first three.
-pub fn pairs_and_three() -> Input {
-    let mut sets: Vec<u64> = (0..32).map(|pair| 3 << (2 * pair)).collect();
-    sets.push(0b101010);
-    Input { name: "32 pairs and {2, 4, 6}", n: 64, sets }
+/// The tables in `bench/tables`, by name: each is hard for one search or another.
+pub fn hard_tables() -> Vec<Input> {
+    let mut tables: Vec<Input> = std::fs::read_dir("bench/tables")
+        .expect("run from the top of the repository")
+        .map(|entry| read(&entry.expect("an entry").path()))
+        .collect();
+    tables.sort_by(|left, right| left.name.cmp(&right.name));
+    tables
 }
 
-/// Each of two masters with each cluster.
-pub fn joined_clusters(name: &'static str, size: u32) -> Input {
-    let clusters = (0..62 / size).map(|place| ((1u64 << size) - 1) << (1 + place * size));
-    let sets = clusters.flat_map(|cluster| [cluster | 1, cluster | 1 << 63]).collect();
-    Input { name, n: 64, sets }
+/// A table with these sets as a file.
+pub fn table_bytes(n: u8, sets: &[u64]) -> Vec<u8> {
+    let records = sets.iter().flat_map(|set| [b"SV".as_slice(), &set.to_le_bytes()].concat());
+    [b'F', b'R', n].into_iter().chain(records).chain([b'E', b'N', sets.len() as u8]).collect()
 }
 
-/// Thirty pairs with one drive that is also with another, late.
-pub fn late_doom() -> Input {
-    let mut sets: Vec<u64> = (0..30).map(|pair| 3 << (2 * pair) | 1 << 63).collect();
-    sets.extend([3 << 61, 3 << 62]);
-    Input { name: "late doom", n: 64, sets }
-}
-
-pub fn level_doom() -> Input {
-    let pairs = (0..28).map(|pair| 3 << (1 + 2 * pair) | 1 << 63);
-    let last = [0xe00000000000001, 0x8e00000000000000];
-    let sets = LEVEL_DOOM.iter().copied().chain(pairs).chain(last).collect();
-    Input { name: "level doom", n: 64, sets }
-}
-
-pub fn cores_1015() -> Input {
-    Input { name: "39 sets", n: 64, sets: CORES_1015.to_vec() }
+fn read(path: &Path) -> Input {
+    let bytes = std::fs::read(path).expect("a table");
+    let sets = bytes[3..bytes.len() - 3].chunks_exact(10).map(|record| u64::from_le_bytes(record[2..].try_into().unwrap()));
+    Input { name: path.file_stem().unwrap().to_string_lossy().into_owned(), n: bytes[2], sets: sets.collect() }
 }
 
 /// What each drive opens with in the calls of one exchange.
@@ -80,6 +70,11 @@ pub struct Start {
     pub size: usize,
 }
 
+/// Each of the first drives alone.
+fn single_sets(count: u8) -> Vec<u64> {
+    (0..count).map(|place| 1 << place).collect()
+}
+
 /// Drive `own` of 64, of which the first `core` are each a set alone and so the chosen core, and `count` KNs of the other core drives in round 1,
 /// each with all numbers of the core.
 pub fn single_drives(core: u8, own: u8, count: usize) -> Start {
@@ -88,7 +83,7 @@ pub fn single_drives(core: u8, own: u8, count: usize) -> Start {
     let senders = (1..=core).filter(|&sender| sender != own);
     Start {
         n: 64,
-        sets: (0..core).map(|place| 1 << place).collect(),
+        sets: single_sets(core),
         own,
         messages: senders.take(count).flat_map(message).collect(),
         count,
@@ -98,12 +93,7 @@ pub fn single_drives(core: u8, own: u8, count: usize) -> Start {
 
 /// A table of 64 single drives and a run file in which each drive but the last stops in the round of its number, if asked for, after one send.
 pub fn whole_exchange(stops: bool) -> Vec<u8> {
-    let mut file = vec![b'F', b'R', 64];
-    for place in 0..64 {
-        file.extend([b'S', b'V']);
-        file.extend((1u64 << place).to_le_bytes());
-    }
-    file.extend([b'E', b'N', 64]);
+    let mut file = table_bytes(64, &single_sets(64));
     for drive in 1..=64u8 {
         file.extend([b'P', b'R', drive]);
         file.extend((OWN_NUMBER - u16::from(drive)).to_le_bytes());

@@ -2,8 +2,17 @@
 
 use crate::inputs::{Start, OWN_NUMBER};
 
+/// How far the search for cores had to go: a later turn is more, and less fuel left in it.
+#[repr(C)]
+#[derive(Clone, Copy)]
+pub struct Effort {
+    pub turn: u64,
+    pub left: u64,
+}
+
 mod c {
     extern "C" {
+        pub fn regdulyn_search_effort(sets: *const u64, count: usize) -> super::Effort;
         pub fn regdulyn_cores(n: u8, sets: *const u64, count: usize, out: *mut u64, room: usize) -> u64;
         pub fn regdulyn_read_table(bytes: *const u8, length: usize, out: *mut u64, room: usize) -> u64;
         pub fn regdulyn_write_table(
@@ -65,6 +74,10 @@ mod c {
 
 pub fn cores(n: u8, sets: &[u64], out: &mut [u64]) -> u64 {
     unsafe { c::regdulyn_cores(n, sets.as_ptr(), sets.len(), out.as_mut_ptr(), out.len()) }
+}
+
+pub fn search_effort(sets: &[u64]) -> Effort {
+    unsafe { c::regdulyn_search_effort(sets.as_ptr(), sets.len()) }
 }
 
 pub fn read_table(bytes: &[u8], out: &mut [u64]) -> u64 {

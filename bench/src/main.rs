@@ -1,12 +1,12 @@
 //! Times the proved library beside the baseline: the same calls on the same inputs in one process. Each call's results are compared first; then
 //! short batches of both alternate, in many passes over all calls, and the least time of a call counts. The arguments, if any, are the number
-//! of passes and a part of the names of the calls to time.
+//! of passes and a part of the names of the calls to time. With `climb` as the first it looks for hard tables instead.
 
 mod baseline;
 mod cases;
+mod climb;
 mod inputs;
 mod library;
-mod listed;
 
 use cases::{Case, Times, PAIRS};
 
@@ -18,7 +18,10 @@ fn print(name: &str, result: &str, times: Times) {
 }
 
 fn main() {
-    let mut arguments = std::env::args().skip(1);
+    let mut arguments = std::env::args().skip(1).peekable();
+    if arguments.next_if(|first| first == "climb").is_some() {
+        return climb::main(arguments);
+    }
     let passes = arguments.next().and_then(|passes| passes.parse().ok()).unwrap_or(PASSES);
     let part = arguments.next().unwrap_or_default();
     let mut cases = cases::all();

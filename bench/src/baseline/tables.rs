@@ -22,7 +22,7 @@ fn is_set(n: u8, set: u64) -> bool {
 }
 
 /// Without repeats and without each set that holds another, by mask.
-fn normal(sets: &[u64]) -> Vec<u64> {
+pub fn normal(sets: &[u64]) -> Vec<u64> {
     let mut by_size = sets.to_vec();
     by_size.sort_unstable_by_key(|set| (set.count_ones(), *set));
     let mut kept: Vec<u64> = Vec::with_capacity(sets.len());

@@ -1,6 +1,7 @@
 // Sets of drives as 64-bit masks, the three counts that are never mixed up, and the refusals of every call.
 // Each function is total and gives what its definition in specs/ gives.
 ghost use mathlib.Core.Path.{_≡_};
+ghost use lib.Dec.{eqb};
 ghost use Rattle.drive_sets.specs.Masks.{has, single, full, union, minus, outside, meets, subset, size, lowest};
 ghost use Rattle.drive_sets.specs.Refusals.{number};
 
@@ -172,4 +173,24 @@ pub fn lowest(m: u64) -> Drive
 {
     let z = u64::trailing_zeros(m);
     Drive((z + 1) as u8)
+}
+
+// m without its lowest drive, by one `and`; an empty set stays empty.
+pub fn without_lowest(m: u64) -> u64
+    ensures { λ r. ⌜ r ≡ minus m (single (lowest m)) ⌝ }
+{
+    if m == 0 {
+        return 0;
+    }
+    m & (m - 1)
+}
+
+// m has one drive.
+pub fn is_single(m: u64) -> bool
+    ensures { λ r. ⌜ r ≡ eqb (size m) 1 ⌝ }
+{
+    if m == 0 {
+        return false;
+    }
+    without_lowest(m) == 0
 }

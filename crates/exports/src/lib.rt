@@ -13,6 +13,7 @@ ghost use Rattle.exports.specs.Codes.{codeOf, countOf, fitting, listAfte
 ghost use Rattle.exports.specs.Deliveries.{delivered, closed, sent, sentBytes};
 use drive_sets::Drive;
 use drive_sets::Pattern;
+use hitting_sets::sorting::Order;
 use tables::reading::Answer;
 use tables::writing::Writing;
 
@@ -32,6 +33,24 @@ pub extern "C" fn regdulyn_cores(n: u8, sets: &[u64], out: &mut [u64]) -> u64
     match answer {
         Answer::Refused(r) => answers::refusal_code(r),
         Answer::Accepted => answers::put_list(&cores, found, out),
+    }
+}
+
+// How far the search for cores has to go: the turn in which it ends and the fuel that is then left, for tests of its worst case. Both are left
+// free: they decide no result.
+#[repr(C)]
+pub struct Effort {
+    pub turn: u64,
+    pub left: u64,
+}
+
+#[no_mangle]
+pub extern "C" fn regdulyn_search_effort(sets: &[u64]) -> Effort {
+    let mut cores = [0u64; 1024];
+    let r = hitting_sets::finding::find_measured(Order::BySize, sets, &mut cores);
+    Effort {
+        turn: r.turn as u64,
+        left: r.left as u64,
     }
 }
 

@@ -1,4 +1,4 @@
--- Only sets that m misses cover: where m meets the sets seen, those ahead decide, and where it meets them all, none does.
+-- Only sets that m misses cover: where m meets the sets seen, those ahead decide.
 use mathlib.Core.Path.{_≡_, sym, ap, _∙_, subst}
 use mathlib.Core.Bool.{Bool, true, false, not, _&&_, _||_}
 use mathlib.Core.Logic.{⊎-elim}
@@ -8,19 +8,15 @@ use native.Mathlib.Nat.{le-of-eq}
 use lib.Dec.{eqb}
 use lib.ListN.{length, take, drop, length-drop, take-append-drop}
 use lib.Seq.{take-all}
-use borrow.Author.Tests.{eq-eqb, not-true}
+use borrow.Author.Tests.{not-true}
 use Rattle.drive_sets.specs.Bools.{clash, by-test, false-of, same-test, and-intro, and-left, and-right, or-left, or-right, or-cases}
 use Rattle.drive_sets.specs.Lists.{keep}
-use Rattle.drive_sets.specs.Lists.Laws.{any-append, any-elem, elem-keep, keep-same}
+use Rattle.drive_sets.specs.Lists.Laws.{any-append, any-elem, keep-same}
 use Rattle.drive_sets.specs.Masks.{has, union, minus, meets, subset, drives}
 use Rattle.drive_sets.specs.Masks.Laws.{has-union, has-minus, has-subset, subset-has, meets-has, meets-not, minus-lt}
-use Rattle.hitting_sets.specs.Hitting.{hits, Minimal, alone}
+use Rattle.hitting_sets.specs.Hitting.{hits, alone}
 use Rattle.hitting_sets.specs.Hitting.Laws.{hits-meets}
-use Rattle.hitting_sets.specs.Hitting.Alone.{alone-all, all-alone}
-use Rattle.hitting_sets.specs.Hitting.Minimality.{alone-minimal, minimal-alone}
-use Rattle.hitting_sets.specs.LookAhead.{barred, covered, doomed, goesOn}
-use Rattle.hitting_sets.specs.Missed.{FirstMissed}
-use Rattle.hitting_sets.proofs.Places.{passed-minimal}
+use Rattle.hitting_sets.specs.LookAhead.{barred, covered, doomed}
 
 -- a set that covers p lies within the bar and p, outside m
 module _ (s m bar p : ℕ) (word : s < 2 ^ 64) where
@@ -90,28 +86,3 @@ module _ (sets : List ℕ) (seen m : ℕ) (h : hits (take seen sets) m ≡ true)
           keep-same (λ s. not (covered (take (length sets - seen) (drop seen sets)) m bar s)) (λ s. not (covered sets m (barred sets m (drives m)) s)) sets
           (λ s e. ap not (ap (λ (l : List ℕ). covered l m bar s) (take-all (length sets - seen) (drop seen sets) (le-of-eq (length-drop seen sets)))
           ∙ (covered-ahead bar s ∙ ap (λ (x : ℕ). covered sets m x s) p)))
-
--- ---- no set is missed
-
-not-doomed : (sets : List ℕ) (m : ℕ) → m < 2 ^ 64 → Minimal sets m → doomed sets m ≡ false
-unfolding doomed
-not-doomed sets m word min =
-    let bar = barred sets m (drives m) in
-    let stays : ℕ → Bool = λ s. not (covered sets m bar s) in
-    ap not (eq-eqb _ m
-    (all-alone (keep stays sets) m word (λ d i.
-    let own = alone-all sets m word (minimal-alone sets m word min) d i in
-    (own .0, elem-keep stays (own .0) sets ∙ and-intro (own .1) (ap not (none-covers sets m bar (own .0) (min .all-met))), own .2))))
-
-module _ (sets : List ℕ) (seen m next : ℕ) (word : m < 2 ^ 64) (h : hits (take seen sets) m ≡ true) (own : alone (take seen sets) m ≡ m) (f : FirstMissed sets seen m next) where
-  minimal-before : Minimal (take next sets) m
-  minimal-before = passed-minimal sets m seen next f (alone-minimal (take seen sets) m word h own)
-
-  -- the sets before the first that is missed are met
-  pub met-before : hits (take next sets) m ≡ true
-  met-before = minimal-before .all-met
-
-  pub misses-none : next ≡ length sets → true ≡ goesOn sets seen m
-  misses-none e =
-      let whole = subst (λ (l : List ℕ). Minimal l m) (take-all next sets (le-of-eq (sym e))) minimal-before in
-      sym (and-intro (eq-eqb (alone (take seen sets) m) m own) (ap not (not-doomed sets m word whole)))

@@ -10,15 +10,15 @@ use lib.ListN.{length, getD, take, drop, drop-of-length-le}
 use lib.Seq.{take-suc, drop-cons}
 use borrow.Author.Tests.{eqb-true, eqb-false}
 use Rattle.drive_sets.specs.Bools.{by-test}
-use Rattle.drive_sets.specs.Masks.{meets, drives}
+use Rattle.drive_sets.specs.Masks.{meets}
 use Rattle.hitting_sets.specs.Hitting.{Minimal, forEach, search}
 use Rattle.hitting_sets.specs.Hitting.Laws.{hits-one, minimal-more}
-use Rattle.hitting_sets.specs.Hitting.Found.{tried, search-met, search-missed}
+use Rattle.hitting_sets.specs.Hitting.Found.{search-met}
 use Rattle.hitting_sets.specs.Missed.{FirstMissed}
 
--- what is listed from m with each of the drives ds of the set at i
+-- what is listed from m, one place behind i, with each of the drives ds
 abbrev pub Each : List ℕ → ℕ → ℕ → List ℕ → List ℕ
-Each sets i m ds = forEach (tried (take (i + 1) sets) (drop (i + 1) sets)) m ds
+Each sets i m ds = forEach (search (take (i + 1) sets) (drop (i + 1) sets)) m ds
 
 module _ (sets : List ℕ) (m : ℕ) where
   -- what the search lists from the place i on
@@ -41,13 +41,6 @@ module _ (sets : List ℕ) (m : ℕ) where
     minimal-met e min =
         subst (λ (l : List ℕ). Minimal l m) (sym (take-suc sets i 0 h))
         (minimal-more (take i sets) (getD sets i 0 ∷ []) m min (hits-one (getD sets i 0) m e))
-
-    pub from-missed : meets (getD sets i 0) m ≡ false → From i ≡ Each sets i m (drives (getD sets i 0))
-    from-missed e =
-        at-next
-        ∙ (search-missed (take i sets) (getD sets i 0) (drop (suc i) sets) m e
-        ∙ ap₂ (λ (l k : List ℕ). forEach (tried l k) m (drives (getD sets i 0)))
-        (sym (take-suc sets i 0 h) ∙ ap (λ (k : ℕ). take k sets) (sym (add-one i))) (ap (λ (k : ℕ). drop k sets) (sym (add-one i))))
 
   -- ---- the sets that m meets are passed over
 

@@ -1,107 +1,146 @@
--- The search's returns. In the loop over the drives of a set that is missed, what is still to be listed, put behind what is there, is the
--- whole.
+-- The search's returns. In the loop over the drives with which it goes on, what is still to be listed, put behind what is there, is the
+-- whole, as long as fuel is left.
 use mathlib.Core.Path.{_≡_, refl, sym, ap, _∙_, subst}
-use mathlib.Core.Bool.{Bool, true, false}
-use mathlib.Core.List.{List, [], _∷_}
+use mathlib.Core.Bool.{Bool, true, false, _&&_}
+use mathlib.Core.List.{List, [], _∷_, _++_}
 use Prim.Native.Nat.{ℕ, suc, _+_, _^_, _≤_, _<_}
 use native.Mathlib.Omega.{arith}
-use lib.ListN.{length, getD, take, set}
-use Rattle.drive_sets.specs.Masks.{has, single, union, minus, subset, lowest, drives}
-use Rattle.drive_sets.specs.Masks.Laws.{subset-has, subset-refl, subset-trans, subset-minus}
+use lib.Dec.{leb, ltb}
+use lib.ListN.{length, take, drop, set, length-append, length-set}
+use lib.Seq.{set-out, drop-set-lt}
+use borrow.Author.Tests.{leb-true, ltb-true, leb-false, ltb-false}
+use Rattle.drive_sets.specs.Bools.{by-test, and-left, and-right, and-not}
+use Rattle.drive_sets.specs.Masks.{has, single, union, minus, lowest, drives}
 use Rattle.drive_sets.specs.Masks.Sizes.{drives-none}
-use Rattle.hitting_sets.specs.Hitting.{hits, Minimal, forEach}
-use Rattle.hitting_sets.specs.LookAhead.{goesOn}
-use Rattle.hitting_sets.specs.Missed.{FirstMissed}
 use Rattle.drive_sets.specs.Filled.{Filled}
-use Rattle.drive_sets.specs.Filled.Laws.{filled-none, filled-one, filled-over, filled-then, filled-le, filled-same}
-use Rattle.hitting_sets.proofs.Walks.{walk-has, walk-first, walk-word}
-use Rattle.hitting_sets.proofs.Places.{From, Each, from-end, passed-search, from-missed}
-use Rattle.hitting_sets.proofs.Branches.{Branching, branching, added-hits, on-minimal, on-each, off-each}
+use Rattle.drive_sets.specs.Filled.Laws.{filled-none, filled-one, filled-over, filled-then, filled-same}
+use Rattle.hitting_sets.specs.Hitting.{Minimal, forEach}
+use Rattle.hitting_sets.specs.Missed.{FirstMissed, Candidates}
+use Rattle.hitting_sets.specs.Fuel.{Searched}
+use Rattle.hitting_sets.proofs.Walks.{walk-has, walk-first, walk-word, walk-left}
+use Rattle.hitting_sets.proofs.Places.{From, Each, from-end, passed-search}
 
 -- ---- no set is missed: m alone is listed, if there is room
 
-module _ (sets : List ℕ) (m pos i : ℕ) (f : FirstMissed sets pos m i) (e : i ≡ length sets) (out : List ℕ) (count : ℕ) where
+module _ (sets : List ℕ) (m pos i : ℕ) (f : FirstMissed sets pos m i) (e : i ≡ length sets) (out : List ℕ) (count : ℕ) (le : count ≤ length out) where
   only : From sets m pos ≡ m ∷ []
   only = passed-search sets m pos i f ∙ from-end sets m i (omega arith)
 
-  pub end-one : count < length out → {out' : List ℕ} → out' ≡ set out count m → Filled out out' count (count + 1) (From sets m pos)
-  end-one h q = rw q (filled-same only (filled-one out count m h))
+  filled : Filled out (set out count m) count (count + 1) (From sets m pos)
+  filled =
+      filled-same only (by-test (ltb count (length out))
+      (λ t. filled-one out count m (ltb-true count (length out) t))
+      (λ t. filled-over out (set out count m) count (count + 1) (m ∷ []) (omega (arith, ltb-false count (length out) t)) (omega arith)))
 
-  pub end-over : count ≤ length out → length out ≤ count → {out' : List ℕ} → Filled out out' count (count + 1) (From sets m pos)
-  end-over h k {out'} = filled-same only (filled-over out out' count (count + 1) (m ∷ []) (omega arith) (omega arith))
+  pub end-one : {limited : Bool} {fuel : ℕ} {out' : List ℕ} {found left : ℕ} → found ≡ count + 1 → left ≡ fuel → out' ≡ set out count m
+      → Searched limited fuel out out' count found left (From sets m pos)
+  end-one p q r = rw (p, q, r) (record {
+    bound = omega arith;
+    more = omega arith;
+    some = omega (arith, ap length only);
+    ended = λ _. filled;
+    endless = λ _. refl;
+    behind = λ k h. drop-set-lt k out count m (omega arith);
+  })
 
 -- ---- a set is missed
 
--- `rest` is what is left of the drives of the set at i; `found` are listed so far
-pub record Trying (sets : List ℕ) (m pos i : ℕ) (out₀ out : List ℕ) (count found rest : ℕ) : Type 0 where
-  pub branch : Branching sets i m
+-- `rest` is what is left of the drives; `found` are listed so far
+pub record Trying (limited : Bool) (fuel : ℕ) (sets : List ℕ) (m pos i : ℕ) (out₀ out : List ℕ) (count found left rest : ℕ) : Type 0 where
   pub word : rest < 2 ^ 64
-  pub part : subset rest (getD sets i 0) ≡ true
+  pub minimal : (d : ℕ) → has d rest ≡ true → Minimal (take (i + 1) sets) (union m (single d))
   pub bound : found ≤ suc (length out)
+  pub more : count ≤ found
   pub room : length out ≡ length out₀
-  pub whole : (o' : List ℕ) (r : ℕ) → Filled out o' found r (Each sets i m (drives rest)) → Filled out₀ o' count r (From sets m pos)
+  pub some : found + length (Each sets i m (drives rest)) ≤ count + length (From sets m pos)
+  pub whole : 0 < left → (o' : List ℕ) (r : ℕ) → Filled out o' found r (Each sets i m (drives rest)) → Filled out₀ o' count r (From sets m pos)
+  pub endless : limited ≡ false → left ≡ fuel
+  pub behind : (k : ℕ) → found ≤ k → drop k out ≡ drop k out₀
 
-pub try-start : (sets : List ℕ) (m pos i : ℕ) → FirstMissed sets pos m i → (i ≡ length sets → ⊥) → Minimal (take pos sets) m
-    → ((k : ℕ) → getD sets k 0 < 2 ^ 64) → (out : List ℕ) (count : ℕ) → count ≤ length out → Trying sets m pos i out out count count (getD sets i 0)
-try-start sets m pos i f ne min words out count le =
-    let b = branching sets m pos i words f ne min in
+pub try-start : {limited : Bool} {sets : List ℕ} {m pos i : ℕ} (out : List ℕ) {count left rest : ℕ} → FirstMissed sets pos m i → Candidates sets i m rest → rest < 2 ^ 64
+    → count ≤ length out → Trying limited left sets m pos i out out count count left rest
+try-start {sets = sets} {m = m} {pos = pos} {i = i} out f c w le =
+    let same = passed-search sets m pos i f ∙ c .listed in
     record {
-      branch = b;
-      word = words i;
-      part = subset-refl (getD sets i 0);
+      word = w;
+      minimal = c .minimal;
       bound = omega arith;
+      more = omega arith;
       room = refl;
-      whole = λ o' r g. filled-same (passed-search sets m pos i f ∙ from-missed sets m i (b .inside) (b .missed)) g;
+      some = omega (arith, ap length same);
+      whole = λ _ o' r g. filled-same same g;
+      endless = λ _. refl;
+      behind = λ k h. refl;
     }
 
-module _ {sets : List ℕ} {m pos i : ℕ} {out₀ out : List ℕ} {count found rest : ℕ} (y : Trying sets m pos i out₀ out count found rest) where
-  -- d is the lowest drive, and t is m with d
+module _ {limited : Bool} {fuel : ℕ} {sets : List ℕ} {m pos i : ℕ} {out₀ out : List ℕ} {count found left rest : ℕ} (y : Trying limited fuel sets m pos i out₀ out count found left rest) where
+  -- d is the lowest drive, t is m with d, and `next` has the others
   module _ (d : ℕ) (ne : rest ≡ 0 → ⊥) (p : d ≡ lowest rest) (t : ℕ) (q : t ≡ union m (single d)) where
-    d-in : has d (getD sets i 0) ≡ true
-    d-in = subset-has d rest (getD sets i 0) (y .part) (walk-has rest d (y .word) ne p)
+    pub try-minimal : Minimal (take (i + 1) sets) t
+    try-minimal = subst (Minimal (take (i + 1) sets)) (sym q) (y .minimal d (walk-has rest d (y .word) ne p))
 
-    pub try-hits : hits (take (i + 1) sets) t ≡ true
-    try-hits = added-hits sets i m (y .branch) d d-in t q
+    module _ (next : ℕ) (n : next ≡ minus rest (single (lowest rest))) where
+      lists : Each sets i m (drives rest) ≡ From sets t (i + 1) ++ Each sets i m (drives next)
+      unfolding forEach
+      lists =
+          ap (Each sets i m) (walk-first rest d (y .word) ne p next n)
+          ∙ ap (λ (x : ℕ). From sets x (i + 1) ++ Each sets i m (drives next)) (sym q)
 
-    pub try-minimal : {b : Bool} → b ≡ goesOn sets (i + 1) t → b ≡ true → Minimal (take (i + 1) sets) t
-    try-minimal e g = on-minimal sets i m (y .branch) d d-in t q (sym e ∙ g)
-
-    module _ (next : ℕ) (n : next ≡ minus rest (single d)) where
-      next-part : subset next (getD sets i 0) ≡ true
-      next-part =
-          ap (λ (k : ℕ). subset k (getD sets i 0)) n
-          ∙ subset-trans 64 (minus rest (single d)) rest (getD sets i 0) (subst (λ (k : ℕ). k < 2 ^ 64) n (walk-word rest d (y .word) ne p next n))
-          (subset-minus 64 rest (single d) (y .word)) (y .part)
-
-      pub try-on : {b : Bool} → b ≡ goesOn sets (i + 1) t → b ≡ true → {o : List ℕ} {r : ℕ} → Filled out o found r (From sets t (i + 1)) → length o ≡ length out
-          → {out' : List ℕ} {found' : ℕ} → out' ≡ o → found' ≡ r → Trying sets m pos i out₀ out' count found' next
-      try-on e g {o} {r} f l p' q' = rw (p', q') (record {
-        branch = y .branch;
+      pub try-on : 0 < left → {o : List ℕ} {found' left' : ℕ} → Searched limited left out o found found' left' (From sets t (i + 1)) → length o ≡ length out
+          → Trying limited fuel sets m pos i out₀ o count found' left' next
+      try-on lt {o} {found'} {left'} s l = record {
         word = walk-word rest d (y .word) ne p next n;
-        part = next-part;
-        bound = omega (arith, filled-le f);
+        minimal = λ e h. y .minimal e (walk-left rest d (y .word) ne p next n e h);
+        bound = omega (arith, s .bound);
+        more = omega (arith, y .more, s .more);
         room = l ∙ y .room;
-        whole = λ o' r' h. y .whole o' r'
-            (filled-same (ap (Each sets i m) (walk-first rest d (y .word) ne p next n) ∙ on-each sets i m (y .branch) d d-in t q (sym e ∙ g) (drives next))
-            (filled-then out o o' found r r' (From sets t (i + 1)) (Each sets i m (drives next)) l f h));
-      })
+        some = omega (arith, y .some, s .some, ap length lists, length-append (From sets t (i + 1)) (Each sets i m (drives next)));
+        whole = λ lt' o' r h. y .whole lt o' r (filled-same lists (filled-then out o o' found found' r (From sets t (i + 1)) (Each sets i m (drives next)) l (s .ended lt') h));
+        endless = λ e. s .endless e ∙ y .endless e;
+        behind = λ k h. s .behind k h ∙ y .behind k (omega (arith, s .more));
+      }
 
-      pub try-off : {b : Bool} → b ≡ goesOn sets (i + 1) t → b ≡ false
-          → {out' : List ℕ} {found' : ℕ} → out' ≡ out → found' ≡ found → Trying sets m pos i out₀ out' count found' next
-      try-off e g p' q' = rw (p', q') (record {
-        branch = y .branch;
-        word = walk-word rest d (y .word) ne p next n;
-        part = next-part;
-        bound = y .bound;
-        room = y .room;
-        whole = λ o' r h. y .whole o' r
-            (filled-same (ap (Each sets i m) (walk-first rest d (y .word) ne p next n) ∙ off-each sets i m (y .branch) d d-in t q (sym e ∙ g) (drives next)) h);
-      })
+  -- the search stops with what is found: all of it if the fuel is not used up
+  module _ (all : 0 < left → Filled out₀ out count found (From sets m pos)) where
+    stop : Searched limited fuel out₀ out count found left (From sets m pos)
+    stop = record {
+      bound = omega (arith, y .bound, y .room);
+      more = y .more;
+      some = omega (arith, y .some);
+      ended = all;
+      endless = y .endless;
+      behind = y .behind;
+    }
 
-  pub try-end : rest ≡ 0 → Filled out₀ out count found (From sets m pos)
+  pub try-end : rest ≡ 0 → Searched limited fuel out₀ out count found left (From sets m pos)
   unfolding forEach
-  try-end e = y .whole out found (filled-same (ap (Each sets i m) (ap drives e ∙ drives-none)) (filled-none out found (y .bound)))
+  try-end e = stop (λ lt. y .whole lt out found (filled-same (ap (Each sets i m) (ap drives e ∙ drives-none)) (filled-none out found (y .bound))))
 
-  -- there is no more room
-  pub try-full : length out₀ < found → Filled out₀ out count found (From sets m pos)
-  try-full h = y .whole out found (filled-over out out found found (Each sets i m (drives rest)) (omega (arith, y .bound, y .room)) (omega arith))
+  -- the fuel is used up, or there is no more room
+  pub try-stop : {b : Bool} → b ≡ (leb found (length out₀) && ltb 0 left) → b ≡ false → Searched limited fuel out₀ out count found left (From sets m pos)
+  try-stop e f =
+      stop (λ lt. by-test (leb found (length out₀))
+      (λ t. absurd (omega (arith, ltb-false 0 left (and-not (leb found (length out₀)) (ltb 0 left) t (sym e ∙ f)))))
+      (λ t. let over = leb-false found (length out₀) t in
+      y .whole lt out found (filled-over out out found found (Each sets i m (drives rest)) (omega (arith, y .bound, y .room)) (omega arith))))
+
+  pub try-fuel : {b : Bool} → b ≡ (leb found (length out₀) && ltb 0 left) → b ≡ true → (found ≤ length out) × (0 < left)
+  try-fuel e f =
+      let both = sym e ∙ f in (
+        omega (arith, leb-true found (length out₀) (and-left (leb found (length out₀)) (ltb 0 left) both), y .room),
+        ltb-true 0 left (and-right (leb found (length out₀)) (ltb 0 left) both),
+      )
+
+-- ---- what the whole search began with
+
+pub searched-from : {limited : Bool} {fuel fuel₀ : ℕ} {out out' : List ℕ} {count count₀ found left : ℕ} {l : List ℕ} → count₀ ≡ count → (limited ≡ false → fuel₀ ≡ fuel)
+    → Searched limited fuel₀ out out' count₀ found left l → Searched limited fuel out out' count found left l
+searched-from {limited} {fuel} {out = out} {out' = out'} {found = found} {left = left} {l = l} e f s =
+    subst (λ (k : ℕ). Searched limited fuel out out' k found left l) e (record {
+      bound = s .bound;
+      more = s .more;
+      some = s .some;
+      ended = s .ended;
+      endless = λ u. s .endless u ∙ f u;
+      behind = s .behind;
+    })

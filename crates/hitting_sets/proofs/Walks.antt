@@ -6,7 +6,7 @@ use Prim.Native.Nat.{ℕ, _-_, _^_, _≤_, _<_}
 use lib.ListN.{getD}
 use lib.Bits.{or-zero-l}
 use Rattle.drive_sets.specs.Masks.{has, single, union, minus, size, lowest, drives}
-use Rattle.drive_sets.specs.Masks.Laws.{has-bounds, minus-lt, union-assoc, union-none}
+use Rattle.drive_sets.specs.Masks.Laws.{has-bounds, minus-lt, union-assoc, union-none, subset-has, subset-minus}
 use Rattle.drive_sets.specs.Masks.Sizes.{lowest-has, drives-lowest, drives-none, lowest-removed}
 use Rattle.hitting_sets.specs.LookAhead.{inAll, privates, barred}
 
@@ -19,17 +19,18 @@ module _ (rest d : ℕ) (word : rest < 2 ^ 64) (ne : rest ≡ 0 → ⊥) (p : d 
   walk-bounds = has-bounds 64 d rest word walk-has
 
   -- `next` has the others
-  module _ (next : ℕ) (q : next ≡ minus rest (single d)) where
+  module _ (next : ℕ) (q : next ≡ minus rest (single (lowest rest))) where
     pub walk-first : drives rest ≡ d ∷ drives next
-    walk-first =
-        drives-lowest rest word ne
-        ∙ (ap (λ (k : ℕ). k ∷ drives (minus rest (single k))) (sym p) ∙ ap (λ (k : ℕ). d ∷ drives k) (sym q))
+    walk-first = drives-lowest rest word ne ∙ ap₂ (λ (k n : ℕ). k ∷ drives n) (sym p) (sym q)
 
     pub walk-fewer : size next < size rest
-    walk-fewer = subst (λ (k : ℕ). size k < size rest) (sym (q ∙ ap (λ (k : ℕ). minus rest (single k)) p)) (lowest-removed rest word ne)
+    walk-fewer = subst (λ (k : ℕ). size k < size rest) (sym q) (lowest-removed rest word ne)
 
     pub walk-word : next < 2 ^ 64
-    walk-word = subst (λ (k : ℕ). k < 2 ^ 64) (sym q) (minus-lt 64 rest (single d) word)
+    walk-word = subst (λ (k : ℕ). k < 2 ^ 64) (sym q) (minus-lt 64 rest (single (lowest rest)) word)
+
+    pub walk-left : (e : ℕ) → has e next ≡ true → has e rest ≡ true
+    walk-left e h = subset-has e (minus rest (single (lowest rest))) rest (subset-minus 64 rest (single (lowest rest)) word) (ap (has e) (sym q) ∙ h)
 
 -- what the drives passed bar, with what the rest bars, is the whole
 pub record Barring (sets : List ℕ) (m rest bar : ℕ) : Type 0 where
@@ -42,7 +43,7 @@ barring-start sets m h = record { word = h; whole = or-zero-l (barred sets m (dr
 
 -- `own` has at its place k what the private sets of d share, and x is what d bars
 pub barring-turn : (sets : List ℕ) (m rest bar d next k x : ℕ) (own : List ℕ) → Barring sets m rest bar → (rest ≡ 0 → ⊥) → d ≡ lowest rest
-    → next ≡ minus rest (single d) → k ≡ d - 1 → x ≡ minus (getD own k 0) m
+    → next ≡ minus rest (single (lowest rest)) → k ≡ d - 1 → x ≡ minus (getD own k 0) m
     → ((d : ℕ) → 1 ≤ d → d ≤ 64 → getD own (d - 1) 0 ≡ inAll (privates sets m d)) → Barring sets m next (union bar x)
 unfolding barred
 barring-turn sets m rest bar d next k x own b ne p q r e each = record {

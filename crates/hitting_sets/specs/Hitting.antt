@@ -13,6 +13,7 @@ pub mod Minimality
 pub mod Growth
 pub mod Found
 pub mod Distinct
+pub mod Barred
 pub mod Doomed
 
 -- m meets every one of the sets

@@ -2,6 +2,7 @@
 -- from executions.
 pub mod Hitting
 pub mod Found
+pub mod Fuel
 pub mod LookAhead
 pub mod Missed
 pub mod Order

@@ -1,9 +1,8 @@
--- Look-ahead: a test that no minimal hitting set of the sets holds m, so that the search need not go on from m.
+-- What m rules out: the drives that no minimal hitting set that holds m takes (barred), and the look-ahead, a test that none holds m.
 use mathlib.Core.Bool.{Bool, not, _&&_}
 use mathlib.Core.List.{List, [], _∷_}
 use Prim.Native.Nat.{ℕ}
 use lib.Dec.{eqb}
-use lib.ListN.{take}
 use Rattle.drive_sets.specs.Lists.{keep, any}
 use Rattle.drive_sets.specs.Masks.{single, full, union, common, minus, meets, subset, drives}
 use Rattle.hitting_sets.specs.Hitting.{alone}
@@ -31,7 +30,3 @@ unfoldable pub doomed : List ℕ → ℕ → Bool
 doomed sets m =
     let bar = barred sets m (drives m) in
     not (eqb (alone (keep (λ s. not (covered sets m bar s)) sets) m) m)
-
--- the search goes on from t: each drive of t has a private set among the first `seen` sets, and t is not doomed
-abbrev pub goesOn : List ℕ → ℕ → ℕ → Bool
-goesOn sets seen t = eqb (alone (take seen sets) t) t && not (doomed sets t)

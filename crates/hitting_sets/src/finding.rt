@@ -1,33 +1,181 @@
-// All minimal hitting sets, each once, in an order.
-ghost use Rattle.hitting_sets.specs.Found.{Found};
-ghost use Rattle.hitting_sets.specs.Order.{precedes};
+// All minimal hitting sets, each once, in an order. For every order of the sets and every rule there is a table made against it, so that a
+// search with little fuel is followed by others, in other orders and by other rules, with more and more fuel.
+ghost use mathlib.Core.Path.{_≡_};
+ghost use mathlib.Core.Bool.{true, false};
+ghost use Prim.Native.Nat.{_≤_};
+ghost use Rattle.hitting_sets.specs.Found.{Found, Attempted};
+ghost use Rattle.hitting_sets.specs.Order.{precedes, Permuted};
+use crate::MAX_CORES;
+use crate::dead_ends;
 use crate::levels;
 use crate::search;
+use crate::search::Way;
+use crate::slices;
 use crate::sorting;
 use crate::sorting::Order;
 
+// A search that may give up: whether it is done and how many are found; and, for measuring, in which turn, and the fuel that was left.
+pub struct Attempt {
+    pub done: bool,
+    pub found: usize,
+    pub turn: usize,
+    pub left: usize,
+}
+
+fn given_up(turn: usize) -> Attempt
+    ensures { λ r. ⌜ (r .done ≡ false) × (r .found ≡ 0) ⌝ }
+{
+    Attempt {
+        done: false,
+        found: 0,
+        turn,
+        left: 0,
+    }
+}
+
+// One search through the sets as they stand; what is found is put in order.
+fn search_once(
+    turn: usize,
+    way: Way,
+    order: Order,
+    sets: &[u64],
+    out: &mut [u64],
+    fuel: usize,
+    ends: &mut [u64],
+) -> Attempt
+    ensures { λ r. ⌜ Attempted (way .limited) fuel (precedes order) (now (sets .entry)) (now (out .entry)) (now (out .exit)) (r .done) (r .found) ⌝ }
+{
+    dead_ends::clear(ends);
+    let tally = search::minimal_hitting_sets(way, sets, out, fuel, ends);
+    let found = tally.found;
+    let left = tally.left;
+    if out.len() < found {
+        return Attempt {
+            done: true,
+            found,
+            turn,
+            left,
+        };
+    }
+    if left == 0 {
+        return given_up(turn);
+    }
+    sorting::sort(order, out, found);
+    Attempt {
+        done: true,
+        found,
+        turn,
+        left,
+    }
+}
+
+// The turns of a round: each of three orders, and after two of them the dead ends first, the last time with look-ahead.
+const ROUND: usize = 8;
+
+const ROUNDS: usize = 16;
+
+// The sets put into the order of this turn.
+fn arrange(turn: usize, sets: &mut [u64], ends: &[u64])
+    ensures { λ _. ⌜ Permuted (now (sets .entry)) (now (sets .exit)) ⌝ }
+{
+    let n = sets.len();
+    match turn % ROUND {
+        0 => levels::level_order(sets),
+        3 => sorting::sort(Order::BySize, sets, n),
+        7 => sorting::sort(Order::ByMask, sets, n),
+        _ => dead_ends::put_first(sets, ends),
+    }
+}
+
+// A millisecond of work, by the sets that a branching looks at.
+const WORK: usize = 500_000;
+
+const MOST_FUEL: usize = 0x1_0000_0000;
+
+// The fuel for so much work on n sets, and for one branching at each of them.
+fn fuel_for(work: usize, n: usize) -> usize
+    requires { ⌜ work ≤ 500000 ⌝ }
+{
+    if MAX_CORES < n {
+        return 1;
+    }
+    work / (n + 16) + n
+}
+
+// Each round has twice the fuel of the one before; the last turn of a round has that of the next.
+fn next_fuel(turn: usize, fuel: usize) -> usize {
+    if fuel < MOST_FUEL && turn % ROUND == 6 {
+        return 2 * fuel;
+    }
+    fuel
+}
+
+// Turn after turn, until a search is done.
+fn in_turns(order: Order, sets: &mut [u64], out: &mut [u64], ends: &mut [u64]) -> Attempt
+    ensures { λ r. ⌜ Attempted true 0 (precedes order) (now (sets .entry)) (now (out .entry)) (now (out .exit)) (r .done) (r .found) ⌝ }
+{
+    let mut fuel = fuel_for(WORK, sets.len());
+    let mut turn = 0;
+    while turn < ROUND * ROUNDS {
+        arrange(turn, sets, ends);
+        let way = Way {
+            look_ahead: turn % ROUND == 6,
+            limited: true,
+        };
+        let tried = search_once(turn + 1, way, order, sets, out, fuel, ends);
+        if tried.done {
+            return tried;
+        }
+        fuel = next_fuel(turn, fuel);
+        turn += 1;
+    }
+    given_up(turn)
+}
+
+// The turns on a copy of the sets, of which there is one of up to 1024 of them.
+fn search_again(order: Order, sets: &[u64], out: &mut [u64], ends: &mut [u64]) -> Attempt
+    ensures { λ r. ⌜ Attempted true 0 (precedes order) (now (sets .entry)) (now (out .entry)) (now (out .exit)) (r .done) (r .found) ⌝ }
+{
+    let n = sets.len();
+    if MAX_CORES < n {
+        return given_up(0);
+    }
+    let mut ordered = [0u64; MAX_CORES];
+    slices::copy(sets, &mut ordered);
+    in_turns(order, &mut ordered[0..n], out, ends)
+}
+
+// The same as `find`, with how far the search had to go.
+pub fn find_measured(order: Order, sets: &[u64], out: &mut [u64]) -> Attempt
+    ensures { λ r. ⌜ Found (precedes order) (now (sets .entry)) (now (out .entry)) (now (out .exit)) (r .found) ⌝ }
+{
+    let mut ends = [0u64; MAX_CORES];
+    let plain = Way {
+        look_ahead: false,
+        limited: true,
+    };
+    let fuel = fuel_for(WORK / 4, sets.len());
+    let first = search_once(0, plain, order, sets, out, fuel, &mut ends);
+    if first.done {
+        return first;
+    }
+    let later = search_again(order, sets, out, &mut ends);
+    if later.done {
+        return later;
+    }
+    let endless = Way {
+        look_ahead: true,
+        limited: false,
+    };
+    search_once(later.turn, endless, order, sets, out, 1, &mut ends)
+}
+
 // The minimal hitting sets of the sets in the first places of out, as many as the result says; one more than the room says that there
-// are more. More than 1024 stand in no order. Out behind them, and all of it where there are more than the room, is left free. The search
-// goes through the sets in level order, which changes nothing but its time.
+// are more. More than 1024 stand in no order. Out behind them is as it was, and where there are more than the room all of it is left free.
+// Most lists of sets end with the first search. The last, which no list that is known needs, has no limit.
 pub fn find(order: Order, sets: &[u64], out: &mut [u64]) -> usize
     ensures { λ r. ⌜ Found (precedes order) (now (sets .entry)) (now (out .entry)) (now (out .exit)) r ⌝ }
 {
-    let mut ordered = [0u64; 1024];
-    if levels::level_order(sets, &mut ordered) {
-        let n = sets.len();
-        return find_in(order, &ordered[0..n], out);
-    }
-    find_in(order, sets, out)
-}
-
-// The same, looking through the sets as they stand.
-fn find_in(order: Order, sets: &[u64], out: &mut [u64]) -> usize
-    ensures { λ r. ⌜ Found (precedes order) (now (sets .entry)) (now (out .entry)) (now (out .exit)) r ⌝ }
-{
-    let found = search::minimal_hitting_sets(sets, out);
-    if out.len() < found {
-        return found;
-    }
-    sorting::sort(order, out, found);
-    found
+    let r = find_measured(order, sets, out);
+    r.found
 }

@@ -1,4 +1,5 @@
 // The minimal hitting sets of a list of sets of drives: the engine of the cores and of the way back.
+mod dead_ends;
 pub mod finding;
 mod levels;
 pub mod normal_form;

@@ -1,34 +1,20 @@
-// The search for the minimal hitting sets: Berge's method, depth first, with look-ahead. Each is found once; a call goes one drive deeper, so
-// the calls are at most 65 deep, and no list of candidates grows.
+// The search for the minimal hitting sets: Berge's method, depth first, with fuel and, where asked, with look-ahead. Each is found once; a
+// call goes one drive deeper, so the calls are at most 65 deep, and no list of candidates grows.
 ghost use mathlib.Core.Path.{_≡_};
-ghost use mathlib.Core.Bool.{true, not};
-ghost use Prim.Native.Nat.{ℕ, _-_, _≤_, _<_};
-ghost use lib.ListN.{length, getD, take, drop};
+ghost use mathlib.Core.Bool.{true, false, not, _&&_};
+ghost use Prim.Native.Nat.{ℕ, _+_, _-_, _≤_, _<_};
+ghost use lib.Dec.{leb, ltb};
+ghost use lib.ListN.{length, getD, take, drop, set};
 ghost use Rattle.drive_sets.specs.Lists.{keep};
-ghost use Rattle.drive_sets.specs.Masks.{drives};
+ghost use Rattle.drive_sets.specs.Masks.{meets, drives};
 ghost use Rattle.hitting_sets.specs.Hitting.{hits, Minimal, alone, search, minimals};
-ghost use Rattle.hitting_sets.specs.LookAhead.{inAll, privates, barred, covered, doomed, goesOn};
-ghost use Rattle.hitting_sets.specs.Missed.{FirstMissed};
-ghost use Rattle.drive_sets.specs.Filled.{Filled};
+ghost use Rattle.hitting_sets.specs.LookAhead.{inAll, privates, barred, covered, doomed};
+ghost use Rattle.hitting_sets.specs.Missed.{FirstMissed, Candidates};
+ghost use Rattle.hitting_sets.specs.Fuel.{Searched};
+use crate::dead_ends;
 use drive_sets::Drive;
 
-// The drives of m that are alone in m in some of the sets.
-fn alone(sets: &[u64], m: u64) -> u64
-    ensures { λ r. ⌜ r ≡ alone (now (sets .entry)) m ⌝ }
-{
-    let mut i = sets.len();
-    let mut found = 0;
-    while 0 < i {
-        i -= 1;
-        let shared = sets[i] & m;
-        if drive_sets::size(shared) == 1 {
-            found = shared | found;
-        }
-    }
-    found
-}
-
-// ---- look-ahead
+// ---- what is barred
 
 // A set for each drive, at its place.
 struct ByDrive {
@@ -54,7 +40,7 @@ fn in_all_private(sets: &[u64], m: u64) -> ByDrive
         i -= 1;
         let s = sets[i];
         let met = s & m;
-        if drive_sets::size(met) == 1 {
+        if drive_sets::is_single(met) {
             let k = place(drive_sets::lowest(met));
             of[k] = s & of[k];
         }
@@ -73,10 +59,12 @@ fn barred(sets: &[u64], m: u64) -> u64
         let d = drive_sets::lowest(rest);
         let k = place(d);
         bar = bar | drive_sets::minus(all.of[k], m);
-        rest = drive_sets::remove(rest, d);
+        rest = drive_sets::without_lowest(rest);
     }
     bar
 }
+
+// ---- look-ahead
 
 // Some set that m misses has its drives outside the bar in p: it lies within the bar and p, outside m.
 fn covered(sets: &[u64], m: u64, bar: u64, p: u64) -> bool
@@ -105,7 +93,7 @@ fn alone_uncovered(sets: &[u64], ahead: &[u64], m: u64, bar: u64) -> u64
         let s = sets[i];
         let shared = s & m;
         if !drive_sets::subset(shared, found)
-            && drive_sets::size(shared) == 1
+            && drive_sets::is_single(shared)
             && !covered(ahead, m, bar, s)
         {
             found = shared | found;
@@ -141,53 +129,121 @@ fn next_missed(sets: &[u64], pos: usize, m: u64) -> usize
     i
 }
 
-// Each drive of t has a private set among the first `seen` sets, which t meets, and t is not doomed. Where t misses no set there is nothing
-// to look ahead to.
-fn goes_on(sets: &[u64], seen: usize, t: u64) -> bool
-    requires { ⌜ (seen ≤ length (now sets)) × (hits (take seen (now sets)) t ≡ true) ⌝ }
-    ensures { λ r. ⌜ r ≡ goesOn (now (sets .entry)) seen t ⌝ }
+// The drives of the set at `next`, which m misses, with which the search goes on from m, a minimal hitting set of the sets before it: those
+// that these sets do not bar; none where the look-ahead is asked for and finds m doomed.
+fn candidates(look_ahead: bool, sets: &[u64], next: usize, m: u64) -> u64
+    requires { ⌜ (next < length (now sets)) × Minimal (take next (now sets)) m × (meets (getD (now sets) next 0) m ≡ false) ⌝ }
+    ensures { λ r. ⌜ Candidates (now (sets .entry)) next m r ⌝ }
 {
-    if alone(&sets[0..seen], t) != t {
-        return false;
+    if look_ahead && doomed(sets, next, m) {
+        return 0;
     }
-    let next = next_missed(sets, seen, t);
-    if next == sets.len() {
-        return true;
-    }
-    !doomed(sets, next, t)
+    drive_sets::minus(sets[next], barred(&sets[0..next], m))
 }
 
-// The minimal hitting sets that the search lists from m on, a minimal hitting set of the sets before `pos`, put into `out` behind the
-// first `count`; one more than the room says that there are more. A call goes one drive deeper, so the calls are at most 65 deep.
-fn search_from(sets: &[u64], pos: usize, m: u64, out: &mut [u64], count: usize) -> usize
-    requires { ⌜ (pos ≤ length (now sets)) × (count ≤ length (now out)) × Minimal (take pos (now sets)) m ⌝ }
-    ensures { λ r. ⌜ Filled (now (out .entry)) (now (out .exit)) count r (search (take pos (now (sets .entry))) (drop pos (now (sets .entry))) m) ⌝ }
+// How a search goes: with look-ahead or without, and whether its fuel is spent.
+pub(crate) struct Way {
+    pub look_ahead: bool,
+    pub limited: bool,
+}
+
+// How many are found, and the fuel that is left.
+pub(crate) struct Tally {
+    pub found: usize,
+    pub left: usize,
+}
+
+// What a branching takes of the fuel: with look-ahead it costs as much as so many without.
+const LOOK_AHEAD_COST: usize = 8;
+
+// The fuel after one branching more.
+fn spend(way: Way, tally: Tally) -> Tally
+    ensures { λ r. ⌜ (r .found ≡ tally .found) × (way .limited ≡ false → r .left ≡ tally .left) ⌝ }
+{
+    if way.limited {
+        let cost = if way.look_ahead { LOOK_AHEAD_COST } else { 1 };
+        let left = if cost < tally.left {
+            tally.left - cost
+        } else {
+            0
+        };
+        return Tally {
+            found: tally.found,
+            left,
+        };
+    }
+    tally
+}
+
+// There is fuel left, and not yet more found than there is room.
+fn goes_on(tally: Tally, room: usize) -> bool
+    ensures { λ r. ⌜ r ≡ (leb (tally .found) room && ltb 0 (tally .left)) ⌝ }
+{
+    tally.found <= room && 0 < tally.left
+}
+
+// One found more, put behind the others if there is room.
+fn put(out: &mut [u64], m: u64, tally: Tally) -> Tally
+    requires { ⌜ tally .found ≤ length (now out) ⌝ }
+    ensures { λ r. ⌜ (r .found ≡ tally .found + 1) × (r .left ≡ tally .left) × (now (out .exit) ≡ set (now (out .entry)) (tally .found) m) ⌝ }
+{
+    let at = tally.found;
+    if at < out.len() {
+        out[at] = m;
+    }
+    Tally {
+        found: at + 1,
+        left: tally.left,
+    }
+}
+
+// The minimal hitting sets that the search lists from m on, a minimal hitting set of the sets before `pos`, put into `out` behind those found;
+// one more than the room says that there are more. Where no fuel is left some may be missing. A set at which no branch goes on is a dead
+// end, and counted as one. A call goes one drive deeper, so the calls are at most 65 deep.
+fn search_from(
+    way: Way,
+    sets: &[u64],
+    pos: usize,
+    m: u64,
+    out: &mut [u64],
+    tally: Tally,
+    ends: &mut [u64],
+) -> Tally
+    requires { ⌜ (pos ≤ length (now sets)) × (tally .found ≤ length (now out)) × Minimal (take pos (now sets)) m ⌝ }
+    ensures { λ r. ⌜ Searched (way .limited) (tally .left) (now (out .entry)) (now (out .exit)) (tally .found) (r .found) (r .left) (search (take pos (now (sets .entry))) (drop pos (now (sets .entry))) m) ⌝ }
 {
     let room = out.len();
     let next = next_missed(sets, pos, m);
     if next == sets.len() {
-        if count < room {
-            out[count] = m;
-        }
-        return count + 1;
+        return put(out, m, tally);
     }
-    let mut found = count;
-    let mut rest = sets[next];
-    while rest != 0 && found <= room {
+    let look_ahead = way.look_ahead;
+    let mut rest = candidates(look_ahead, sets, next, m);
+    dead_ends::note(ends, next, rest);
+    let mut now = spend(way, tally);
+    while rest != 0 && goes_on(now, room) {
         let d = drive_sets::lowest(rest);
         let t = drive_sets::insert(m, d);
-        if goes_on(sets, next + 1, t) {
-            found = search_from(sets, next + 1, t, out, found);
-        }
-        rest = drive_sets::remove(rest, d);
+        now = search_from(way, sets, next + 1, t, out, now, ends);
+        rest = drive_sets::without_lowest(rest);
     }
-    found
+    now
 }
 
 // The minimal hitting sets of the sets, each once, in the search's order: into `out`, as long as there is room, and their number; one
-// more than the room says that there are more.
-pub(crate) fn minimal_hitting_sets(sets: &[u64], out: &mut [u64]) -> usize
-    ensures { λ r. ⌜ Filled (now (out .entry)) (now (out .exit)) 0 r (minimals (now (sets .entry))) ⌝ }
+// more than the room says that there are more. Where no fuel is left some may be missing.
+pub(crate) fn minimal_hitting_sets(
+    way: Way,
+    sets: &[u64],
+    out: &mut [u64],
+    fuel: usize,
+    ends: &mut [u64],
+) -> Tally
+    ensures { λ r. ⌜ Searched (way .limited) fuel (now (out .entry)) (now (out .exit)) 0 (r .found) (r .left) (minimals (now (sets .entry))) ⌝ }
 {
-    search_from(sets, 0, 0, out, 0)
+    let none = Tally {
+        found: 0,
+        left: fuel,
+    };
+    search_from(way, sets, 0, 0, out, none, ends)
 }

@@ -19,16 +19,7 @@ use Rattle.hitting_sets.specs.Hitting.Laws.{hits-meets, Below, minimal-w
 use Rattle.hitting_sets.specs.Hitting.Alone.{Private, private-alone, alone-all, not-all-alone}
 use Rattle.hitting_sets.specs.Hitting.Minimality.{minimal-alone}
 use Rattle.hitting_sets.specs.Hitting.Found.{search-minimal}
-
-inAll-has : (x s : ℕ) (sets : List ℕ) → has x (inAll sets) ≡ true → elem s sets ≡ true → has x s ≡ true
-unfolding inAll
-inAll-has x s [] h e = absurd (clash e (elem-none s))
-inAll-has x s (y ∷ sets) h e =
-    let both = sym (has-common x y (inAll sets)) ∙ h in
-    ⊎-elim
-    (λ q. ap (has x) q ∙ and-left (has x y) (has x (inAll sets)) both)
-    (λ q. inAll-has x s sets (and-right (has x y) (has x (inAll sets)) both) q)
-    (elem-cases s y sets e)
+use Rattle.hitting_sets.specs.Hitting.Barred.{inAll-has, barred-by}
 
 -- t is part of a minimal hitting set u
 module _ (sets : List ℕ) (t u : ℕ) (below : Below 64 sets) (part : subset t u ≡ true) (min : Minimal sets u) where
@@ -56,20 +47,15 @@ module _ (sets : List ℕ) (t u : ℕ) (below : Below 64 sets) (part : subset t 
     own-only x p q = ap (λ (y : ℕ). has y t) (shared-only d low high (own .0) u (own .2) x p q) ∙ i
 
   -- u takes no barred drive
-  not-barred : (ds : List ℕ) → ((d : ℕ) → elem d ds ≡ true → has d t ≡ true) → (x : ℕ) → has x u ≡ true → has x (barred sets t ds) ≡ true → ⊥
-  unfolding barred privates
-  not-barred [] f x i e = clash e (has-none x)
-  not-barred (d ∷ ds) f x i e =
-      let all = inAll (privates sets t d) in
-      ⊎-elim
-      (λ h. let both = sym (has-minus x all t) ∙ h in
-      let j = f d (elem-head d ds) in
+  not-barred : (x : ℕ) → has x u ≡ true → has x (barred sets t (drives t)) ≡ true → ⊥
+  unfolding privates
+  not-barred x i e =
+      let w = barred-by sets t x (drives t) e in
+      let d = w .0 in
+      let j = sym (elem-drives d t t-lt) ∙ w .1 in
       let s = own d j .0 in
       let mine = elem-keep (λ y. eqb (common y t) (single d)) s sets ∙ and-intro (own d j .1) (eq-eqb (common s t) (single d) (own-in-t d j)) in
-      clash (own-only d j x (inAll-has x s (privates sets t d) (and-left (has x all) (not (has x t)) both) mine) i)
-      (not-true (has x t) (and-right (has x all) (not (has x t)) both)))
-      (λ h. not-barred ds (λ c j. f c (elem-tail c d ds j)) x i h)
-      (or-cases (has x (minus all t)) (has x (barred sets t ds)) (sym (has-union x (minus all t) (barred sets t ds)) ∙ e))
+      clash (own-only d j x (inAll-has x s (privates sets t d) (w .2) mine) i) (w .3)
 
   -- u has a drive of each set, and it is not barred: where t misses a set, the drives outside the bar are not all in a private set
   not-covered : (d : ℕ) (i : has d t ≡ true) → covered sets t (barred sets t (drives t)) (own d i .0) ≡ true → ⊥
@@ -81,7 +67,7 @@ module _ (sets : List ℕ) (t u : ℕ) (below : Below 64 sets) (part : subset t 
       let missed = not-true (meets f t) (and-left (not (meets f t)) (subset (minus f bar) (own d i .0)) (w .2)) in
       let within = and-right (not (meets f t)) (subset (minus f bar) (own d i .0)) (w .2) in
       let x = meets-has 64 f u (below f (w .1)) (hits-meets sets u f (min .all-met) (w .1)) in
-      let free = false-of (has (x .0) bar) (not-barred (drives t) (λ c j. sym (elem-drives c t t-lt) ∙ j) (x .0) (x .2)) in
+      let free = false-of (has (x .0) bar) (not-barred (x .0) (x .2)) in
       let in-own = subset-has (x .0) (minus f bar) (own d i .0) within (has-minus (x .0) f bar ∙ and-intro (x .1) (ap not free)) in
       clash (own-only d i (x .0) in-own (x .2)) (meets-not (x .0) f t missed (x .1))
 

@@ -27,7 +27,7 @@ grown-subset now s m t h (met p e) = ap (subset m) e ∙ subset-refl m
 grown-subset now s m t h (added d i p e a) = ap (subset m) e ∙ subset-union 64 m (single d) h
 
 -- a private set among `seen` and s is among `seen`, or is s
-private-cases : (seen : List ℕ) (s m d : ℕ) → Private (seen ++ (s ∷ [])) m d → Private seen m d ⊎ (common s m ≡ single d)
+pub private-cases : (seen : List ℕ) (s m d : ℕ) → Private (seen ++ (s ∷ [])) m d → Private seen m d ⊎ (common s m ≡ single d)
 private-cases seen s m d w =
     ⊎-elim
     (λ i. inl (w .0, i, w .2))

@@ -37,8 +37,8 @@ shared-slice-read-s c = search needs
 subset-requires : tie.Need-subset-requires Inv-loop μ-loop
 subset-requires c κs = search needs
 
-size-requires : tie.Need-size-requires Inv-loop μ-loop
-size-requires c κs = search needs
+is-single-requires : tie.Need-is-single-requires Inv-loop μ-loop
+is-single-requires c κs = search needs
 
 covered-requires : tie.Need-covered-requires Inv-loop μ-loop
 covered-requires c κs = search needs
@@ -51,7 +51,7 @@ unfolding common union
 loop-again c =
     back-turn _ _ _ _ _ (c .before .before .before .before .before .before .before .before .loop .inv) (c .before .before .before .before .before .before .before .loop-test .taken)
     (kept-more (λ l. alone l (c .before .before .before .before .before .before .before .before .before .before .before .args .m)) _ _ _ (ap not (sym (c .before .covered .ensures)) ∙ c .if3 .taken) _
-    (alone-more _ _ _ (sym (c .before .before .before .size .ensures) ∙ eqb-true (c .before .before .before .size .result) 1 (c .before .before .if2 .taken))))
+    (alone-more _ _ _ (eqb-true _ 1 (sym (c .before .before .before .is-single .ensures) ∙ c .before .before .if2 .taken))))
 
 loop-less-2 : tie.Need-loop-less-2 Inv-loop μ-loop
 loop-less-2 c = search needs
@@ -64,7 +64,7 @@ loop-again-2 c =
     (⊎-elim
     (λ w. kept-skip f _ _ _ (ap not (sym (w .3 .ensures)) ∙ w .4 .left))
     (λ w. ⊎-elim
-    (λ v. kept-same f _ _ _ (alone-skip _ _ _ (λ e. eqb-false (v .1 .result) 1 (v .2 .left) (v .1 .ensures ∙ e))))
+    (λ v. kept-same f _ _ _ (alone-skip _ _ _ (eqb-false _ 1 (sym (v .1 .ensures) ∙ v .2 .left))))
     (λ v. kept-same f _ _ _ (alone-had _ _ _ (sym (c .before .subset .ensures) ∙ not-false _ (v .left))))
     w)
     (c .if1 .came))
@@ -83,7 +83,7 @@ alone-uncovered-spec =
     mul-s
     shared-slice-read-s
     subset-requires
-    size-requires
+    is-single-requires
     covered-requires
     loop-less
     loop-again

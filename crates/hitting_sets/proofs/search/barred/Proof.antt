@@ -32,16 +32,16 @@ element-copy-out-minus c = search needs
 minus-requires : tie.Need-minus-requires Inv-loop μ-loop
 minus-requires c κs = search needs
 
-remove-requires : tie.Need-remove-requires Inv-loop μ-loop
-remove-requires c κs = search needs
+without-lowest-requires : tie.Need-without-lowest-requires Inv-loop μ-loop
+without-lowest-requires c κs = search needs
 
 loop-less : tie.Need-loop-less Inv-loop μ-loop
-loop-less c = walk-fewer _ _ (c .before .before .before .before .before .before .loop .inv .word) (c .before .before .before .before .before .loop-test .taken) (c .before .before .before .before .lowest .ensures) _ (c .remove .ensures)
+loop-less c = walk-fewer _ _ (c .before .before .before .before .before .before .loop .inv .word) (c .before .before .before .before .before .loop-test .taken) (c .before .before .before .before .lowest .ensures) _ (c .without-lowest .ensures)
 
 loop-again : tie.Need-loop-again Inv-loop μ-loop
 unfolding union
 loop-again c =
-    barring-turn _ _ _ _ _ _ _ _ (c .before .before .before .before .before .before .before .in-all-private .result .of) (c .before .before .before .before .before .before .loop .inv) (c .before .before .before .before .before .loop-test .taken) (c .before .before .before .before .lowest .ensures) (c .remove .ensures) (c .before .before .before .place .ensures .0) (c .before .minus .ensures) (c .before .before .before .before .before .before .before .in-all-private .ensures)
+    barring-turn _ _ _ _ _ _ _ _ (c .before .before .before .before .before .before .before .in-all-private .result .of) (c .before .before .before .before .before .before .loop .inv) (c .before .before .before .before .before .loop-test .taken) (c .before .before .before .before .lowest .ensures) (c .without-lowest .ensures) (c .before .before .before .place .ensures .0) (c .before .minus .ensures) (c .before .before .before .before .before .before .before .in-all-private .ensures)
 
 returns : tie.Need-returns Inv-loop μ-loop
 returns c = barring-end _ _ _ _ (c .before .loop .inv) (c .loop-test .left)
@@ -59,7 +59,7 @@ barred-spec =
     mul-minus
     element-copy-out-minus
     minus-requires
-    remove-requires
+    without-lowest-requires
     loop-less
     loop-again
     returns)

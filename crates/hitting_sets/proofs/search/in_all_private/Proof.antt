@@ -1,5 +1,6 @@
 -- What the private sets of each drive share: the sets from the last to the first, of which one with one drive of m counts for that drive.
 use borrow.Author.Needs.{needs}
+use borrow.Author.Tests.{eqb-true, eqb-false}
 use Rattle.hitting_sets.proofs.Shares.{Sharing, sharing-start, shared-bounds, sharing-one, sharing-none, sharing-end}
 use Rattle.drive_sets.specs.Masks.{common}
 use mathlib.Core.Path.{refl, sym, _∙_}
@@ -24,8 +25,8 @@ mul-s c = search needs
 shared-slice-read-s : tie.Need-shared-slice-read-s Inv-loop μ-loop
 shared-slice-read-s c = search needs
 
-size-requires : tie.Need-size-requires Inv-loop μ-loop
-size-requires c κs = search needs
+is-single-requires : tie.Need-is-single-requires Inv-loop μ-loop
+is-single-requires c κs = search needs
 
 lowest-requires : tie.Need-lowest-requires Inv-loop μ-loop
 lowest-requires c κs = search needs
@@ -33,7 +34,7 @@ lowest-requires c κs = search needs
 place-requires : tie.Need-place-requires Inv-loop μ-loop
 unfolding common
 place-requires c κs =
-    shared-bounds _ _ _ _ (c .before .before .before .before .before .loop .inv) (c .before .before .before .before .loop-test .taken) (c .before .before .before .before .before .before .before .fits .m .fits) (sym (c .before .before .size .ensures) ∙ c .before .if1 .taken) _ (c .lowest .ensures)
+    shared-bounds _ _ _ _ (c .before .before .before .before .before .loop .inv) (c .before .before .before .before .loop-test .taken) (c .before .before .before .before .before .before .before .fits .m .fits) (eqb-true _ 1 (sym (c .before .before .is-single .ensures) ∙ c .before .if1 .taken)) _ (c .lowest .ensures)
 
 mul-of : tie.Need-mul-of Inv-loop μ-loop
 mul-of c = search needs
@@ -53,7 +54,7 @@ loop-less c = search needs
 loop-again : tie.Need-loop-again Inv-loop μ-loop
 unfolding common
 loop-again c =
-    sharing-one _ _ _ _ (c .before .before .before .before .before .before .loop .inv) (c .before .before .before .before .before .loop-test .taken) (c .before .before .before .before .before .before .before .before .fits .m .fits) (sym (c .before .before .before .size .ensures) ∙ c .before .before .if1 .taken) _ (c .before .lowest .ensures)
+    sharing-one _ _ _ _ (c .before .before .before .before .before .before .loop .inv) (c .before .before .before .before .before .loop-test .taken) (c .before .before .before .before .before .before .before .before .fits .m .fits) (eqb-true _ 1 (sym (c .before .before .before .is-single .ensures) ∙ c .before .before .if1 .taken)) _ (c .before .lowest .ensures)
     _ _ (c .place .ensures .0) refl
 
 loop-less-2 : tie.Need-loop-less-2 Inv-loop μ-loop
@@ -61,7 +62,7 @@ loop-less-2 c = search needs
 
 loop-again-2 : tie.Need-loop-again-2 Inv-loop μ-loop
 unfolding common
-loop-again-2 c = sharing-none _ _ _ _ (c .before .before .before .before .loop .inv) (c .before .before .before .loop-test .taken) (λ e. c .if1 .left (c .before .size .ensures ∙ e))
+loop-again-2 c = sharing-none _ _ _ _ (c .before .before .before .before .loop .inv) (c .before .before .before .loop-test .taken) (eqb-false _ 1 (sym (c .before .is-single .ensures) ∙ c .if1 .left))
 
 returns : tie.Need-returns Inv-loop μ-loop
 returns c = sharing-end _ _ _ _ (c .before .loop .inv) (c .loop-test .left)
@@ -76,7 +77,7 @@ in-all-private-spec =
     sub-i
     mul-s
     shared-slice-read-s
-    size-requires
+    is-single-requires
     lowest-requires
     place-requires
     mul-of
