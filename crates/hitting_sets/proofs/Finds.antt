@@ -15,14 +15,13 @@ use Rattle.drive_sets.specs.Lists.Times.{elem-same-times}
 use Rattle.drive_sets.specs.Filled.{Filled}
 use Rattle.drive_sets.specs.Filled.Laws.{filled-over}
 use Rattle.hitting_sets.specs.Hitting.{minimals}
-use Rattle.hitting_sets.specs.Hitting.Laws.{Below}
-use Rattle.hitting_sets.specs.Hitting.Found.{minimals-same-elements}
-use Rattle.hitting_sets.specs.Hitting.Distinct.{minimals-distinct}
+use Rattle.hitting_sets.specs.Hitting.Laws.{Below, hits-same-elements}
 use Rattle.hitting_sets.specs.Found.{Found, Attempted}
 use Rattle.hitting_sets.specs.Fuel.{Searched}
 use Rattle.hitting_sets.specs.Order.{sort, sortFirst, Permuted}
 use Rattle.hitting_sets.specs.Order.Strict.{Strict}
-use Rattle.hitting_sets.specs.Order.Sort.{length-sort, times-sort, sort-same, sortFirst-fits, sortFirst-over}
+use Rattle.hitting_sets.specs.Order.Minimals.{listed-same}
+use Rattle.hitting_sets.specs.Order.Sort.{length-sort, times-sort, sortFirst-fits, sortFirst-over}
 
 drop-behind : (front : List ℕ) (r : ℕ) (l : List ℕ) (k : ℕ) → length front ≡ r → r ≤ k → drop k (front ++ drop r l) ≡ drop k l
 drop-behind front r l k e le =
@@ -105,9 +104,7 @@ module _ (before : ℕ → ℕ → Bool) (strict : Strict before) (sets other : 
   under x h = below x (sym (same-elem x) ∙ h)
 
   same-list : sort before (minimals other) ≡ sort before (minimals sets)
-  same-list =
-      sort-same before strict (minimals other) (minimals sets) (minimals-distinct other under) (minimals-distinct sets below)
-      (minimals-same-elements other sets under below same-elem)
+  same-list = listed-same before strict other sets under below (λ m. hits-same-elements other sets m same-elem)
 
   same-count : length (minimals other) ≡ length (minimals sets)
   same-count = sym (length-sort before (minimals other)) ∙ (ap length same-list ∙ length-sort before (minimals sets))

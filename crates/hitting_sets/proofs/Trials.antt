@@ -6,8 +6,8 @@ use mathlib.Core.List.{List, [], _∷_, _++_}
 use Prim.Native.Nat.{ℕ, suc, _+_, _^_, _≤_, _<_}
 use native.Mathlib.Omega.{arith}
 use lib.Dec.{leb, ltb}
-use lib.ListN.{length, take, drop, set, length-append, length-set}
-use lib.Seq.{set-out, drop-set-lt}
+use lib.ListN.{length, take, drop, set, length-append}
+use lib.Seq.{drop-set-lt}
 use borrow.Author.Tests.{leb-true, ltb-true, leb-false, ltb-false}
 use Rattle.drive_sets.specs.Bools.{by-test, and-left, and-right, and-not}
 use Rattle.drive_sets.specs.Masks.{has, single, union, minus, lowest, drives}

@@ -1,8 +1,8 @@
 -- One more set s that m misses, all its drives at once: a drive of s can be added exactly if the sets seen do not bar it, if, that is, each
 -- drive of m has a private set without it.
 use mathlib.Core.Path.{_≡_, refl, sym, ap, ap₂, _∙_, subst}
-use mathlib.Core.Bool.{Bool, true, false, not, _&&_}
-use mathlib.Core.Logic.{_⊎_, inl, inr, ⊎-elim}
+use mathlib.Core.Bool.{true, false, not, _&&_}
+use mathlib.Core.Logic.{_⊎_, ⊎-elim}
 use mathlib.Core.List.{List, [], _∷_, _++_}
 use Prim.Native.Nat.{ℕ, _^_, _≤_, _<_}
 use native.Mathlib.Nat.{le-refl}
@@ -12,7 +12,7 @@ use Rattle.drive_sets.specs.Bools.{clash, by-test, false-of, and-intro, and-lef
 use Rattle.drive_sets.specs.Lists.{range, keep, elem}
 use Rattle.drive_sets.specs.Lists.Laws.{elem-head, elem-tail, elem-none, elem-cases, elem-append-left, elem-append-right, elem-keep, keep-true, keep-false, keep-same}
 use Rattle.drive_sets.specs.Lists.Takes.{keep-keep}
-use Rattle.drive_sets.specs.Masks.{has, single, full, union, common, minus, meets, drives}
+use Rattle.drive_sets.specs.Masks.{has, single, union, common, minus, meets, drives}
 use Rattle.drive_sets.specs.Masks.Laws.{has-none, has-union, has-common, has-minus, has-bounds, full-has, subset-union, has-meets, meets-not}
 use Rattle.drive_sets.specs.Masks.Sizes.{elem-drives}
 use Rattle.drive_sets.specs.Masks.OneDrive.{insert-has, insert-keeps, insert-cases, insert-lt, share-one, shared-has, shared-only, shared-part}
@@ -20,8 +20,7 @@ use Rattle.hitting_sets.specs.Hitting.{Minimal, alone, forEach, search}
 use Rattle.hitting_sets.specs.LookAhead.{inAll, privates, barred}
 use Rattle.hitting_sets.specs.Hitting.Laws.{Below, below-left, minimal-word}
 use Rattle.hitting_sets.specs.Hitting.Alone.{Private, all-alone, alone-all}
-use Rattle.hitting_sets.specs.Hitting.Minimality.{minimal-alone}
-use Rattle.hitting_sets.specs.Hitting.Growth.{Grown, added, grown-minimal, private-cases}
+use Rattle.hitting_sets.specs.Hitting.Growth.{added, grown-minimal, private-cases}
 use Rattle.hitting_sets.specs.Hitting.Found.{tried, tried-alone, search-missed}
 
 -- ---- what is in all sets, and what is barred

@@ -1,20 +1,19 @@
 -- The look-ahead is right: no minimal hitting set holds a doomed set, so the search finds nothing from it.
 use mathlib.Core.Path.{_≡_, sym, ap, _∙_}
 use mathlib.Core.Bool.{Bool, true, not, _&&_}
-use mathlib.Core.Logic.{⊎-elim}
-use mathlib.Core.List.{List, [], _∷_, _++_}
+use mathlib.Core.List.{List, [], _++_}
 use Prim.Native.Nat.{ℕ, _^_, _≤_, _<_}
 use lib.Dec.{eqb}
 use borrow.Author.Tests.{eqb-false, eq-eqb, not-true}
-use Rattle.drive_sets.specs.Bools.{clash, false-of, and-intro, and-left, and-right, or-cases}
-use Rattle.drive_sets.specs.Lists.{keep, elem}
-use Rattle.drive_sets.specs.Lists.Laws.{elem-head, elem-tail, elem-none, elem-cases, no-elem, any-elem, elem-keep}
+use Rattle.drive_sets.specs.Bools.{clash, false-of, and-intro, and-left, and-right}
+use Rattle.drive_sets.specs.Lists.{keep}
+use Rattle.drive_sets.specs.Lists.Laws.{no-elem, any-elem, elem-keep}
 use Rattle.drive_sets.specs.Masks.{has, single, common, minus, meets, subset, drives}
-use Rattle.drive_sets.specs.Masks.Laws.{has-none, has-union, has-common, has-minus, has-bounds, subset-has, subset-lt, meets-has, meets-not}
+use Rattle.drive_sets.specs.Masks.Laws.{has-minus, has-bounds, subset-has, subset-lt, meets-has, meets-not}
 use Rattle.drive_sets.specs.Masks.Sizes.{elem-drives}
 use Rattle.drive_sets.specs.Masks.OneDrive.{shared-only, shared-part}
 use Rattle.hitting_sets.specs.Hitting.{Minimal, alone, search}
-use Rattle.hitting_sets.specs.LookAhead.{inAll, privates, barred, covered, doomed}
+use Rattle.hitting_sets.specs.LookAhead.{privates, barred, covered, doomed}
 use Rattle.hitting_sets.specs.Hitting.Laws.{hits-meets, Below, minimal-word}
 use Rattle.hitting_sets.specs.Hitting.Alone.{Private, private-alone, alone-all, not-all-alone}
 use Rattle.hitting_sets.specs.Hitting.Minimality.{minimal-alone}

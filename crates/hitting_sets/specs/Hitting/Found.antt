@@ -7,14 +7,14 @@ use Prim.Native.Nat.{ℕ, _^_, _<_}
 use lib.Seq.{append-snoc}
 use lib.Dec.{eqb}
 use borrow.Author.Tests.{eqb-true, eq-eqb}
-use Rattle.drive_sets.specs.Bools.{clash, by-test, same-test, cond-true, cond-false}
+use Rattle.drive_sets.specs.Bools.{clash, by-test, cond-true, cond-false}
 use Rattle.drive_sets.specs.Lists.{elem}
 use Rattle.drive_sets.specs.Lists.Laws.{elem-head, elem-tail, elem-none, elem-one, elem-cases, elem-append-left, elem-append-right, elem-append-cases}
 use Rattle.drive_sets.specs.Masks.{single, union, meets, subset, drives}
 use Rattle.drive_sets.specs.Masks.Laws.{none-subset, subset-refl, subset-trans, subset-antisym}
 use Rattle.drive_sets.specs.Masks.Sizes.{elem-drives}
 use Rattle.hitting_sets.specs.Hitting.{hits, Minimal, alone, forEach, search, minimals}
-use Rattle.hitting_sets.specs.Hitting.Laws.{Below, below-left, minimal-word, minimal-same-elements, meets-hits}
+use Rattle.hitting_sets.specs.Hitting.Laws.{Below, below-left, minimal-word, meets-hits}
 use Rattle.hitting_sets.specs.Hitting.Growth.{Grown, met, added, grown-subset, grown-minimal, minimal-grown}
 
 -- ---- each of the drives tried
@@ -145,10 +145,3 @@ unfolding minimals
 minimal-found sets m b min =
     let w = minimal-search [] sets m b min in
     ap (λ (x : ℕ). elem m (search [] sets x)) (w .1 .no-part 0 (none-subset (w .0)) (none-hits 0)) ∙ w .2
-
--- the order of the sets changes no member
-pub minimals-same-elements : (l k : List ℕ) → Below 64 l → Below 64 k → ((x : ℕ) → elem x l ≡ elem x k) → (m : ℕ) → elem m (minimals l) ≡ elem m (minimals k)
-minimals-same-elements l k p q f m =
-    same-test (elem m (minimals l)) (elem m (minimals k))
-    (λ e. minimal-found k m q (minimal-same-elements l k m f (minimals-minimal l m p e)))
-    (λ e. minimal-found l m p (minimal-same-elements k l m (λ x. sym (f x)) (minimals-minimal k m q e)))

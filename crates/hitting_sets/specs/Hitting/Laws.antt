@@ -40,14 +40,10 @@ hits-same-elements l k m f = all-same-elements (λ s. meets s m) l k f
 
 -- ---- minimal hitting sets
 
--- the order and the repeats of the sets do not matter
 -- lists that the same sets hit have the same minimal hitting sets
 pub minimal-same-hits : (l k : List ℕ) (m : ℕ) → ((x : ℕ) → hits l x ≡ hits k x) → Minimal l m → Minimal k m
 minimal-same-hits l k m f min =
     record { all-met = sym (f m) ∙ min .all-met; no-part = λ part p q. min .no-part part p (f part ∙ q) }
-
-pub minimal-same-elements : (l k : List ℕ) (m : ℕ) → ((x : ℕ) → elem x l ≡ elem x k) → Minimal l m → Minimal k m
-minimal-same-elements l k m f min = minimal-same-hits l k m (λ x. hits-same-elements l k x f) min
 
 -- a minimal hitting set that meets more sets is minimal for all of them
 pub minimal-more : (l k : List ℕ) (m : ℕ) → Minimal l m → hits k m ≡ true → Minimal (l ++ k) m

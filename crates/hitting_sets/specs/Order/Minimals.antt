@@ -6,8 +6,8 @@ use Prim.Native.Nat.{ℕ}
 use Rattle.drive_sets.specs.Bools.{same-test}
 use Rattle.drive_sets.specs.Lists.{elem, ordered}
 use Rattle.drive_sets.specs.Lists.Laws.{ordered-unique}
-use Rattle.hitting_sets.specs.Hitting.{Minimal, minimals}
-use Rattle.hitting_sets.specs.Hitting.Laws.{Below}
+use Rattle.hitting_sets.specs.Hitting.{hits, Minimal, minimals}
+use Rattle.hitting_sets.specs.Hitting.Laws.{Below, minimal-same-hits}
 use Rattle.hitting_sets.specs.Hitting.Found.{minimals-minimal, minimal-found}
 use Rattle.hitting_sets.specs.Hitting.Distinct.{minimals-distinct}
 use Rattle.hitting_sets.specs.Order.{sort}
@@ -30,3 +30,11 @@ module _ (before : ℕ → ℕ → Bool) (sets : List ℕ) (word : Below 64 sets
     listed-unique l o sound complete =
         ordered-unique before (strict .asym) l (sort before (minimals sets)) o listed-ordered
         (λ m. same-test (elem m l) (elem m (sort before (minimals sets))) (λ h. minimal-listed m (sound m h)) (λ h. complete m (listed-minimal m h)))
+
+-- lists that the same sets hit have the same list, whatever the order of their sets
+pub listed-same : (before : ℕ → ℕ → Bool) → Strict before → (l k : List ℕ) → Below 64 l → Below 64 k → ((m : ℕ) → hits l m ≡ hits k m)
+    → sort before (minimals l) ≡ sort before (minimals k)
+listed-same before strict l k p q f =
+    listed-unique before k q strict (sort before (minimals l)) (listed-ordered before l p strict)
+    (λ m h. minimal-same-hits l k m f (listed-minimal before l p m h))
+    (λ m h. minimal-listed before l p m (minimal-same-hits k l m (λ x. sym (f x)) h))

@@ -26,7 +26,7 @@ use Rattle.hitting_sets.specs.Hitting.Minimality.{minimal-alone, hitting-contai
 use Rattle.hitting_sets.specs.Duality.{back-of-minimals}
 use Rattle.hitting_sets.specs.Order.{byMask, bySize, normal}
 use Rattle.hitting_sets.specs.Order.Strict.{byMask-strict, bySize-strict}
-use Rattle.hitting_sets.specs.Order.Minimals.{listed-minimal, minimal-listed, listed-ordered, listed-unique}
+use Rattle.hitting_sets.specs.Order.Minimals.{listed-minimal, minimal-listed, listed-ordered, listed-unique, listed-same}
 use Rattle.hitting_sets.specs.Order.Normal.{normal-elem, ordered-normal, antichain-normal, normal-idempotent, hits-normal, normal-some, length-normal}
 use Rattle.tables.specs.Tables.{isFrame, isSet, isEmpty, cores, chosen, dual, uncrowded, normalTable, survivorSets, chosenCore}
 
@@ -145,10 +145,8 @@ module _ (sets : List ℕ) (word : Below 64 sets) where
 
 -- lists that the same sets hit have the same cores
 pub cores-same-hits : (l k : List ℕ) → Below 64 l → Below 64 k → ((m : ℕ) → hits l m ≡ hits k m) → cores l ≡ cores k
-cores-same-hits l k p q f =
-    cores-unique k q (cores l) (cores-ordered l p)
-    (λ c h. minimal-same-hits l k c f (core-minimal l p c h))
-    (λ c h. minimal-core l p c (minimal-same-hits k l c (λ x. sym (f x)) h))
+unfolding cores
+cores-same-hits = listed-same bySize bySize-strict
 
 -- the order in which the sets are listed does not matter
 pub cores-same-elements : (l k : List ℕ) → Below 64 l → Below 64 k → ((x : ℕ) → elem x l ≡ elem x k) → cores l ≡ cores k

@@ -1,6 +1,5 @@
 -- Where m is doomed there is none; else those that are not barred.
 use mathlib.Core.Path.{sym, _∙_}
-use native.Mathlib.Omega.{arith}
 use borrow.Author.Needs.{needs}
 use Rattle.hitting_sets.proofs.Branches.{not-barred, none-doomed}
 use Rattle.hitting_sets.proofs.search.candidates.Statement.{statement}
