@@ -4,10 +4,12 @@
 covers every refusal number, every cut of a file and the limits, and go on at
 random. The same seed gives the same inputs. Somewhat more than half are
 accepted. `long_tables` and `long_runs` yield inputs about as long as the
-programs' buffers, and longer.
+programs' buffers, and longer, and `hard_tables` tables on which the search for
+cores goes far.
 """
 
 from itertools import chain, combinations, islice, product
+from pathlib import Path
 from random import Random
 from typing import Iterator
 
@@ -101,6 +103,34 @@ def long_tables() -> Iterator[bytes]:
                         (frame(6), survivor(1)), (frame(6) + survivor(1), survivor(0)),
                         (frame(6), b"\0"), (b"", b"\0"), (b"", frame(6))):
         yield from around_buffer(start, more)
+
+
+def copies(pairs: list[tuple[int, int]], width: int, count: int) -> Frame:
+    """Sets of two drives, repeated on further drives."""
+    return width * count, [(1 << low | 1 << high) << width * number
+                           for number in range(count) for low, high in pairs]
+
+
+def renamed(rng: Random, n: int, sets: list[int]) -> Frame:
+    """The same with other numbers for the drives."""
+    names = rng.sample(range(n), n)
+    return n, [sum(1 << names[place] for place in range(n) if mask >> place & 1)
+               for mask in sets]
+
+
+def hard_tables() -> Iterator[bytes]:
+    """Tables of the bench, complete bipartite graphs side by side, and bands."""
+    for path in sorted((Path(__file__).parent.parent / "bench" / "tables").glob("*.table")):
+        yield path.read_bytes()
+    rng = Random(1)
+    for side, count in ((2, 10), (3, 10), (4, 8)):
+        whole = copies([(low, side + high) for low, high in product(range(side), repeat=2)],
+                       2 * side, count)
+        yield from (table(*whole), table(*renamed(rng, *whole)))
+    for side, reach in ((18, 3), (20, 3), (24, 2)):
+        whole = copies([(low, side + high) for low, high in product(range(side), repeat=2)
+                        if abs(low - high) <= reach], 2 * side, 1)
+        yield from (table(*whole), table(*renamed(rng, *whole)))
 
 
 def random_tables(rng: Random) -> Iterator[bytes]:

@@ -87,19 +87,27 @@ fn arrange(turn: usize, sets: &mut [u64], ends: &[u64])
     }
 }
 
-// A millisecond of work, by the sets that a branching looks at.
-const WORK: usize = 500_000;
+// Half a millisecond of work or less, by the sets that a branching looks at.
+const WORK: usize = 250_000;
 
 const MOST_FUEL: usize = 0x1_0000_0000;
 
 // The fuel for so much work on n sets, and for one branching at each of them.
 fn fuel_for(work: usize, n: usize) -> usize
-    requires { ⌜ work ≤ 500000 ⌝ }
+    requires { ⌜ work ≤ 250000 ⌝ }
 {
     if MAX_CORES < n {
         return 1;
     }
     work / (n + 16) + n
+}
+
+// The fuel of a turn: level order, which most often does best, has as much as the other turns of its round together.
+fn fuel_of(turn: usize, fuel: usize) -> usize {
+    if fuel < MOST_FUEL && turn % ROUND == 0 {
+        return ROUND * fuel;
+    }
+    fuel
 }
 
 // Each round has twice the fuel of the one before; the last turn of a round has that of the next.
@@ -122,7 +130,7 @@ fn in_turns(order: Order, sets: &mut [u64], out: &mut [u64], ends: &mut [u64]) -
             look_ahead: turn % ROUND == 6,
             limited: true,
         };
-        let tried = search_once(turn + 1, way, order, sets, out, fuel, ends);
+        let tried = search_once(turn + 1, way, order, sets, out, fuel_of(turn, fuel), ends);
         if tried.done {
             return tried;
         }
@@ -154,7 +162,7 @@ pub fn find_measured(order: Order, sets: &[u64], out: &mut [u64]) -> Attempt
         look_ahead: false,
         limited: true,
     };
-    let fuel = fuel_for(WORK / 4, sets.len());
+    let fuel = fuel_for(WORK / 2, sets.len());
     let first = search_once(0, plain, order, sets, out, fuel, &mut ends);
     if first.done {
         return first;

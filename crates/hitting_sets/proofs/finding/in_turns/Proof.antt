@@ -21,12 +21,12 @@ loop-holds c = (turning-start _ _, refl, refl)
 
 returns : tie.Need-returns Inv-loop μ-loop
 returns c =
-    turn-tried _ (c .before .before .before .before .before .before .before .before .before .before .before .before .before .before .before .loop .inv .0) (precedes-strict _) (below-places 64 _ (λ k. c .before .before .before .before .before .before .before .before .before .before .before .before .before .before .before .before .before .before .before .slice-known .given k .fits)) (c .before .before .before .before .before .before .before .before .before .before .before .arrange .ensures) (search needs) (c .before .before .before .before .before .search-once .ensures)
+    turn-tried _ (c .before .before .before .before .before .before .before .before .before .before .before .before .before .before .before .before .loop .inv .0) (precedes-strict _) (below-places 64 _ (λ k. c .before .before .before .before .before .before .before .before .before .before .before .before .before .before .before .before .before .before .before .before .slice-known .given k .fits)) (c .before .before .before .before .before .before .before .before .before .before .before .before .arrange .ensures) (search needs) (c .before .before .before .before .before .search-once .ensures)
     (λ u. absurd (clash refl u))
 
 loop-again : tie.Need-loop-again Inv-loop μ-loop
 loop-again c = (
-  turn-again _ (c .before .before .before .before .before .before .before .before .before .before .before .before .before .before .before .before .loop .inv .0) (precedes-strict _) (below-places 64 _ (λ k. c .before .before .before .before .before .before .before .before .before .before .before .before .before .before .before .before .before .before .before .before .slice-known .given k .fits)) (c .before .before .before .before .before .before .before .before .before .before .before .before .arrange .ensures) (search needs) (c .before .before .before .before .before .before .search-once .ensures)
+  turn-again _ (c .before .before .before .before .before .before .before .before .before .before .before .before .before .before .before .before .before .loop .inv .0) (precedes-strict _) (below-places 64 _ (λ k. c .before .before .before .before .before .before .before .before .before .before .before .before .before .before .before .before .before .before .before .before .before .slice-known .given k .fits)) (c .before .before .before .before .before .before .before .before .before .before .before .before .before .arrange .ensures) (search needs) (c .before .before .before .before .before .before .search-once .ensures)
       (λ u. absurd (clash refl u)),
   search needs,
   search needs,
@@ -40,5 +40,5 @@ in-turns-spec =
     tie.close
     (tie.spec
     Inv-loop μ-loop (λ c κs. search needs) loop-holds (λ c. search needs) (λ c κs. search needs) (λ c. search needs) (λ c κs. search needs)
-    (λ c. search needs) (λ c. search needs) (λ c. search needs) returns (λ c κs. search needs) (λ c. search needs) (λ c. search needs) loop-again
-    (λ c κs. search needs) (λ c. search needs) (λ c. search needs) (λ c. search needs) returns-2)
+    (λ c κs. search needs) (λ c. search needs) (λ c. search needs) (λ c. search needs) returns (λ c κs. search needs) (λ c. search needs)
+    (λ c. search needs) loop-again (λ c κs. search needs) (λ c. search needs) (λ c. search needs) (λ c. search needs) returns-2)
