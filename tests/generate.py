@@ -9,12 +9,11 @@ cores goes far.
 """
 
 from itertools import chain, combinations, islice, product
-from pathlib import Path
 from random import Random
 from typing import Iterator
 
 from inputs.damage import RUN_DAMAGE, TABLE_DAMAGE, damaged
-from inputs.frames import Frame, accepted_table, crowded_table, full
+from inputs.frames import Frame, accepted_table, crowded_table, full, hard_frames
 from inputs.records import (MARKS, UNKNOWN_MARKS, Crash, Records, crash, frame,
                             proposal, run, run_records, survivor, table, table_records)
 from inputs.scenarios import accepted_run, spoil_crash, touch_every_set
@@ -105,32 +104,9 @@ def long_tables() -> Iterator[bytes]:
         yield from around_buffer(start, more)
 
 
-def copies(pairs: list[tuple[int, int]], width: int, count: int) -> Frame:
-    """Sets of two drives, repeated on further drives."""
-    return width * count, [(1 << low | 1 << high) << width * number
-                           for number in range(count) for low, high in pairs]
-
-
-def renamed(rng: Random, n: int, sets: list[int]) -> Frame:
-    """The same with other numbers for the drives."""
-    names = rng.sample(range(n), n)
-    return n, [sum(1 << names[place] for place in range(n) if mask >> place & 1)
-               for mask in sets]
-
-
 def hard_tables() -> Iterator[bytes]:
-    """Tables of the bench, complete bipartite graphs side by side, and bands."""
-    for path in sorted((Path(__file__).parent.parent / "bench" / "tables").glob("*.table")):
-        yield path.read_bytes()
-    rng = Random(1)
-    for side, count in ((2, 10), (3, 10), (4, 8)):
-        whole = copies([(low, side + high) for low, high in product(range(side), repeat=2)],
-                       2 * side, count)
-        yield from (table(*whole), table(*renamed(rng, *whole)))
-    for side, reach in ((18, 3), (20, 3), (24, 2)):
-        whole = copies([(low, side + high) for low, high in product(range(side), repeat=2)
-                        if abs(low - high) <= reach], 2 * side, 1)
-        yield from (table(*whole), table(*renamed(rng, *whole)))
+    """Tables on which the search for cores goes far."""
+    return (table(*hard) for hard in hard_frames())
 
 
 def random_tables(rng: Random) -> Iterator[bytes]:

@@ -1,21 +1,23 @@
-//! Looks for tables on which the search for cores goes far: from each table of `bench/tables` and some random ones it changes a set or two at a time and
-//! keeps what makes the search no shorter, by the library's own count of work and not by time. The best goes to `target/bench/climbed.table`. The
-//! arguments, if any, are the seconds and a seed.
+//! Looks for tables on which the search for cores goes far: from each table of `bench/tables` and some random ones it makes a few changes at a time and
+//! keeps what makes the search no shorter, by the library's own count of turns and fuel and not by time. The best goes to `target/bench/climbed.table`.
+//! The arguments, if any, are the seconds and a seed.
 
-use crate::baseline::tables;
+use crate::baseline::{cores::bits, tables};
 use crate::{inputs, library};
+use std::cmp::Reverse;
 use std::time::Instant;
 
 const DRIVES: u8 = 64;
 const MOST_SETS: usize = 128;
-const STARTS: usize = 6;
+const RANDOM_STARTS: usize = 6;
+const SECONDS: f64 = 120.0;
 
-/// Later turns first, then less fuel left.
-type Score = (u64, i64);
+/// A later turn is more, and less fuel left in it.
+type Score = (u64, Reverse<u64>);
 
 fn score(sets: &[u64]) -> Score {
     let effort = library::search_effort(sets);
-    (effort.turn, -(effort.left as i64))
+    (effort.turn, Reverse(effort.left))
 }
 
 /// Xorshift.
@@ -37,6 +39,11 @@ impl Random {
         1 << self.below(DRIVES.into())
     }
 
+    fn member(&mut self, set: u64) -> u64 {
+        let place = self.below(set.count_ones() as usize);
+        bits(set).nth(place).expect("a drive")
+    }
+
     fn set(&mut self, density: u64) -> u64 {
         (0..DRIVES).filter(|_| self.next() % 100 < density).fold(0, |set, at| set | 1 << at)
     }
@@ -46,7 +53,7 @@ impl Random {
         kept((0..count).map(|_| self.set(density) | self.drive()).collect(), self)
     }
 
-    /// One to three changes: a drive more or less, a drive moved, a set dropped, changed into another, crossed or joined with another.
+    /// One to three changes: a drive more or less, two drives, a set dropped, a copy with a drive exchanged, two sets crossed, or what they share.
     fn changed(&mut self, sets: &[u64]) -> Vec<u64> {
         let mut sets = sets.to_vec();
         for _ in 0..=self.below(3) {
@@ -54,13 +61,13 @@ impl Random {
             match self.below(10) {
                 0..=2 => sets[at] ^= self.drive(),
                 3 | 4 => sets[at] ^= self.drive() | self.drive(),
-                5 if sets.len() > 1 => drop(sets.swap_remove(at)),
-                6 | 7 => sets.push(sets[at] ^ self.drive() ^ self.drive()),
+                5 => drop(sets.swap_remove(at)),
+                6 | 7 => sets.push(sets[at] & !self.member(sets[at]) | self.drive()),
                 8 => {
                     let mask = self.next();
                     sets.push(sets[at] & mask | sets[other] & !mask);
                 }
-                _ => sets.push(sets[at] | sets[other]),
+                _ => sets.push(sets[at] & sets[other]),
             }
             sets = kept(sets, self);
         }
@@ -71,7 +78,9 @@ impl Random {
 /// The normal table of those that are not empty, at most 128.
 fn kept(mut sets: Vec<u64>, random: &mut Random) -> Vec<u64> {
     sets.retain(|set| *set != 0);
-    sets.push(if sets.is_empty() { 1 } else { sets[0] });
+    if sets.is_empty() {
+        sets.push(1);
+    }
     let mut sets = tables::normal(&sets);
     while sets.len() > MOST_SETS {
         sets.swap_remove(random.below(sets.len()));
@@ -95,11 +104,11 @@ fn climb(start: Vec<u64>, seconds: f64, random: &mut Random) -> (Score, Vec<u64>
 }
 
 pub fn main(mut arguments: impl Iterator<Item = String>) {
-    let seconds: f64 = arguments.next().and_then(|seconds| seconds.parse().ok()).unwrap_or(120.0);
+    let seconds: f64 = arguments.next().and_then(|seconds| seconds.parse().ok()).unwrap_or(SECONDS);
     let seed: u64 = arguments.next().and_then(|seed| seed.parse().ok()).unwrap_or(1);
     let mut random = Random(seed.wrapping_mul(0x9e37_79b9_7f4a_7c15) | 1);
     let mut starts: Vec<(String, Vec<u64>)> = inputs::hard_tables().into_iter().map(|table| (table.name, tables::normal(&table.sets))).collect();
-    starts.extend((1..=STARTS).map(|number| (format!("random {number}"), random.table())));
+    starts.extend((1..=RANDOM_STARTS).map(|number| (format!("random {number}"), random.table())));
     let each = seconds / starts.len() as f64;
     let mut worst: Option<(Score, Vec<u64>)> = None;
     for (name, start) in starts {
@@ -108,8 +117,8 @@ pub fn main(mut arguments: impl Iterator<Item = String>) {
         let clock = Instant::now();
         let answer = library::cores(DRIVES, &found.1, &mut cores);
         let milliseconds = clock.elapsed().as_secs_f64() * 1e3;
-        let ((turn, left), sets) = (found.0, found.1.len());
-        println!("{name:<30} turn {turn:>3} left {:>8} sets {sets:>3} answer {answer:>10} {milliseconds:>8.2} ms", -left);
+        let ((turn, Reverse(left)), sets) = (found.0, found.1.len());
+        println!("{name:<30} turn {turn:>3} left {left:>8} sets {sets:>3} answer {answer:>10} {milliseconds:>8.2} ms");
         worst = worst.max(Some(found));
     }
     let worst = worst.expect("a start").1;

@@ -38,7 +38,9 @@ pub fn one_of_each_pair(shared: bool) -> Input {
 pub fn hard_tables() -> Vec<Input> {
     let mut tables: Vec<Input> = std::fs::read_dir("bench/tables")
         .expect("run from the top of the repository")
-        .map(|entry| read(&entry.expect("an entry").path()))
+        .map(|entry| entry.expect("an entry").path())
+        .filter(|path| path.extension().is_some_and(|ending| ending == "table"))
+        .map(|path| read(&path))
         .collect();
     tables.sort_by(|left, right| left.name.cmp(&right.name));
     tables

@@ -2,10 +2,11 @@
 
 use crate::inputs::{Start, OWN_NUMBER};
 
-/// How far the search for cores had to go: a later turn is more, and less fuel left in it.
+/// How many cores the search found, and how far it had to go: its turn, and the fuel then left.
 #[repr(C)]
 #[derive(Clone, Copy)]
 pub struct Effort {
+    pub found: u64,
     pub turn: u64,
     pub left: u64,
 }

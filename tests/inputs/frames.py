@@ -1,11 +1,14 @@
-"""Families of tables: random, thresholds, clusters, products, chains.
+"""Families of tables: random, thresholds, clusters, products, chains, and hard ones.
 
-All but `crowded_table` stay within the limits, with few exceptions.
+All but `crowded_table` and some of `hard_frames` stay within the limits, with
+few exceptions.
 """
 
 from itertools import combinations, product
 from math import comb, prod
+from pathlib import Path
 from random import Random
+from typing import Iterator
 
 MAX_DRIVES = 64
 MAX_SETS = 128
@@ -194,3 +197,41 @@ def crowded_table(rng: Random) -> Frame:
         (24, [group(rng, 24, 8) for _ in range(60)]),
     ))
     return scatter(rng, found)
+
+
+# Tables on which the search for cores goes far
+
+BENCH_TABLES = Path(__file__).resolve().parent.parent.parent / "bench" / "tables"
+
+
+def listed(data: bytes) -> Frame:
+    """The drives and sets of a table's bytes."""
+    return data[2], [int.from_bytes(data[place + 2:place + 10], "little")
+                     for place in range(3, len(data) - 3, 10)]
+
+
+def copies(pairs: list[tuple[int, int]], width: int, count: int) -> Frame:
+    """Sets of two drives, repeated on further drives."""
+    return width * count, [(1 << low | 1 << high) << width * number
+                           for number in range(count) for low, high in pairs]
+
+
+def renamed(rng: Random, frame: Frame) -> Frame:
+    """The same with other numbers for the drives."""
+    n, sets = frame
+    names = rng.sample(range(n), n)
+    return n, [sum(1 << names[place] for place in range(n) if mask >> place & 1)
+               for mask in sets]
+
+
+def hard_frames() -> Iterator[Frame]:
+    """Those of the bench, complete bipartite graphs side by side, and bands."""
+    for path in sorted(BENCH_TABLES.glob("*.table")):
+        yield listed(path.read_bytes())
+    rng = Random(1)
+    for side, reach, count in ((2, 2, 10), (3, 3, 10), (4, 4, 8),
+                               (18, 3, 1), (20, 3, 1), (24, 2, 1)):
+        pairs = [(low, side + high) for low, high in product(range(side), repeat=2)
+                 if abs(low - high) <= reach]
+        whole = copies(pairs, 2 * side, count)
+        yield from (whole, renamed(rng, whole))

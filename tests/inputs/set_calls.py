@@ -10,7 +10,7 @@ from typing import Iterator
 from regdulyn import Refusal, cores, write_table
 
 from .calls import Script
-from .frames import MAX_CORES, MAX_SETS, Frame, accepted_table, crowded_table, full
+from .frames import MAX_CORES, MAX_SETS, Frame, accepted_table, crowded_table, full, hard_frames
 
 BUFFER = 1536
 NO_BLOCK_COUNTS = (0, 1, 5, 6, 255)
@@ -92,7 +92,23 @@ def back_limits(script: Script) -> None:
         script.back(3, groups)
 
 
-LIMITS = (table_limits, group_limits, verdict_limits, writer_limits, back_limits)
+def table_cores(n: int, sets: list[int]) -> list[int]:
+    """None where the table is refused."""
+    try:
+        return cores(n, sets)
+    except Refusal:
+        return []
+
+
+def hard_groups(script: Script) -> None:
+    """Back of the cores of tables on which the search goes far; where these are
+    too many for the reference, of their sets."""
+    for n, sets in hard_frames():
+        groups = table_cores(n, sets)
+        script.back(n, groups if 0 < len(groups) <= 512 else sets)
+
+
+LIMITS = (table_limits, group_limits, verdict_limits, writer_limits, back_limits, hard_groups)
 
 
 # Random ones
@@ -113,14 +129,6 @@ def refused_table(rng: Random) -> Frame:
     else:
         n, sets = crowded_table(rng)
     return n, sets
-
-
-def table_cores(n: int, sets: list[int]) -> list[int]:
-    """None where the table is refused."""
-    try:
-        return cores(n, sets)
-    except Refusal:
-        return []
 
 
 def odd_write(rng: Random, script: Script, n: int, sets: list[int]) -> None:

@@ -11,6 +11,7 @@ pub mod Bits
 pub mod Laws
 pub mod Outside
 pub mod Sizes
+pub mod Lowest
 pub mod OneDrive
 pub mod Frames
 pub mod Tests

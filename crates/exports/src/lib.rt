@@ -1,7 +1,10 @@
-// Calls of the library for programs in Rust or C: numbers and slices in, one number out. A slice passes as a pointer and a length. A refusal is
+// Calls of the library for programs in Rust or C: numbers and slices in, one number out, or three for the search's effort. A slice passes as a pointer and a length. A refusal is
 // its number above 2 ^ 32. A state cannot pass so: `regdulyn_deliver`, `regdulyn_send` and `regdulyn_close` open an exchange, make a row of calls
 // on it and count those that are accepted, for timing.
 ghost use mathlib.Core.Path.{_≡_};
+ghost use Prim.Native.Nat.{min};
+ghost use lib.ListN.{length};
+ghost use Rattle.hitting_sets.specs.Hitting.{minimals};
 ghost use Rattle.drive_sets.specs.Refusals.{andThen};
 ghost use Rattle.tables.specs.Tables.{coreList};
 ghost use Rattle.tables.specs.Files.{writeTable};
@@ -13,6 +16,7 @@ ghost use Rattle.exports.specs.Codes.{codeOf, countOf, fitting, listAfte
 ghost use Rattle.exports.specs.Deliveries.{delivered, closed, sent, sentBytes};
 use drive_sets::Drive;
 use drive_sets::Pattern;
+use hitting_sets::MAX_CORES;
 use hitting_sets::sorting::Order;
 use tables::reading::Answer;
 use tables::writing::Writing;
@@ -36,19 +40,24 @@ pub extern "C" fn regdulyn_cores(n: u8, sets: &[u64], out: &mut [u64]) -> u64
     }
 }
 
-// How far the search for cores has to go: the turn in which it ends and the fuel that is then left, for tests of its worst case. Both are left
-// free: they decide no result.
+// How many cores some sets have, 1025 for more than 1024; and how far the search for them has to go, for tests of its worst case: its turn, and the
+// fuel then left.
 #[repr(C)]
 pub struct Effort {
+    pub found: u64,
     pub turn: u64,
     pub left: u64,
 }
 
+// `turn` and `left` are free, since they decide no result.
 #[no_mangle]
-pub extern "C" fn regdulyn_search_effort(sets: &[u64]) -> Effort {
-    let mut cores = [0u64; 1024];
+pub extern "C" fn regdulyn_search_effort(sets: &[u64]) -> Effort
+    ensures { λ r. ⌜ r .found ≡ min 1025 (length (minimals (now (sets .entry)))) ⌝ }
+{
+    let mut cores = [0u64; MAX_CORES];
     let r = hitting_sets::finding::find_measured(Order::BySize, sets, &mut cores);
     Effort {
+        found: r.found as u64,
         turn: r.turn as u64,
         left: r.left as u64,
     }

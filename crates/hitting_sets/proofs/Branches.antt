@@ -33,8 +33,8 @@ module _ (sets : List ℕ) (i m : ℕ) (words : (k : ℕ) → getD sets k 0 < 2 
   below-now : Below 64 (take i sets ++ (s ∷ []))
   below-now = subst (Below 64) now-is (below-left 64 (take (i + 1) sets) (drop (i + 1) sets) (subst (Below 64) (sym (take-append-drop (i + 1) sets)) (below-places 64 sets words)))
 
-  pub not-barred : (bar r : ℕ) → bar ≡ barred (take (i - 0) sets) m (drives m) → r ≡ minus s bar → Candidates sets i m r
-  not-barred bar r p q = subst (Candidates sets i m) (sym (q ∙ ap (minus s) (p ∙ ap (λ (k : ℕ). barred (take k sets) m (drives m)) (sub-zero i)))) (record {
+  pub free-candidates : (bar r : ℕ) → bar ≡ barred (take (i - 0) sets) m (drives m) → r ≡ minus s bar → Candidates sets i m r
+  free-candidates bar r p q = subst (Candidates sets i m) (sym (q ∙ ap (minus s) (p ∙ ap (λ (k : ℕ). barred (take k sets) m (drives m)) (sub-zero i)))) (record {
     listed = ap (λ (l : List ℕ). search (take i sets) l m) (drop-cons sets i 0 inside)
         ∙ (search-free (take i sets) s m below-now min missed (drop (suc i) sets)
         ∙ ap₂ (λ (l k : List ℕ). forEach (search l k) m (drives (minus s (barred (take i sets) m (drives m))))) (sym now-is) (ap (λ (k : ℕ). drop k sets) (sym (add-one i))));
@@ -45,9 +45,9 @@ module _ (sets : List ℕ) (i m : ℕ) (words : (k : ℕ) → getD sets k 0 < 2 
         (not-true (has d (barred (take i sets) m (drives m))) (and-right (has d s) (not (has d (barred (take i sets) m (drives m)))) both)));
   })
 
-  pub none-doomed : doomed sets m ≡ true → Candidates sets i m 0
+  pub doomed-candidates : doomed sets m ≡ true → Candidates sets i m 0
   unfolding forEach
-  none-doomed h = record {
+  doomed-candidates h = record {
     listed = doomed-search (take i sets) (drop i sets) m below min (ap (λ (l : List ℕ). doomed l m) (take-append-drop i sets) ∙ h)
         ∙ sym (ap (forEach (search (take (i + 1) sets) (drop (i + 1) sets)) m) drives-none);
     minimal = λ d e. absurd (clash e (has-none d));

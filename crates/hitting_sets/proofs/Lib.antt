@@ -14,3 +14,4 @@ pub mod Keeping
 pub mod Merges
 pub mod Orders
 pub mod Rearranging
+pub mod Turns

@@ -39,7 +39,7 @@ module _ (sets : List ℕ) (m pos i : ℕ) (f : FirstMissed sets pos m i) (e : i
     more = omega arith;
     some = omega (arith, ap length only);
     ended = λ _. filled;
-    endless = λ _. refl;
+    unspent = λ _. refl;
     behind = λ k h. drop-set-lt k out count m (omega arith);
   })
 
@@ -54,7 +54,7 @@ pub record Trying (limited : Bool) (fuel : ℕ) (sets : List ℕ) (m pos i : ℕ
   pub room : length out ≡ length out₀
   pub some : found + length (Each sets i m (drives rest)) ≤ count + length (From sets m pos)
   pub whole : 0 < left → (o' : List ℕ) (r : ℕ) → Filled out o' found r (Each sets i m (drives rest)) → Filled out₀ o' count r (From sets m pos)
-  pub endless : limited ≡ false → left ≡ fuel
+  pub unspent : limited ≡ false → left ≡ fuel
   pub behind : (k : ℕ) → found ≤ k → drop k out ≡ drop k out₀
 
 pub try-start : {limited : Bool} {sets : List ℕ} {m pos i : ℕ} (out : List ℕ) {count left rest : ℕ} → FirstMissed sets pos m i → Candidates sets i m rest → rest < 2 ^ 64
@@ -69,7 +69,7 @@ try-start {sets = sets} {m = m} {pos = pos} {i = i} out f c w le =
       room = refl;
       some = omega (arith, ap length same);
       whole = λ _ o' r g. filled-same same g;
-      endless = λ _. refl;
+      unspent = λ _. refl;
       behind = λ k h. refl;
     }
 
@@ -96,7 +96,7 @@ module _ {limited : Bool} {fuel : ℕ} {sets : List ℕ} {m pos i : ℕ} {out₀
         room = l ∙ y .room;
         some = omega (arith, y .some, s .some, ap length lists, length-append (From sets t (i + 1)) (Each sets i m (drives next)));
         whole = λ lt' o' r h. y .whole lt o' r (filled-same lists (filled-then out o o' found found' r (From sets t (i + 1)) (Each sets i m (drives next)) l (s .ended lt') h));
-        endless = λ e. s .endless e ∙ y .endless e;
+        unspent = λ e. s .unspent e ∙ y .unspent e;
         behind = λ k h. s .behind k h ∙ y .behind k (omega (arith, s .more));
       }
 
@@ -108,7 +108,7 @@ module _ {limited : Bool} {fuel : ℕ} {sets : List ℕ} {m pos i : ℕ} {out₀
       more = y .more;
       some = omega (arith, y .some);
       ended = all;
-      endless = y .endless;
+      unspent = y .unspent;
       behind = y .behind;
     }
 
@@ -141,6 +141,6 @@ searched-from {limited} {fuel} {out = out} {out' = out'} {found = found} {left =
       more = s .more;
       some = s .some;
       ended = s .ended;
-      endless = λ u. s .endless u ∙ f u;
+      unspent = λ u. s .unspent u ∙ f u;
       behind = s .behind;
     })

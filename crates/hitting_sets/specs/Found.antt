@@ -1,8 +1,8 @@
--- The minimal hitting sets in the first places of a slice, in an order.
+-- The minimal hitting sets in the first places of a slice, in an order; and what a search that may give up leaves there.
 use mathlib.Core.Path.{_≡_}
-use mathlib.Core.Bool.{Bool, true, false}
+use mathlib.Core.Bool.{Bool, true}
 use mathlib.Core.List.{List}
-use Prim.Native.Nat.{ℕ, suc, _≤_, _<_, min}
+use Prim.Native.Nat.{ℕ, suc, _≤_, min}
 use lib.ListN.{length, take, drop}
 use Rattle.drive_sets.specs.Lists.{times}
 use Rattle.hitting_sets.specs.Hitting.{minimals}
@@ -16,9 +16,7 @@ pub record Found (before : ℕ → ℕ → Bool) (sets out out' : List ℕ) (r :
   pub listed : r ≤ length out → r ≤ 1024 → take r out' ≡ sort before (minimals sets)
   pub behind : drop r out' ≡ drop r out
 
--- A search that may give up: where it is done they are found, and without a limit it is done. No place behind as many as there are has
--- changed, done or not.
-pub record Attempted (limited : Bool) (fuel : ℕ) (before : ℕ → ℕ → Bool) (sets out out' : List ℕ) (done : Bool) (r : ℕ) : Type 0 where
+-- A search that may give up: where it is done they are found. No place behind as many as there are has changed, done or not.
+pub record Attempted (before : ℕ → ℕ → Bool) (sets out out' : List ℕ) (done : Bool) (r : ℕ) : Type 0 where
   pub ended : done ≡ true → Found before sets out out' r
-  pub endless : limited ≡ false → 0 < fuel → done ≡ true
   pub behind : (k : ℕ) → length (minimals sets) ≤ k → drop k out' ≡ drop k out

@@ -1,8 +1,8 @@
-// All minimal hitting sets, each once, in an order. For every order of the sets and every rule there is a table made against it, so that a
+// All minimal hitting sets, each once, in an order. Against each order of the sets and each rule that was tried there is a table made, so that a
 // search with little fuel is followed by others, in other orders and by other rules, with more and more fuel.
 ghost use mathlib.Core.Path.{_≡_};
 ghost use mathlib.Core.Bool.{true, false};
-ghost use Prim.Native.Nat.{_≤_};
+ghost use Prim.Native.Nat.{_≤_, _<_};
 ghost use Rattle.hitting_sets.specs.Found.{Found, Attempted};
 ghost use Rattle.hitting_sets.specs.Order.{precedes, Permuted};
 use crate::MAX_CORES;
@@ -14,7 +14,8 @@ use crate::slices;
 use crate::sorting;
 use crate::sorting::Order;
 
-// A search that may give up: whether it is done and how many are found; and, for measuring, in which turn, and the fuel that was left.
+// A search that may give up: whether it is done and how many are found; and, for measuring, its turn, 0 for the first search, and the fuel
+// that it left.
 pub struct Attempt {
     pub done: bool,
     pub found: usize,
@@ -22,8 +23,9 @@ pub struct Attempt {
     pub left: usize,
 }
 
+// The search of this turn is not done.
 fn given_up(turn: usize) -> Attempt
-    ensures { λ r. ⌜ (r .done ≡ false) × (r .found ≡ 0) ⌝ }
+    ensures { λ r. ⌜ r .done ≡ false ⌝ }
 {
     Attempt {
         done: false,
@@ -43,7 +45,8 @@ fn search_once(
     fuel: usize,
     ends: &mut [u64],
 ) -> Attempt
-    ensures { λ r. ⌜ Attempted (way .limited) fuel (precedes order) (now (sets .entry)) (now (out .entry)) (now (out .exit)) (r .done) (r .found) ⌝ }
+    ensures { λ r. ⌜ Attempted (precedes order) (now (sets .entry)) (now (out .entry)) (now (out .exit)) (r .done) (r .found) ⌝ }
+    ensures { λ r. ⌜ (way .limited ≡ false → 0 < fuel → r .done ≡ true) ⌝ }
 {
     dead_ends::clear(ends);
     let tally = search::minimal_hitting_sets(way, sets, out, fuel, ends);
@@ -69,10 +72,19 @@ fn search_once(
     }
 }
 
-// The turns of a round: each of three orders, and after two of them the dead ends first, the last time with look-ahead.
+// The turns of a round: level order; twice the dead ends first; by size; the dead ends first, twice and then once with look-ahead; by mask.
 const ROUND: usize = 8;
 
-const ROUNDS: usize = 16;
+const BY_LEVEL: usize = 0;
+
+const BY_SIZE: usize = 3;
+
+const LOOKING_AHEAD: usize = 6;
+
+const BY_MASK: usize = 7;
+
+// Sixteen rounds: so many that no search is known to come to their end.
+const TURNS: usize = 16 * ROUND;
 
 // The sets put into the order of this turn.
 fn arrange(turn: usize, sets: &mut [u64], ends: &[u64])
@@ -80,39 +92,44 @@ fn arrange(turn: usize, sets: &mut [u64], ends: &[u64])
 {
     let n = sets.len();
     match turn % ROUND {
-        0 => levels::level_order(sets),
-        3 => sorting::sort(Order::BySize, sets, n),
-        7 => sorting::sort(Order::ByMask, sets, n),
+        BY_LEVEL => levels::level_order(sets),
+        BY_SIZE => sorting::sort(Order::BySize, sets, n),
+        BY_MASK => sorting::sort(Order::ByMask, sets, n),
         _ => dead_ends::put_first(sets, ends),
     }
 }
 
-// Half a millisecond of work or less, by the sets that a branching looks at.
+// A fraction of a millisecond, by the sets that branchings look at.
 const WORK: usize = 250_000;
 
+// What a branching takes beside looking at sets, in sets.
+const OTHER_WORK: usize = 16;
+
+// Fuel does not grow above this, so that its multiples are numbers.
 const MOST_FUEL: usize = 0x1_0000_0000;
 
-// The fuel for so much work on n sets, and for one branching at each of them.
+// The fuel for so much work on n sets, and for one branching at each of them; hardly any where they are too many to be copied.
 fn fuel_for(work: usize, n: usize) -> usize
     requires { ⌜ work ≤ 250000 ⌝ }
 {
     if MAX_CORES < n {
         return 1;
     }
-    work / (n + 16) + n
+    work / (n + OTHER_WORK) + n
 }
 
-// The fuel of a turn: level order, which most often does best, has as much as the other turns of its round together.
+// The fuel of a turn: level order and look-ahead, which most often do best, have four times that of the others.
 fn fuel_of(turn: usize, fuel: usize) -> usize {
-    if fuel < MOST_FUEL && turn % ROUND == 0 {
-        return ROUND * fuel;
+    let place = turn % ROUND;
+    if fuel < MOST_FUEL && (place == BY_LEVEL || place == LOOKING_AHEAD) {
+        return 4 * fuel;
     }
     fuel
 }
 
 // Each round has twice the fuel of the one before; the last turn of a round has that of the next.
 fn next_fuel(turn: usize, fuel: usize) -> usize {
-    if fuel < MOST_FUEL && turn % ROUND == 6 {
+    if fuel < MOST_FUEL && turn % ROUND == LOOKING_AHEAD {
         return 2 * fuel;
     }
     fuel
@@ -120,14 +137,14 @@ fn next_fuel(turn: usize, fuel: usize) -> usize {
 
 // Turn after turn, until a search is done.
 fn in_turns(order: Order, sets: &mut [u64], out: &mut [u64], ends: &mut [u64]) -> Attempt
-    ensures { λ r. ⌜ Attempted true 0 (precedes order) (now (sets .entry)) (now (out .entry)) (now (out .exit)) (r .done) (r .found) ⌝ }
+    ensures { λ r. ⌜ Attempted (precedes order) (now (sets .entry)) (now (out .entry)) (now (out .exit)) (r .done) (r .found) ⌝ }
 {
     let mut fuel = fuel_for(WORK, sets.len());
     let mut turn = 0;
-    while turn < ROUND * ROUNDS {
+    while turn < TURNS {
         arrange(turn, sets, ends);
         let way = Way {
-            look_ahead: turn % ROUND == 6,
+            look_ahead: turn % ROUND == LOOKING_AHEAD,
             limited: true,
         };
         let tried = search_once(turn + 1, way, order, sets, out, fuel_of(turn, fuel), ends);
@@ -140,20 +157,20 @@ fn in_turns(order: Order, sets: &mut [u64], out: &mut [u64], ends: &mut [u64]) -
     given_up(turn)
 }
 
-// The turns on a copy of the sets, of which there is one of up to 1024 of them.
+// The turns on a copy of the sets, where they are at most 1024.
 fn search_again(order: Order, sets: &[u64], out: &mut [u64], ends: &mut [u64]) -> Attempt
-    ensures { λ r. ⌜ Attempted true 0 (precedes order) (now (sets .entry)) (now (out .entry)) (now (out .exit)) (r .done) (r .found) ⌝ }
+    ensures { λ r. ⌜ Attempted (precedes order) (now (sets .entry)) (now (out .entry)) (now (out .exit)) (r .done) (r .found) ⌝ }
 {
     let n = sets.len();
     if MAX_CORES < n {
-        return given_up(0);
+        return given_up(TURNS);
     }
     let mut ordered = [0u64; MAX_CORES];
     slices::copy(sets, &mut ordered);
     in_turns(order, &mut ordered[0..n], out, ends)
 }
 
-// The same as `find`, with how far the search had to go.
+// The same as `find`, with how far the search had to go: `turn` and `left` are free, since they decide no result.
 pub fn find_measured(order: Order, sets: &[u64], out: &mut [u64]) -> Attempt
     ensures { λ r. ⌜ Found (precedes order) (now (sets .entry)) (now (out .entry)) (now (out .exit)) (r .found) ⌝ }
 {
@@ -171,11 +188,11 @@ pub fn find_measured(order: Order, sets: &[u64], out: &mut [u64]) -> Attempt
     if later.done {
         return later;
     }
-    let endless = Way {
+    let unlimited = Way {
         look_ahead: true,
         limited: false,
     };
-    search_once(later.turn, endless, order, sets, out, 1, &mut ends)
+    search_once(TURNS + 1, unlimited, order, sets, out, 1, &mut ends)
 }
 
 // The minimal hitting sets of the sets in the first places of out, as many as the result says; one more than the room says that there

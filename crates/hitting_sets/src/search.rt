@@ -141,7 +141,7 @@ fn candidates(look_ahead: bool, sets: &[u64], next: usize, m: u64) -> u64
     drive_sets::minus(sets[next], barred(&sets[0..next], m))
 }
 
-// How a search goes: with look-ahead or without, and whether its fuel is spent.
+// How a search goes: with look-ahead or without, and whether it spends fuel.
 pub(crate) struct Way {
     pub look_ahead: bool,
     pub limited: bool,
@@ -153,20 +153,12 @@ pub(crate) struct Tally {
     pub left: usize,
 }
 
-// What a branching takes of the fuel: with look-ahead it costs as much as so many without.
-const LOOK_AHEAD_COST: usize = 8;
-
 // The fuel after one branching more.
 fn spend(way: Way, tally: Tally) -> Tally
     ensures { λ r. ⌜ (r .found ≡ tally .found) × (way .limited ≡ false → r .left ≡ tally .left) ⌝ }
 {
     if way.limited {
-        let cost = if way.look_ahead { LOOK_AHEAD_COST } else { 1 };
-        let left = if cost < tally.left {
-            tally.left - cost
-        } else {
-            0
-        };
+        let left = if 0 < tally.left { tally.left - 1 } else { 0 };
         return Tally {
             found: tally.found,
             left,
@@ -220,14 +212,14 @@ fn search_from(
     let look_ahead = way.look_ahead;
     let mut rest = candidates(look_ahead, sets, next, m);
     dead_ends::note(ends, next, rest);
-    let mut now = spend(way, tally);
-    while rest != 0 && goes_on(now, room) {
+    let mut so_far = spend(way, tally);
+    while rest != 0 && goes_on(so_far, room) {
         let d = drive_sets::lowest(rest);
         let t = drive_sets::insert(m, d);
-        now = search_from(way, sets, next + 1, t, out, now, ends);
+        so_far = search_from(way, sets, next + 1, t, out, so_far, ends);
         rest = drive_sets::without_lowest(rest);
     }
-    now
+    so_far
 }
 
 // The minimal hitting sets of the sets, each once, in the search's order: into `out`, as long as there is room, and their number; one

@@ -4,7 +4,8 @@ use Prim.Native.Nat.{ℕ}
 use lib.Dec.{eqb}
 use borrow.Author.Needs.{needs}
 use Rattle.drive_sets.specs.Masks.{size}
-use Rattle.drive_sets.specs.Masks.Sizes.{size-none, one-cleared}
+use Rattle.drive_sets.specs.Masks.Sizes.{size-none}
+use Rattle.drive_sets.specs.Masks.Lowest.{one-cleared}
 use Rattle.drive_sets.proofs.is_single.Statement.{statement}
 use Rattle.drive_sets.proofs.is_single.Tie as tie
 

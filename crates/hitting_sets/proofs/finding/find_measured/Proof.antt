@@ -2,33 +2,31 @@
 use mathlib.Core.Path.{refl}
 use native.Mathlib.Omega.{arith}
 use borrow.Author.Needs.{needs}
-use Rattle.drive_sets.specs.Bools.{clash}
 use Rattle.hitting_sets.specs.Order.Strict.{precedes-strict}
 use Rattle.hitting_sets.specs.Hitting.Laws.{below-places}
-use Rattle.hitting_sets.proofs.Finds.{turning-start, turn-tried, turn-again}
+use Rattle.hitting_sets.proofs.Turns.{turning-start, turn-tried, turn-again}
 use Rattle.hitting_sets.proofs.finding.find_measured.Statement.{statement}
 use Rattle.hitting_sets.proofs.finding.find_measured.Tie as tie
 
 returns : tie.Need-returns
-returns c = c .before .before .before .before .search-once .ensures .ended (c .if1 .taken)
+returns c = c .before .before .before .before .search-once .ensures .0 .ended (c .if1 .taken)
 
 returns-2 : tie.Need-returns-2
 returns-2 c =
     let below = below-places 64 _ (λ k. c .before .before .before .before .before .before .before .before .before .before .before .before .before .before .before .before .shared-slice-known .given k .fits) in
-    let first = turn-again _ (turning-start _ _) (precedes-strict _) below (λ x. refl) (search needs) (c .before .before .before .before .before .before .before .before .before .before .before .search-once .ensures) (λ u. absurd (clash refl u)) in
-    turn-tried _ first (precedes-strict _) below (λ x. refl) (search needs) (c .before .before .before .before .search-again .ensures) (λ u. absurd (clash refl u)) {first = 0} .ended (c .if2 .taken)
+    let first = turn-again _ (turning-start _ _) (precedes-strict _) below (λ x. refl) (search needs) (c .before .before .before .before .before .before .before .before .before .before .before .search-once .ensures .0) in
+    turn-tried _ first (precedes-strict _) below (λ x. refl) (search needs) (c .before .before .before .before .search-again .ensures) .ended (c .if2 .taken)
 
 returns-3 : tie.Need-returns-3
 returns-3 c =
     let below = below-places 64 _ (λ k. c .before .before .before .before .before .before .before .before .before .before .before .before .before .before .before .before .before .before .before .before .before .before .shared-slice-known .given k .fits) in
-    let first = turn-again _ (turning-start _ _) (precedes-strict _) below (λ x. refl) (search needs) (c .before .before .before .before .before .before .before .before .before .before .before .before .before .before .before .before .before .search-once .ensures) (λ u. absurd (clash refl u)) in
-    let later = turn-again _ first (precedes-strict _) below (λ x. refl) (search needs) (c .before .before .before .before .before .before .before .before .before .before .search-again .ensures) (λ u. absurd (clash refl u)) in
-    let last = turn-tried _ later (precedes-strict _) below (λ x. refl) (search needs) (c .before .before .before .search-once2 .ensures) (λ u. omega arith) {first = 1} in
-    last .ended (last .endless refl (omega arith))
+    let first = turn-again _ (turning-start _ _) (precedes-strict _) below (λ x. refl) (search needs) (c .before .before .before .before .before .before .before .before .before .before .before .before .before .before .before .before .before .search-once .ensures .0) in
+    let later = turn-again _ first (precedes-strict _) below (λ x. refl) (search needs) (c .before .before .before .before .before .before .before .before .before .before .search-again .ensures) in
+    turn-tried _ later (precedes-strict _) below (λ x. refl) (search needs) (c .before .before .before .search-once2 .ensures .0) .ended (c .before .before .before .search-once2 .ensures .1 refl (omega arith))
 
 pub find-measured-spec : {M : Type 1} → statement M
 find-measured-spec =
     tie.close
     (tie.spec
     (λ c κs. search needs) (λ c. search needs) (λ c κs. search needs) (λ c. search needs) returns (λ c. search needs) (λ c κs. search needs)
-    (λ c. search needs) returns-2 (λ c. search needs) (λ c κs. search needs) (λ c. search needs) returns-3)
+    (λ c. search needs) returns-2 (λ c. search needs) (λ c. search needs) (λ c κs. search needs) (λ c. search needs) returns-3)

@@ -2,12 +2,12 @@
 use native.Mathlib.Omega.{arith}
 use lib.ListN.{replicate}
 use borrow.Author.Needs.{needs}
-use Rattle.hitting_sets.proofs.Finds.{turning-start, turns-over, tried-copy}
+use Rattle.hitting_sets.proofs.Turns.{turning-start, turns-over, tried-copy}
 use Rattle.hitting_sets.proofs.finding.search_again.Statement.{statement}
 use Rattle.hitting_sets.proofs.finding.search_again.Tie as tie
 
 returns : tie.Need-returns
-returns c = turns-over _ (turning-start _ _) (c .given-up .ensures .0)
+returns c = turns-over _ (turning-start _ _) (c .given-up .ensures)
 
 returns-2 : tie.Need-returns-2
 returns-2 c = tried-copy (c .before .before .before .before .before .before .before .before .before .before .before .before .before .before .before .before .args .sets .now) (replicate 1024 0) _ (omega arith) (c .before .before .before .before .before .before .before .before .before .before .copy .ensures) (c .before .before .before .before .before .in-turns .ensures)

@@ -38,11 +38,11 @@ search-from-below t =
     and 3 search-from-kinds.ps (falls 3 search-from-kinds.ps _<_ μ-search-from t) search-from.Pre
 
 abbrev search-from-Inv-loop : search-from-lts.InvT-loop
-search-from-Inv-loop way sets pos m out₀ ends₀ room next look-ahead rest₀ now₀ out ends rest now =
-    Trying (way .limited) (now₀ .left) sets m pos next out₀ out (now₀ .found) (now .found) (now .left) rest × (length ends ≡ length ends₀)
+search-from-Inv-loop way sets pos m out₀ ends₀ room next look-ahead rest₀ so-far₀ out ends rest so-far =
+    Trying (way .limited) (so-far₀ .left) sets m pos next out₀ out (so-far₀ .found) (so-far .found) (so-far .left) rest × (length ends ≡ length ends₀)
 
 abbrev search-from-μ-loop : search-from-lts.MeasureT-loop
-search-from-μ-loop way sets pos m out₀ ends₀ room next look-ahead rest₀ now₀ out ends rest now = size rest
+search-from-μ-loop way sets pos m out₀ ends₀ room next look-ahead rest₀ so-far₀ out ends rest so-far = size rest
 
 abbrev K : ℕ → search-from-lts.Claims
 K t = (

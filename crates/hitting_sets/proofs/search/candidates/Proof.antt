@@ -1,7 +1,7 @@
 -- Where m is doomed there is none; else those that are not barred.
 use mathlib.Core.Path.{sym, _∙_}
 use borrow.Author.Needs.{needs}
-use Rattle.hitting_sets.proofs.Branches.{not-barred, none-doomed}
+use Rattle.hitting_sets.proofs.Branches.{free-candidates, doomed-candidates}
 use Rattle.hitting_sets.proofs.search.candidates.Statement.{statement}
 use Rattle.hitting_sets.proofs.search.candidates.Tie as tie
 
@@ -11,12 +11,12 @@ doomed-requires c κs = (search needs, c .before .before .pre .1 .all-met)
 returns : tie.Need-returns
 returns c =
     let start = c .before .before .before .before in
-    none-doomed (start .args .sets .now) (start .args .next) (start .args .m) (λ k. c .before .before .before .shared-slice-known .given k .fits) (start .pre .0) (start .pre .1) (start .pre .2) (sym (c .before .doomed .ensures) ∙ c .if2 .taken)
+    doomed-candidates (start .args .sets .now) (start .args .next) (start .args .m) (λ k. c .before .before .before .shared-slice-known .given k .fits) (start .pre .0) (start .pre .1) (start .pre .2) (sym (c .before .doomed .ensures) ∙ c .if2 .taken)
 
 returns-2 : tie.Need-returns-2
 returns-2 c =
     let start = c .before .before .before .before .before .before in
-    not-barred (start .args .sets .now) (start .args .next) (start .args .m) (λ k. c .before .before .before .before .before .shared-slice-known .given k .fits) (start .pre .0) (start .pre .1) (start .pre .2) _ _ (c .before .barred .ensures) (c .minus .ensures)
+    free-candidates (start .args .sets .now) (start .args .next) (start .args .m) (λ k. c .before .before .before .before .before .shared-slice-known .given k .fits) (start .pre .0) (start .pre .1) (start .pre .2) _ _ (c .before .barred .ensures) (c .minus .ensures)
 
 pub candidates-spec : {M : Type 1} → statement M
 candidates-spec =
