@@ -13,14 +13,10 @@ returns c = sym (ap full (c .if1 .taken))
 returns-2 : tie.Need-returns-2
 returns-2 c = full-above (c .before .before .args .n) (c .if2 .taken)
 
-cast-result : tie.Need-cast-result
-cast-result c = search needs
-
-shr-result : tie.Need-shr-result
-shr-result c = search needs
-
 returns-3 : tie.Need-returns-3
 returns-3 c = full-shift (c .before .before .args .n) (c .if2 .left)
 
 pub full-spec : {M : Type 1} → statement M
-full-spec = tie.close (tie.spec returns returns-2 cast-result shr-result returns-3)
+full-spec = tie.close
+    (tie.spec
+    returns returns-2 (λ c. search needs) (λ c. search needs) returns-3)

@@ -14,17 +14,10 @@ returns c = sym (ap (λ (d : ℕ). has d (c .before .args .m)) (c .if1 .taken))
 returns-2 : tie.Need-returns-2
 returns-2 c = has-above (c .before .before .args .d .0) (c .before .before .args .m) (c .before .before .fits .m .fits) (c .if2 .taken)
 
-sub-result : tie.Need-sub-result
-sub-result c = search needs
-
-cast-result : tie.Need-cast-result
-cast-result c = search needs
-
-shr-result : tie.Need-shr-result
-shr-result c = search needs
-
 returns-3 : tie.Need-returns-3
 returns-3 c = has-shift (c .before .before .args .d .0) (c .before .before .args .m) (c .before .if1 .left)
 
 pub has-spec : {M : Type 1} → statement M
-has-spec = tie.close (tie.spec returns returns-2 sub-result cast-result shr-result returns-3)
+has-spec = tie.close
+    (tie.spec
+    returns returns-2 (λ c. search needs) (λ c. search needs) (λ c. search needs) returns-3)

@@ -13,17 +13,10 @@ returns c = sym (ap single (c .if1 .taken))
 returns-2 : tie.Need-returns-2
 returns-2 c = single-above (c .before .before .args .d .0) (c .if2 .taken)
 
-sub-result : tie.Need-sub-result
-sub-result c = search needs
-
-cast-result : tie.Need-cast-result
-cast-result c = search needs
-
-shl-result : tie.Need-shl-result
-shl-result c = search needs
-
 returns-3 : tie.Need-returns-3
 returns-3 c = single-shift (c .before .before .args .d .0) (c .before .if1 .left) (c .if2 .left)
 
 pub single-spec : {M : Type 1} → statement M
-single-spec = tie.close (tie.spec returns returns-2 sub-result cast-result shl-result returns-3)
+single-spec = tie.close
+    (tie.spec
+    returns returns-2 (λ c. search needs) (λ c. search needs) (λ c. search needs) returns-3)

@@ -8,12 +8,6 @@ use borrow.Author.Needs.{needs}
 use Rattle.exchange.proofs.forgets_own.Statement.{statement}
 use Rattle.exchange.proofs.forgets_own.Tie as tie
 
-has-requires : tie.Need-has-requires
-has-requires c κs = search needs
-
-has-requires-2 : tie.Need-has-requires-2
-has-requires-2 c κs = search needs
-
 returns : tie.Need-returns
 unfolding common
 returns c = let a = c .before .before .before .args in ap not (c .has2 .ensures ∙ has-common (a .own .0) (a .known) (a .start)) ∙ and-second (has (a .own .0) (a .core)) (not (has (a .own .0) (a .known) && has (a .own .0) (a .start))) (sym (c .before .before .has .ensures) ∙ c .before .if1 .taken)
@@ -22,4 +16,6 @@ returns-2 : tie.Need-returns-2
 returns-2 c = let a = c .before .before .args in c .before .has .ensures ∙ and-first (has (a .own .0) (a .core)) (not (has (a .own .0) (a .known) && has (a .own .0) (a .start))) (sym (c .before .has .ensures) ∙ c .if1 .left)
 
 pub forgets-own-spec : {M : Type 1} → statement M
-forgets-own-spec = tie.close (tie.spec has-requires has-requires-2 returns returns-2)
+forgets-own-spec = tie.close
+    (tie.spec
+    (λ c κs. search needs) (λ c κs. search needs) returns returns-2)

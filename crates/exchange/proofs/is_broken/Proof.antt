@@ -10,43 +10,25 @@ use borrow.Author.Needs.{needs}
 use Rattle.exchange.proofs.is_broken.Statement.{statement}
 use Rattle.exchange.proofs.is_broken.Tie as tie
 
-is-frame-requires : tie.Need-is-frame-requires
-is-frame-requires c κs = search needs
-
 returns : tie.Need-returns
 unfolding broken inCore
 returns c = let x = c .before .before .before .before .args .x in frame-broken _ (isSet (x .n) (x .core)) (inCore x && not (has (x .own .0) (x .known) && has (x .own .0) (x .start))) (isDrive (x .n) (x .own .0)) (leb 1 (x .round .0) && leb (x .round .0) (size (x .core))) (subset (x .before) (x .core) && subset (x .heard) (x .core) && subset (x .known) (x .core) && subset (x .start) (x .core)) _ (c .before .is-frame .ensures) (c .if1 .taken)
-
-is-set-requires : tie.Need-is-set-requires
-is-set-requires c κs = search needs
 
 returns-2 : tie.Need-returns-2
 unfolding broken inCore
 returns-2 c = let x = c .before .before .before .before .before .before .args .x in core-broken (isFrame (x .n)) _ (inCore x && not (has (x .own .0) (x .known) && has (x .own .0) (x .start))) (isDrive (x .n) (x .own .0)) (leb 1 (x .round .0) && leb (x .round .0) (size (x .core))) (subset (x .before) (x .core) && subset (x .heard) (x .core) && subset (x .known) (x .core) && subset (x .start) (x .core)) _ (c .before .is-set .ensures) (c .if2 .taken)
 
-forgets-own-requires : tie.Need-forgets-own-requires
-forgets-own-requires c κs = search needs
-
 returns-3 : tie.Need-returns-3
 unfolding broken inCore
 returns-3 c = let x = c .before .before .before .before .before .before .before .before .args .x in own-broken (isFrame (x .n)) (isSet (x .n) (x .core)) _ (isDrive (x .n) (x .own .0)) (leb 1 (x .round .0) && leb (x .round .0) (size (x .core))) (subset (x .before) (x .core) && subset (x .heard) (x .core) && subset (x .known) (x .core) && subset (x .start) (x .core)) _ (c .before .forgets-own .ensures) (c .if3 .taken)
-
-is-drive-requires : tie.Need-is-drive-requires
-is-drive-requires c κs = search needs
 
 returns-4 : tie.Need-returns-4
 unfolding broken inCore
 returns-4 c = let x = c .before .before .before .before .before .before .before .before .before .before .args .x in drive-broken (isFrame (x .n)) (isSet (x .n) (x .core)) (inCore x && not (has (x .own .0) (x .known) && has (x .own .0) (x .start))) _ (leb 1 (x .round .0) && leb (x .round .0) (size (x .core))) (subset (x .before) (x .core) && subset (x .heard) (x .core) && subset (x .known) (x .core) && subset (x .start) (x .core)) _ (c .before .is-drive .ensures) (c .if4 .taken)
 
-is-round-requires : tie.Need-is-round-requires
-is-round-requires c κs = search needs
-
 returns-5 : tie.Need-returns-5
 unfolding broken inCore
 returns-5 c = let x = c .before .before .before .before .before .before .before .before .before .before .before .before .args .x in round-broken (isFrame (x .n)) (isSet (x .n) (x .core)) (inCore x && not (has (x .own .0) (x .known) && has (x .own .0) (x .start))) (isDrive (x .n) (x .own .0)) _ (subset (x .before) (x .core) && subset (x .heard) (x .core) && subset (x .known) (x .core) && subset (x .start) (x .core)) _ (c .before .is-round .ensures) (c .if5 .taken)
-
-all-inside-requires : tie.Need-all-inside-requires
-all-inside-requires c κs = search needs
 
 returns-6 : tie.Need-returns-6
 unfolding broken inCore
@@ -56,15 +38,5 @@ pub is-broken-spec : {M : Type 1} → statement M
 is-broken-spec =
     tie.close
     (tie.spec
-    is-frame-requires
-    returns
-    is-set-requires
-    returns-2
-    forgets-own-requires
-    returns-3
-    is-drive-requires
-    returns-4
-    is-round-requires
-    returns-5
-    all-inside-requires
-    returns-6)
+    (λ c κs. search needs) returns (λ c κs. search needs) returns-2 (λ c κs. search needs) returns-3 (λ c κs. search needs) returns-4
+    (λ c κs. search needs) returns-5 (λ c κs. search needs) returns-6)

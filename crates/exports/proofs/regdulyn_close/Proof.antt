@@ -9,24 +9,6 @@ use borrow.Author.Needs.{needs}
 use Rattle.exports.proofs.regdulyn_close.Statement.{statement}
 use Rattle.exports.proofs.regdulyn_close.Tie as tie
 
-open-requires : tie.Need-open-requires
-open-requires c κs = search needs
-
-enum-known-answer : tie.Need-enum-known-answer
-enum-known-answer c = search needs
-
-refusal-code-requires : tie.Need-refusal-code-requires
-refusal-code-requires c κs = search needs
-
-enum-told : tie.Need-enum-told
-enum-told c = search needs
-
-deliver-all-requires : tie.Need-deliver-all-requires
-deliver-all-requires c κs = search needs
-
-close-all-requires : tie.Need-close-all-requires
-close-all-requires c κs = search needs
-
 returns : tie.Need-returns
 unfolding closed
 returns c =
@@ -49,11 +31,5 @@ pub regdulyn-close-spec : {M : Type 1} → statement M
 regdulyn-close-spec =
     tie.close
     (tie.spec
-    open-requires
-    enum-known-answer
-    refusal-code-requires
-    enum-told
-    deliver-all-requires
-    close-all-requires
-    returns
+    (λ c κs. search needs) (λ c. search needs) (λ c κs. search needs) (λ c. search needs) (λ c κs. search needs) (λ c κs. search needs) returns
     returns-2)

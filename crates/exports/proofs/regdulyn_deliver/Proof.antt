@@ -8,21 +8,6 @@ use borrow.Author.Needs.{needs}
 use Rattle.exports.proofs.regdulyn_deliver.Statement.{statement}
 use Rattle.exports.proofs.regdulyn_deliver.Tie as tie
 
-open-requires : tie.Need-open-requires
-open-requires c κs = search needs
-
-enum-known-answer : tie.Need-enum-known-answer
-enum-known-answer c = search needs
-
-refusal-code-requires : tie.Need-refusal-code-requires
-refusal-code-requires c κs = search needs
-
-enum-told : tie.Need-enum-told
-enum-told c = search needs
-
-deliver-all-requires : tie.Need-deliver-all-requires
-deliver-all-requires c κs = search needs
-
 returns : tie.Need-returns
 unfolding delivered
 returns c =
@@ -45,10 +30,4 @@ pub regdulyn-deliver-spec : {M : Type 1} → statement M
 regdulyn-deliver-spec =
     tie.close
     (tie.spec
-    open-requires
-    enum-known-answer
-    refusal-code-requires
-    enum-told
-    deliver-all-requires
-    returns
-    returns-2)
+    (λ c κs. search needs) (λ c. search needs) (λ c κs. search needs) (λ c. search needs) (λ c κs. search needs) returns returns-2)

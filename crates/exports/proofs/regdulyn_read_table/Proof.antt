@@ -4,29 +4,8 @@ use borrow.Author.Needs.{needs}
 use Rattle.exports.proofs.regdulyn_read_table.Statement.{statement}
 use Rattle.exports.proofs.regdulyn_read_table.Tie as tie
 
-read-whole-requires : tie.Need-read-whole-requires
-read-whole-requires c κs = search needs
-
-enum-known-answer : tie.Need-enum-known-answer
-enum-known-answer c = search needs
-
-refusal-code-requires : tie.Need-refusal-code-requires
-refusal-code-requires c κs = search needs
-
-enum-told : tie.Need-enum-told
-enum-told c = search needs
-
-slice-aggregate-put-list : tie.Need-slice-aggregate-put-list
-slice-aggregate-put-list c = search needs
-
-put-list-requires : tie.Need-put-list-requires
-put-list-requires c κs = search needs
-
 returns : tie.Need-returns
 returns c = let a = c .before .before .before .before .before .before .before .before .before .before .args in told-refused _ _ (read-refused (c .before .before .before .before .before .before .before .read-whole .result) (a .s .now) (c .before .before .before .before .before .before .before .read-whole .ensures .0) _ (c .before .before .answer .given .1)) _ (a .out .now) (c .refusal-code .ensures)
-
-same-length : tie.Need-same-length
-same-length c = search needs
 
 returns-2 : tie.Need-returns-2
 returns-2 c = let a = c .before .before .before .before .before .before .before .before .before .before .before .before .before .args in told _ _ (read-listed (c .before .before .before .before .before .before .before .before .before .before .read-whole .result) (a .s .now) (c .before .before .before .before .before .before .before .before .before .before .read-whole .ensures .0) (c .before .before .before .before .before .enum-told .given .1)) _ (a .out .now) _ (c .before .before .put-list .ensures .0) (c .before .before .put-list .ensures .1)
@@ -35,12 +14,5 @@ pub regdulyn-read-table-spec : {M : Type 1} → statement M
 regdulyn-read-table-spec =
     tie.close
     (tie.spec
-    read-whole-requires
-    enum-known-answer
-    refusal-code-requires
-    enum-told
-    slice-aggregate-put-list
-    put-list-requires
-    returns
-    same-length
-    returns-2)
+    (λ c κs. search needs) (λ c. search needs) (λ c κs. search needs) (λ c. search needs) (λ c. search needs) (λ c κs. search needs) returns
+    (λ c. search needs) returns-2)

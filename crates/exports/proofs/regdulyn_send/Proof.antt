@@ -11,24 +11,6 @@ use borrow.Author.Needs.{needs}
 use Rattle.exports.proofs.regdulyn_send.Statement.{statement}
 use Rattle.exports.proofs.regdulyn_send.Tie as tie
 
-open-requires : tie.Need-open-requires
-open-requires c κs = search needs
-
-enum-known-answer : tie.Need-enum-known-answer
-enum-known-answer c = search needs
-
-refusal-code-requires : tie.Need-refusal-code-requires
-refusal-code-requires c κs = search needs
-
-enum-told : tie.Need-enum-told
-enum-told c = search needs
-
-close-round-requires : tie.Need-close-round-requires
-close-round-requires c κs = search needs
-
-send-all-requires : tie.Need-send-all-requires
-send-all-requires c κs = search needs
-
 returns : tie.Need-returns
 unfolding sent sentBytes
 returns c =
@@ -41,9 +23,6 @@ returns c =
       opened-as (a .n) (a .sets .now) (a .own) (a .number) (o .result) (o .ensures .answer) _ e codeOf (λ x. count (sender x)) _ (c .refusal-code .ensures),
       opened-as (a .n) (a .sets .now) (a .own) (a .number) (o .result) (o .ensures .answer) _ e (bufferAfter (a .out .now)) (λ x. lent (sender x)) _ refl,
     )
-
-same-length : tie.Need-same-length
-same-length c = search needs
 
 returns-2 : tie.Need-returns-2
 unfolding sent sentBytes
@@ -64,12 +43,5 @@ pub regdulyn-send-spec : {M : Type 1} → statement M
 regdulyn-send-spec =
     tie.close
     (tie.spec
-    open-requires
-    enum-known-answer
-    refusal-code-requires
-    enum-told
-    close-round-requires
-    send-all-requires
-    returns
-    same-length
-    returns-2)
+    (λ c κs. search needs) (λ c. search needs) (λ c κs. search needs) (λ c. search needs) (λ c κs. search needs) (λ c κs. search needs) returns
+    (λ c. search needs) returns-2)

@@ -16,18 +16,6 @@ abbrev μ-loop : tie.MeasureT-loop
 loop-holds : tie.Need-loop-holds Inv-loop μ-loop
 loop-holds c = narrowing-start _ _
 
-mul-common : tie.Need-mul-common Inv-loop μ-loop
-mul-common c = search needs
-
-shared-slice-read-common : tie.Need-shared-slice-read-common Inv-loop μ-loop
-shared-slice-read-common c = search needs
-
-add-i : tie.Need-add-i Inv-loop μ-loop
-add-i c = search needs
-
-loop-less : tie.Need-loop-less Inv-loop μ-loop
-loop-less c = search needs
-
 loop-again : tie.Need-loop-again Inv-loop μ-loop
 unfolding common
 loop-again c = narrowing-turn _ _ _ _ (c .before .before .loop .inv) (c .before .loop-test .taken)
@@ -39,12 +27,4 @@ pub in-every-spec : {M : Type 1} → statement M
 in-every-spec =
     tie.close
     (tie.spec
-    Inv-loop
-    μ-loop
-    loop-holds
-    mul-common
-    shared-slice-read-common
-    add-i
-    loop-less
-    loop-again
-    returns)
+    Inv-loop μ-loop loop-holds (λ c. search needs) (λ c. search needs) (λ c. search needs) (λ c. search needs) loop-again returns)

@@ -22,12 +22,6 @@ abbrev μ-loop : tie.MeasureT-loop
 loop-holds : tie.Need-loop-holds Inv-loop μ-loop
 loop-holds c = splitting-start _ _ _
 
-array-read-place : tie.Need-array-read-place Inv-loop μ-loop
-array-read-place c = search needs
-
-cast-place : tie.Need-cast-place Inv-loop μ-loop
-cast-place c = search needs
-
 sub-place : tie.Need-sub-place Inv-loop μ-loop
 sub-place c = let a = c .before .before .before .args in position-within (a .table .now) (a .t4) (a .k) (omega arith) (c .before .loop .i) (c .loop-test .taken) (c .before .before .before .pre .2) .0
 
@@ -36,21 +30,6 @@ mul-outside c = let a = c .before .before .before .args in omega (arith, positio
 
 shared-slice-read-outside : tie.Need-shared-slice-read-outside Inv-loop μ-loop
 shared-slice-read-outside c = let a = c .before .before .before .before .args in omega (arith, position-within (a .table .now) (a .t4) (a .k) (omega arith) (c .before .before .loop .i) (c .before .loop-test .taken) (c .before .before .before .before .pre .2))
-
-outside-requires : tie.Need-outside-requires Inv-loop μ-loop
-outside-requires c κs = search needs
-
-mul-blocks : tie.Need-mul-blocks Inv-loop μ-loop
-mul-blocks c = search needs
-
-array-write-blocks : tie.Need-array-write-blocks Inv-loop μ-loop
-array-write-blocks c = search needs
-
-add-i : tie.Need-add-i Inv-loop μ-loop
-add-i c = search needs
-
-loop-less : tie.Need-loop-less Inv-loop μ-loop
-loop-less c = search needs
 
 loop-again : tie.Need-loop-again Inv-loop μ-loop
 unfolding union
@@ -72,18 +51,5 @@ pub no-at-spec : {M : Type 1} → statement M
 no-at-spec =
     tie.close
     (tie.spec
-    Inv-loop
-    μ-loop
-    loop-holds
-    array-read-place
-    cast-place
-    sub-place
-    mul-outside
-    shared-slice-read-outside
-    outside-requires
-    mul-blocks
-    array-write-blocks
-    add-i
-    loop-less
-    loop-again
-    returns)
+    Inv-loop μ-loop loop-holds (λ c. search needs) (λ c. search needs) sub-place mul-outside shared-slice-read-outside (λ c κs. search needs)
+    (λ c. search needs) (λ c. search needs) (λ c. search needs) (λ c. search needs) loop-again returns)

@@ -8,15 +8,6 @@ use borrow.Author.Needs.{needs}
 use Rattle.verdicts.proofs.verdict_on.Statement.{statement}
 use Rattle.verdicts.proofs.verdict_on.Tie as tie
 
-fits-requires : tie.Need-fits-requires
-fits-requires c κs = search needs
-
-full-requires : tie.Need-full-requires
-full-requires c κs = search needs
-
-in-every-requires : tie.Need-in-every-requires
-in-every-requires c κs = search needs
-
 disjoint-requires : tie.Need-disjoint-requires
 disjoint-requires c κs = let a = c .before .before .before .before .before .before .args in let b = fits-bounds (a .k) (length (a .table .now)) (sym (c .before .before .before .before .fits2 .ensures) ∙ c .before .before .before .if1 .taken) in (omega arith, omega arith, b .2)
 
@@ -51,12 +42,4 @@ pub verdict-on-spec : {M : Type 1} → statement M
 verdict-on-spec =
     tie.close
     (tie.spec
-    fits-requires
-    full-requires
-    in-every-requires
-    disjoint-requires
-    no-at-requires
-    returns
-    returns-2
-    returns-3
-    returns-4)
+    (λ c κs. search needs) (λ c κs. search needs) (λ c κs. search needs) disjoint-requires no-at-requires returns returns-2 returns-3 returns-4)

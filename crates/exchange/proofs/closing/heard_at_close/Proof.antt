@@ -7,12 +7,6 @@ use borrow.Author.Needs.{needs}
 use Rattle.exchange.proofs.closing.heard_at_close.Statement.{statement}
 use Rattle.exchange.proofs.closing.heard_at_close.Tie as tie
 
-has-requires : tie.Need-has-requires
-has-requires c κs = search needs
-
-insert-requires : tie.Need-insert-requires
-insert-requires c κs = search needs
-
 returns : tie.Need-returns
 unfolding heardAtClose inCore
 returns c = let x = c .before .before .before .before .args .x in c .insert .ensures ∙ sym (cond-true _ _ (sym (c .before .before .has .ensures) ∙ c .before .if1 .taken))
@@ -22,4 +16,6 @@ unfolding heardAtClose inCore
 returns-2 c = sym (cond-false _ _ (sym (c .before .has .ensures) ∙ c .if1 .left))
 
 pub heard-at-close-spec : {M : Type 1} → statement M
-heard-at-close-spec = tie.close (tie.spec has-requires insert-requires returns returns-2)
+heard-at-close-spec = tie.close
+    (tie.spec
+    (λ c κs. search needs) (λ c κs. search needs) returns returns-2)

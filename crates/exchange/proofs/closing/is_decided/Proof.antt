@@ -5,12 +5,6 @@ use borrow.Author.Needs.{needs}
 use Rattle.exchange.proofs.closing.is_decided.Statement.{statement}
 use Rattle.exchange.proofs.closing.is_decided.Tie as tie
 
-enum-told : tie.Need-enum-told
-enum-told c = search needs
-
-enum-told-2 : tie.Need-enum-told-2
-enum-told-2 c = search needs
-
 returns : tie.Need-returns
 unfolding isDecided
 returns c = sym (ap isDecided (c .enum-told .given .1))
@@ -20,4 +14,6 @@ unfolding isDecided
 returns-2 c = sym (ap isDecided (c .enum-told2 .given .1))
 
 pub is-decided-spec : {M : Type 1} → statement M
-is-decided-spec = tie.close (tie.spec enum-told enum-told-2 returns returns-2)
+is-decided-spec = tie.close
+    (tie.spec
+    (λ c. search needs) (λ c. search needs) returns returns-2)

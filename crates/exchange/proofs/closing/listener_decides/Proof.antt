@@ -5,18 +5,9 @@ use borrow.Author.Needs.{needs}
 use Rattle.exchange.proofs.closing.listener_decides.Statement.{statement}
 use Rattle.exchange.proofs.closing.listener_decides.Tie as tie
 
-has-requires : tie.Need-has-requires
-has-requires c κs = search needs
-
 returns : tie.Need-returns
 unfolding inCore
 returns c = core-drive (c .before .before .before .args .x) _ (c .before .has .ensures) (c .if1 .taken)
-
-decision-after-requires : tie.Need-decision-after-requires
-decision-after-requires c κs = search needs
-
-is-decided-requires : tie.Need-is-decided-requires
-is-decided-requires c κs = search needs
 
 returns-2 : tie.Need-returns-2
 unfolding inCore
@@ -24,4 +15,6 @@ returns-2 c = listener (c .before .before .before .before .before .args .x) _ (c
 
 pub listener-decides-spec : {M : Type 1} → statement M
 listener-decides-spec =
-    tie.close (tie.spec has-requires returns decision-after-requires is-decided-requires returns-2)
+    tie.close
+    (tie.spec
+    (λ c κs. search needs) returns (λ c κs. search needs) (λ c κs. search needs) returns-2)

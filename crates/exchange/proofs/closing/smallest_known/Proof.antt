@@ -15,26 +15,14 @@ abbrev μ-loop : tie.MeasureT-loop
 returns : tie.Need-returns Inv-loop μ-loop
 returns c = let a = c .before .args in least-none (numberIn (a .numbers)) (a .known) (c .if1 .taken)
 
-lowest-requires : tie.Need-lowest-requires Inv-loop μ-loop
-lowest-requires c κs = search needs
-
 number-at-requires : tie.Need-number-at-requires Inv-loop μ-loop
 number-at-requires c κs = let s = c .before .before in lowest-bounds (s .args .known) _ (s .fits .known .fits) (c .before .if1 .left) (c .lowest .ensures)
-
-remove-requires : tie.Need-remove-requires Inv-loop μ-loop
-remove-requires c κs = search needs
 
 loop-holds : tie.Need-loop-holds Inv-loop μ-loop
 loop-holds c = let s = c .before .before .before .before in least-start (numberIn (s .args .numbers)) (s .args .known) _ _ _ (s .fits .known .fits) (c .before .before .before .if1 .left) (c .before .before .lowest .ensures) (c .before .number-at .ensures) (c .remove .ensures)
 
-lowest-requires-2 : tie.Need-lowest-requires-2 Inv-loop μ-loop
-lowest-requires-2 c κs = search needs
-
 number-at-requires-2 : tie.Need-number-at-requires-2 Inv-loop μ-loop
 number-at-requires-2 c κs = let l = c .before .before .loop in lowest-bounds (l .m) _ (l .inv .word) (c .before .loop-test .taken) (c .lowest2 .ensures)
-
-remove-requires-2 : tie.Need-remove-requires-2 Inv-loop μ-loop
-remove-requires-2 c κs = search needs
 
 loop-less : tie.Need-loop-less Inv-loop μ-loop
 loop-less c = let l = c .before .before .before .before .before .before .before .loop in removed-less (l .m) _ _ (l .inv .word) (c .before .before .before .before .before .before .loop-test .taken) (c .before .before .before .before .before .lowest2 .ensures) (c .before .before .before .remove2 .ensures)
@@ -55,18 +43,5 @@ pub smallest-known-spec : {M : Type 1} → statement M
 smallest-known-spec =
     tie.close
     (tie.spec
-    Inv-loop
-    μ-loop
-    returns
-    lowest-requires
-    number-at-requires
-    remove-requires
-    loop-holds
-    lowest-requires-2
-    number-at-requires-2
-    remove-requires-2
-    loop-less
-    loop-again
-    loop-less-2
-    loop-again-2
-    returns-2)
+    Inv-loop μ-loop returns (λ c κs. search needs) number-at-requires (λ c κs. search needs) loop-holds (λ c κs. search needs) number-at-requires-2
+    (λ c κs. search needs) loop-less loop-again loop-less-2 loop-again-2 returns-2)

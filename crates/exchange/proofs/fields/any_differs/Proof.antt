@@ -18,33 +18,15 @@ abbrev μ-loop : tie.MeasureT-loop
 loop-holds : tie.Need-loop-holds Inv-loop μ-loop
 loop-holds c = (walk-start (c .before .before .args .mask) (c .before .before .fits .mask .fits), refl)
 
-lowest-requires : tie.Need-lowest-requires Inv-loop μ-loop
-lowest-requires c κs = search needs
-
-number-in-requires : tie.Need-number-in-requires Inv-loop μ-loop
-number-in-requires c κs = search needs
-
 sub-held : tie.Need-sub-held Inv-loop μ-loop
 sub-held c = let l = c .before .before .before .loop in let w = walk-bounds (c .before .before .before .before .before .before .args .s .now) (l .m) (l .at) _ (l .inv .0) (c .before .before .loop-test .taken) (c .before .lowest .ensures) in omega (arith, w .0, w .1)
-
-cast-held : tie.Need-cast-held Inv-loop μ-loop
-cast-held c = search needs
-
-mul-held : tie.Need-mul-held Inv-loop μ-loop
-mul-held c = search needs
 
 array-copy-out-held : tie.Need-array-copy-out-held Inv-loop μ-loop
 array-copy-out-held c = let l = c .before .before .before .loop in let w = walk-bounds (c .before .before .before .before .before .before .args .s .now) (l .m) (l .at) _ (l .inv .0) (c .before .before .loop-test .taken) (c .before .lowest .ensures) in omega (arith, w .0, w .1)
 
-conflicts-requires : tie.Need-conflicts-requires Inv-loop μ-loop
-conflicts-requires c κs = search needs
-
 returns : tie.Need-returns Inv-loop μ-loop
 unfolding numberIn
 returns c = let l = c .before .before .before .before .before .before .loop in let a = c .before .before .before .before .before .before .before .before .before .args in sym (differs-stop (a .s .now) (l .m) (l .at) _ (l .inv .0) (c .before .before .before .before .before .loop-test .taken) (c .before .before .before .before .lowest .ensures) _ (c .before .before .before .number-in .ensures) (a .x) _ (c .before .conflicts .ensures) (c .if1 .taken)) ∙ l .inv .1
-
-remove-requires : tie.Need-remove-requires Inv-loop μ-loop
-remove-requires c κs = search needs
 
 add-at : tie.Need-add-at Inv-loop μ-loop
 add-at c = let l = c .before .before .before .before .before .before .before .loop in omega (arith, l .inv .0 .near)
@@ -63,19 +45,5 @@ pub any-differs-spec : {M : Type 1} → statement M
 any-differs-spec =
     tie.close
     (tie.spec
-    Inv-loop
-    μ-loop
-    loop-holds
-    lowest-requires
-    number-in-requires
-    sub-held
-    cast-held
-    mul-held
-    array-copy-out-held
-    conflicts-requires
-    returns
-    remove-requires
-    add-at
-    loop-less
-    loop-again
-    returns-2)
+    Inv-loop μ-loop loop-holds (λ c κs. search needs) (λ c κs. search needs) sub-held (λ c. search needs) (λ c. search needs) array-copy-out-held
+    (λ c κs. search needs) returns (λ c κs. search needs) add-at loop-less loop-again returns-2)

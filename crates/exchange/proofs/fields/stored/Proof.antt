@@ -17,26 +17,11 @@ abbrev μ-loop : tie.MeasureT-loop
 loop-holds : tie.Need-loop-holds Inv-loop μ-loop
 loop-holds c = (walk-start (c .before .args .mask) (c .before .fits .mask .fits), refl)
 
-lowest-requires : tie.Need-lowest-requires Inv-loop μ-loop
-lowest-requires c κs = search needs
-
-number-in-requires : tie.Need-number-in-requires Inv-loop μ-loop
-number-in-requires c κs = search needs
-
 sub-stored : tie.Need-sub-stored Inv-loop μ-loop
 sub-stored c = let l = c .before .before .before .loop in let w = walk-bounds (c .before .before .before .before .before .args .s .now) (l .m) (l .at) _ (l .inv .0) (c .before .before .loop-test .taken) (c .before .lowest .ensures) in omega (arith, w .0, w .1)
 
-cast-stored : tie.Need-cast-stored Inv-loop μ-loop
-cast-stored c = search needs
-
-mul-stored : tie.Need-mul-stored Inv-loop μ-loop
-mul-stored c = search needs
-
 array-set-from-stored : tie.Need-array-set-from-stored Inv-loop μ-loop
 array-set-from-stored c = let l = c .before .before .before .loop in let w = walk-bounds (c .before .before .before .before .before .args .s .now) (l .m) (l .at) _ (l .inv .0) (c .before .before .loop-test .taken) (c .before .lowest .ensures) in omega (arith, w .0, w .1)
-
-remove-requires : tie.Need-remove-requires Inv-loop μ-loop
-remove-requires c κs = search needs
 
 add-at : tie.Need-add-at Inv-loop μ-loop
 add-at c = let l = c .before .before .before .before .loop in omega (arith, l .inv .0 .near)
@@ -54,17 +39,5 @@ pub stored-spec : {M : Type 1} → statement M
 stored-spec =
     tie.close
     (tie.spec
-    Inv-loop
-    μ-loop
-    loop-holds
-    lowest-requires
-    number-in-requires
-    sub-stored
-    cast-stored
-    mul-stored
-    array-set-from-stored
-    remove-requires
-    add-at
-    loop-less
-    loop-again
-    returns)
+    Inv-loop μ-loop loop-holds (λ c κs. search needs) (λ c κs. search needs) sub-stored (λ c. search needs) (λ c. search needs) array-set-from-stored
+    (λ c κs. search needs) add-at loop-less loop-again returns)

@@ -5,12 +5,6 @@ use borrow.Author.Needs.{needs}
 use Rattle.exchange.proofs.opening.own_known.Statement.{statement}
 use Rattle.exchange.proofs.opening.own_known.Tie as tie
 
-has-requires : tie.Need-has-requires
-has-requires c κs = search needs
-
-single-requires : tie.Need-single-requires
-single-requires c κs = search needs
-
 returns : tie.Need-returns
 returns c = c .single .ensures ∙ sym (cond-true _ _ (sym (c .before .before .has .ensures) ∙ c .before .if1 .taken))
 
@@ -18,4 +12,6 @@ returns-2 : tie.Need-returns-2
 returns-2 c = sym (cond-false _ _ (sym (c .before .has .ensures) ∙ c .if1 .left))
 
 pub own-known-spec : {M : Type 1} → statement M
-own-known-spec = tie.close (tie.spec has-requires single-requires returns returns-2)
+own-known-spec = tie.close
+    (tie.spec
+    (λ c κs. search needs) (λ c κs. search needs) returns returns-2)

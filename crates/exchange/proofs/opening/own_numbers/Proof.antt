@@ -8,20 +8,11 @@ use borrow.Author.Needs.{needs}
 use Rattle.exchange.proofs.opening.own_numbers.Statement.{statement}
 use Rattle.exchange.proofs.opening.own_numbers.Tie as tie
 
-has-requires : tie.Need-has-requires
-has-requires c κs = search needs
-
 returns : tie.Need-returns
 returns c = sym (cond-false _ _ (sym (c .before .has .ensures) ∙ not-true _ (c .if1 .taken)))
 
 sub-numbers : tie.Need-sub-numbers
 sub-numbers c = let s = c .before .before in let w = own-bounds (s .args .own .0) (s .args .core) _ (s .fits .core .fits) (c .before .has .ensures) (c .if1 .left) in omega (arith, w .0, w .1)
-
-cast-numbers : tie.Need-cast-numbers
-cast-numbers c = search needs
-
-mul-numbers : tie.Need-mul-numbers
-mul-numbers c = search needs
 
 array-set-from-numbers : tie.Need-array-set-from-numbers
 array-set-from-numbers c = let s = c .before .before in let w = own-bounds (s .args .own .0) (s .args .core) _ (s .fits .core .fits) (c .before .has .ensures) (c .if1 .left) in omega (arith, w .0, w .1)
@@ -33,10 +24,4 @@ pub own-numbers-spec : {M : Type 1} → statement M
 own-numbers-spec =
     tie.close
     (tie.spec
-    has-requires
-    returns
-    sub-numbers
-    cast-numbers
-    mul-numbers
-    array-set-from-numbers
-    returns-2)
+    (λ c κs. search needs) returns sub-numbers (λ c. search needs) (λ c. search needs) array-set-from-numbers returns-2)

@@ -5,56 +5,20 @@ use borrow.Author.Needs.{needs}
 use Rattle.exchange.proofs.receiving.admit.Statement.{statement}
 use Rattle.exchange.proofs.receiving.admit.Tie as tie
 
-outside-core-requires : tie.Need-outside-core-requires
-outside-core-requires c κs = search needs
-
-refused-requires : tie.Need-refused-requires
-refused-requires c κs = search needs
-
 returns : tie.Need-returns
 returns c = let a = c .before .before .before .before .args in replied-as (meets-outside (a .kind) (a .x) (a .s .now) _ (c .before .before .outside-core .ensures) (c .before .if1 .taken)) (c .refused .ensures)
-
-round-of-requires : tie.Need-round-of-requires
-round-of-requires c κs = search needs
-
-refused-requires-2 : tie.Need-refused-requires-2
-refused-requires-2 c κs = search needs
 
 returns-2 : tie.Need-returns-2
 returns-2 c = let a = c .before .before .before .before .before .before .before .before .before .args in replied-as (meets-round (a .kind) (a .x) (a .s .now) _ (c .before .before .before .before .before .before .before .outside-core .ensures) (c .before .before .before .before .before .before .if1 .left) _ (c .before .before .before .before .round-of .ensures) (c .before .if2 .taken)) (c .refused2 .ensures)
 
-sender-of-requires : tie.Need-sender-of-requires
-sender-of-requires c κs = search needs
-
-has-requires : tie.Need-has-requires
-has-requires c κs = search needs
-
-refused-requires-3 : tie.Need-refused-requires-3
-refused-requires-3 c κs = search needs
-
 returns-3 : tie.Need-returns-3
 returns-3 c = let a = c .before .before .before .before .before .before .before .before .before .before .before .before .args in replied-as (meets-missing (a .kind) (a .x) (a .s .now) _ (c .before .before .before .before .before .before .before .before .before .before .outside-core .ensures) (c .before .before .before .before .before .before .before .before .before .if1 .left) _ (c .before .before .before .before .before .before .before .round-of .ensures) (c .before .before .before .before .if2 .left) _ (c .before .before .before .sender-of .ensures) _ (c .before .before .has .ensures) (c .before .if3 .taken)) (c .refused3 .ensures)
-
-has-requires-2 : tie.Need-has-requires-2
-has-requires-2 c κs = search needs
-
-refused-requires-4 : tie.Need-refused-requires-4
-refused-requires-4 c κs = search needs
 
 returns-4 : tie.Need-returns-4
 returns-4 c = let a = c .before .before .before .before .before .before .before .before .before .before .before .before .before .before .args in replied-as (meets-again (a .kind) (a .x) (a .s .now) _ (c .before .before .before .before .before .before .before .before .before .before .before .before .outside-core .ensures) (c .before .before .before .before .before .before .before .before .before .before .before .if1 .left) _ (c .before .before .before .before .before .before .before .before .before .round-of .ensures) (c .before .before .before .before .before .before .if2 .left) _ (c .before .before .before .before .before .sender-of .ensures) _ (c .before .before .before .before .has .ensures) (c .before .before .before .if3 .left) _ (c .before .before .has2 .ensures) (c .before .if4 .taken)) (c .refused4 .ensures)
 
-differs-requires : tie.Need-differs-requires
-differs-requires c κs = search needs
-
-refused-requires-5 : tie.Need-refused-requires-5
-refused-requires-5 c κs = search needs
-
 returns-5 : tie.Need-returns-5
 returns-5 c = let a = c .before .before .before .before .before .before .before .before .before .before .before .before .before .before .before .before .args in replied-as (meets-differing (a .kind) (a .x) (a .s .now) _ (c .before .before .before .before .before .before .before .before .before .before .before .before .before .before .outside-core .ensures) (c .before .before .before .before .before .before .before .before .before .before .before .before .before .if1 .left) _ (c .before .before .before .before .before .before .before .before .before .before .before .round-of .ensures) (c .before .before .before .before .before .before .before .before .if2 .left) _ (c .before .before .before .before .before .before .before .sender-of .ensures) _ (c .before .before .before .before .before .before .has .ensures) (c .before .before .before .before .before .if3 .left) _ (c .before .before .before .before .has2 .ensures) (c .before .before .before .if4 .left) _ (c .before .before .differs .ensures) (c .before .if5 .taken)) (c .refused5 .ensures)
-
-accept-requires : tie.Need-accept-requires
-accept-requires c κs = search needs
 
 returns-6 : tie.Need-returns-6
 returns-6 c = let a = c .before .before .before .before .before .before .before .before .before .before .before .before .before .before .before .before .args in reply-result (a .x) _ _ _ (admitted (a .kind) (a .x) (a .s .now) _ (c .before .before .before .before .before .before .before .before .before .before .before .before .before .before .outside-core .ensures) (c .before .before .before .before .before .before .before .before .before .before .before .before .before .if1 .left) _ (c .before .before .before .before .before .before .before .before .before .before .before .round-of .ensures) (c .before .before .before .before .before .before .before .before .if2 .left) _ (c .before .before .before .before .before .before .before .sender-of .ensures) _ (c .before .before .before .before .before .before .has .ensures) (c .before .before .before .before .before .if3 .left) _ (c .before .before .before .before .has2 .ensures) (c .before .before .before .if4 .left) _ (c .before .before .differs .ensures) (c .before .if5 .left)) (c .accept .ensures)
@@ -63,21 +27,6 @@ pub admit-spec : {M : Type 1} → statement M
 admit-spec =
     tie.close
     (tie.spec
-    outside-core-requires
-    refused-requires
-    returns
-    round-of-requires
-    refused-requires-2
-    returns-2
-    sender-of-requires
-    has-requires
-    refused-requires-3
-    returns-3
-    has-requires-2
-    refused-requires-4
-    returns-4
-    differs-requires
-    refused-requires-5
-    returns-5
-    accept-requires
-    returns-6)
+    (λ c κs. search needs) (λ c κs. search needs) returns (λ c κs. search needs) (λ c κs. search needs) returns-2 (λ c κs. search needs)
+    (λ c κs. search needs) (λ c κs. search needs) returns-3 (λ c κs. search needs) (λ c κs. search needs) returns-4 (λ c κs. search needs)
+    (λ c κs. search needs) returns-5 (λ c κs. search needs) returns-6)

@@ -4,21 +4,14 @@ use borrow.Author.Needs.{needs}
 use Rattle.exchange.proofs.receiving.differs.Statement.{statement}
 use Rattle.exchange.proofs.receiving.differs.Tie as tie
 
-is-known-requires : tie.Need-is-known-requires
-is-known-requires c κs = search needs
-
 returns : tie.Need-returns
 returns c = let a = c .before .before .before .args in entries-unasked (a .kind) (a .s .now) _ (c .before .is-known .ensures) (a .x) (c .if1 .taken)
-
-mask-of-requires : tie.Need-mask-of-requires
-mask-of-requires c κs = search needs
-
-any-differs-requires : tie.Need-any-differs-requires
-any-differs-requires c κs = search needs
 
 returns-2 : tie.Need-returns-2
 returns-2 c = let a = c .before .before .before .before .before .args in entries-asked (a .kind) (a .s .now) _ (c .before .before .before .is-known .ensures) (a .x) (c .before .before .if1 .left) _ (c .before .mask-of .ensures) _ (c .any-differs .ensures)
 
 pub differs-spec : {M : Type 1} → statement M
 differs-spec =
-    tie.close (tie.spec is-known-requires returns mask-of-requires any-differs-requires returns-2)
+    tie.close
+    (tie.spec
+    (λ c κs. search needs) returns (λ c κs. search needs) (λ c κs. search needs) returns-2)

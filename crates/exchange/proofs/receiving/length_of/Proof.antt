@@ -4,26 +4,8 @@ use borrow.Author.Needs.{needs}
 use Rattle.exchange.proofs.receiving.length_of.Statement.{statement}
 use Rattle.exchange.proofs.receiving.length_of.Tie as tie
 
-is-known-requires : tie.Need-is-known-requires
-is-known-requires c κs = search needs
-
 returns : tie.Need-returns
 returns c = let a = c .before .before .before .args in decide-length (a .kind) (a .s .now) _ (c .before .is-known .ensures) (c .if1 .taken)
-
-mask-of-requires : tie.Need-mask-of-requires
-mask-of-requires c κs = search needs
-
-size-requires : tie.Need-size-requires
-size-requires c κs = search needs
-
-cast-result : tie.Need-cast-result
-cast-result c = search needs
-
-mul-result : tie.Need-mul-result
-mul-result c = search needs
-
-add-result : tie.Need-add-result
-add-result c = search needs
 
 returns-2 : tie.Need-returns-2
 returns-2 c = let a = c .before .before .before .before .before .args in known-length (a .kind) (a .s .now) _ (c .before .before .before .is-known .ensures) (c .before .before .if1 .left) _ _ (c .before .mask-of .ensures) (c .size .ensures)
@@ -32,11 +14,4 @@ pub length-of-spec : {M : Type 1} → statement M
 length-of-spec =
     tie.close
     (tie.spec
-    is-known-requires
-    returns
-    mask-of-requires
-    size-requires
-    cast-result
-    mul-result
-    add-result
-    returns-2)
+    (λ c κs. search needs) returns (λ c κs. search needs) (λ c κs. search needs) (λ c. search needs) (λ c. search needs) (λ c. search needs) returns-2)

@@ -4,12 +4,6 @@ use borrow.Author.Needs.{needs}
 use Rattle.exchange.proofs.receiving.lower.Statement.{statement}
 use Rattle.exchange.proofs.receiving.lower.Tie as tie
 
-enum-told : tie.Need-enum-told
-enum-told c = search needs
-
-enum-known-announced : tie.Need-enum-known-announced
-enum-known-announced c = search needs
-
 returns : tie.Need-returns
 returns c = let a = c .before .before .before .before .before .before .args in lower-new (a .announced) (a .d) (a .v) _ _ (c .before .before .before .before .announced .given .1) (c .if1 .taken)
 
@@ -20,4 +14,6 @@ returns-3 : tie.Need-returns-3
 returns-3 c = let a = c .before .before .before .before .before .before .args in lower-kept (a .announced) (a .d) (a .v) _ _ (c .before .before .before .before .announced .given .1) (c .if1 .left)
 
 pub lower-spec : {M : Type 1} → statement M
-lower-spec = tie.close (tie.spec enum-told enum-known-announced returns returns-2 returns-3)
+lower-spec = tie.close
+    (tie.spec
+    (λ c. search needs) (λ c. search needs) returns returns-2 returns-3)

@@ -4,24 +4,6 @@ use borrow.Author.Needs.{needs}
 use Rattle.exchange.proofs.sending.outgoing_size.Statement.{statement}
 use Rattle.exchange.proofs.sending.outgoing_size.Tie as tie
 
-enum-told : tie.Need-enum-told
-enum-told c = search needs
-
-size-requires : tie.Need-size-requires
-size-requires c κs = search needs
-
-cast-result : tie.Need-cast-result
-cast-result c = search needs
-
-mul-result : tie.Need-mul-result
-mul-result c = search needs
-
-add-result : tie.Need-add-result
-add-result c = search needs
-
-enum-told-2 : tie.Need-enum-told-2
-enum-told-2 c = search needs
-
 returns : tie.Need-returns
 returns c = let x = c .before .before .before .args .x in size-known x _ (c .before .enum-told .given .1) (c .size .ensures)
 
@@ -32,11 +14,4 @@ pub outgoing-size-spec : {M : Type 1} → statement M
 outgoing-size-spec =
     tie.close
     (tie.spec
-    enum-told
-    size-requires
-    cast-result
-    mul-result
-    add-result
-    enum-told-2
-    returns
-    returns-2)
+    (λ c. search needs) (λ c κs. search needs) (λ c. search needs) (λ c. search needs) (λ c. search needs) (λ c. search needs) returns returns-2)

@@ -13,44 +13,14 @@ Inv-loop part₀ mask numbers at₀ m₀ part at m = Telling (numberIn numbers) 
 abbrev μ-loop : tie.MeasureT-loop
 μ-loop part₀ mask numbers at₀ m₀ part at m = size m
 
-size-requires : tie.Need-size-requires Inv-loop μ-loop
-size-requires c κs = search needs
-
-cast-if1 : tie.Need-cast-if1 Inv-loop μ-loop
-cast-if1 c = search needs
-
 returns : tie.Need-returns Inv-loop μ-loop
 returns c = let a = c .before .before .before .args in numbers-none (numberIn (a .numbers)) (a .mask) (a .part .now) _ (c .before .size .ensures) (c .if1 .taken)
 
 loop-holds : tie.Need-loop-holds Inv-loop μ-loop
 loop-holds c = let s = c .before .before .before in telling-start (numberIn (s .args .numbers)) (s .args .mask) (s .args .part .now) _ (s .fits .mask .fits) (c .before .size .ensures) (c .if1 .left)
 
-lowest-requires : tie.Need-lowest-requires Inv-loop μ-loop
-lowest-requires c κs = search needs
-
 number-at-requires : tie.Need-number-at-requires Inv-loop μ-loop
 number-at-requires c κs = let l = c .before .before .loop in lowest-bounds (l .m) _ (l .inv .word) (c .before .loop-test .taken) (c .lowest .ensures)
-
-sub-put-field : tie.Need-sub-put-field Inv-loop μ-loop
-sub-put-field c = search needs
-
-part-put-field-start : tie.Need-part-put-field-start Inv-loop μ-loop
-part-put-field-start c = search needs
-
-part-put-field-end : tie.Need-part-put-field-end Inv-loop μ-loop
-part-put-field-end c = search needs
-
-cast-put-field : tie.Need-cast-put-field Inv-loop μ-loop
-cast-put-field c = search needs
-
-put-field-requires : tie.Need-put-field-requires Inv-loop μ-loop
-put-field-requires c κs = search needs
-
-remove-requires : tie.Need-remove-requires Inv-loop μ-loop
-remove-requires c κs = search needs
-
-add-at : tie.Need-add-at Inv-loop μ-loop
-add-at c = search needs
 
 loop-less : tie.Need-loop-less Inv-loop μ-loop
 loop-less c = let l = c .before .before .before .before .before .before .before .before .before .loop in removed-less (l .m) _ _ (l .inv .word) (c .before .before .before .before .before .before .before .before .loop-test .taken) (c .before .before .before .before .before .before .before .lowest .ensures) (c .remove .ensures)
@@ -68,22 +38,6 @@ pub put-numbers-spec : {M : Type 1} → statement M
 put-numbers-spec =
     tie.close
     (tie.spec
-    Inv-loop
-    μ-loop
-    size-requires
-    cast-if1
-    returns
-    loop-holds
-    lowest-requires
-    number-at-requires
-    sub-put-field
-    part-put-field-start
-    part-put-field-end
-    cast-put-field
-    put-field-requires
-    remove-requires
-    add-at
-    loop-less
-    loop-again
-    same-length
-    returns-2)
+    Inv-loop μ-loop (λ c κs. search needs) (λ c. search needs) returns loop-holds (λ c κs. search needs) number-at-requires (λ c. search needs)
+    (λ c. search needs) (λ c. search needs) (λ c. search needs) (λ c κs. search needs) (λ c κs. search needs) (λ c. search needs) loop-less loop-again
+    same-length returns-2)

@@ -5,27 +5,15 @@ use borrow.Author.Needs.{needs}
 use Rattle.exchange.proofs.sending.send.Statement.{statement}
 use Rattle.exchange.proofs.sending.send.Tie as tie
 
-is-broken-requires : tie.Need-is-broken-requires
-is-broken-requires c κs = search needs
-
 returns : tie.Need-returns
 returns c = let a = c .before .before .before .before .args in sends-broken (a .x) (a .start) (a .buf .now) _ (c .before .is-broken .ensures) (c .if1 .taken)
 
 returns-2 : tie.Need-returns-2
 returns-2 c = let a = c .before .before .before .before .before .args in sends-halted (a .x) (a .start) (a .buf .now) _ (c .before .before .is-broken .ensures) (c .before .if1 .left) (c .if2 .taken)
 
-has-requires : tie.Need-has-requires
-has-requires c κs = search needs
-
 returns-3 : tie.Need-returns-3
 unfolding inCore
 returns-3 c = let a = c .before .before .before .before .before .before .before .args in sends-listener (a .x) (a .start) (a .buf .now) _ (c .before .before .before .before .is-broken .ensures) (c .before .before .before .if1 .left) (c .before .before .if2 .left) _ (c .before .has .ensures) (c .if3 .taken)
-
-write-message-requires : tie.Need-write-message-requires
-write-message-requires c κs = search needs
-
-same-length : tie.Need-same-length
-same-length c = search needs
 
 returns-4 : tie.Need-returns-4
 unfolding inCore
@@ -35,11 +23,4 @@ pub send-spec : {M : Type 1} → statement M
 send-spec =
     tie.close
     (tie.spec
-    is-broken-requires
-    returns
-    returns-2
-    has-requires
-    returns-3
-    write-message-requires
-    same-length
-    returns-4)
+    (λ c κs. search needs) returns returns-2 (λ c κs. search needs) returns-3 (λ c κs. search needs) (λ c. search needs) returns-4)

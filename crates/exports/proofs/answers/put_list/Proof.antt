@@ -4,22 +4,10 @@ use borrow.Author.Needs.{needs}
 use Rattle.exports.proofs.answers.put_list.Statement.{statement}
 use Rattle.exports.proofs.answers.put_list.Tie as tie
 
-first-sets-requires : tie.Need-first-sets-requires
-first-sets-requires c κs = search needs
-
-refusal-code-requires : tie.Need-refusal-code-requires
-refusal-code-requires c κs = search needs
-
 returns : tie.Need-returns
 returns c =
     let a = c .before .before .before .before .before .args in
     list-full (a .out .now) _ _ (c .before .before .first-sets .ensures) (c .before .if1 .taken) _ (c .refusal-code .ensures)
-
-copy-requires : tie.Need-copy-requires
-copy-requires c κs = search needs
-
-same-length : tie.Need-same-length
-same-length c = search needs
 
 returns-2 : tie.Need-returns-2
 returns-2 c =
@@ -28,4 +16,6 @@ returns-2 c =
 
 pub put-list-spec : {M : Type 1} → statement M
 put-list-spec =
-    tie.close (tie.spec first-sets-requires refusal-code-requires returns copy-requires same-length returns-2)
+    tie.close
+    (tie.spec
+    (λ c κs. search needs) (λ c κs. search needs) returns (λ c κs. search needs) (λ c. search needs) returns-2)

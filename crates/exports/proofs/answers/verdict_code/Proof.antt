@@ -7,15 +7,6 @@ use Rattle.exports.proofs.answers.verdict_code.Tie as tie
 returns : tie.Need-returns
 returns c = code-yes (c .before .args .v) (c .before .args .k) (c .if1 .taken)
 
-slice-aggregate-first-bytes : tie.Need-slice-aggregate-first-bytes
-slice-aggregate-first-bytes c = search needs
-
-first-bytes-requires : tie.Need-first-bytes-requires
-first-bytes-requires c κs = search needs
-
-from-bytes-requires : tie.Need-from-bytes-requires
-from-bytes-requires c κs = search needs
-
 returns-2 : tie.Need-returns-2
 returns-2 c = code-no (c .before .before .before .before .before .args .v) (c .before .before .before .before .before .args .k) (c .before .before .before .before .if1 .left) (search needs) _ (c .before .first-bytes .ensures) _ (c .from-bytes .ensures)
 
@@ -23,8 +14,4 @@ pub verdict-code-spec : {M : Type 1} → statement M
 verdict-code-spec =
     tie.close
     (tie.spec
-    returns
-    slice-aggregate-first-bytes
-    first-bytes-requires
-    from-bytes-requires
-    returns-2)
+    returns (λ c. search needs) (λ c κs. search needs) (λ c κs. search needs) returns-2)

@@ -8,12 +8,6 @@ use borrow.Author.Needs.{needs}
 use Rattle.exports.proofs.deliveries.accepted_by.Statement.{statement}
 use Rattle.exports.proofs.deliveries.accepted_by.Tie as tie
 
-enum-told : tie.Need-enum-told
-enum-told c = search needs
-
-enum-told-2 : tie.Need-enum-told-2
-enum-told-2 c = search needs
-
 returns : tie.Need-returns
 returns c = ((λ x. ap (λ (a : Answer). oneAccepted (outcomeOf a x)) (sym (c .enum-told .given .1))), omega arith)
 
@@ -21,4 +15,6 @@ returns-2 : tie.Need-returns-2
 returns-2 c = ((λ x. ap (λ (a : Answer). oneAccepted (outcomeOf a x)) (sym (c .enum-told2 .given .1))), omega arith)
 
 pub accepted-by-spec : {M : Type 1} → statement M
-accepted-by-spec = tie.close (tie.spec enum-told enum-told-2 returns returns-2)
+accepted-by-spec = tie.close
+    (tie.spec
+    (λ c. search needs) (λ c. search needs) returns returns-2)

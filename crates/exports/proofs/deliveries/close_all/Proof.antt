@@ -17,20 +17,8 @@ abbrev μ-loop : tie.MeasureT-loop
 loop-holds : tie.Need-loop-holds Inv-loop μ-loop
 loop-holds c = calling-start closing stateAfter (c .args .times) (c .args .x)
 
-close-requires : tie.Need-close-requires Inv-loop μ-loop
-close-requires c κs = search needs
-
-accepted-by-requires : tie.Need-accepted-by-requires Inv-loop μ-loop
-accepted-by-requires c κs = search needs
-
 add-accepted : tie.Need-add-accepted Inv-loop μ-loop
 add-accepted c = omega (arith, c .before .before .before .before .loop .inv .bound, c .accepted-by .ensures .1)
-
-add-i : tie.Need-add-i Inv-loop μ-loop
-add-i c = search needs
-
-loop-less : tie.Need-loop-less Inv-loop μ-loop
-loop-less c = search needs
 
 loop-again : tie.Need-loop-again Inv-loop μ-loop
 loop-again c =
@@ -49,13 +37,4 @@ pub close-all-spec : {M : Type 1} → statement M
 close-all-spec =
     tie.close
     (tie.spec
-    Inv-loop
-    μ-loop
-    loop-holds
-    close-requires
-    accepted-by-requires
-    add-accepted
-    add-i
-    loop-less
-    loop-again
-    returns)
+    Inv-loop μ-loop loop-holds (λ c κs. search needs) (λ c κs. search needs) add-accepted (λ c. search needs) (λ c. search needs) loop-again returns)

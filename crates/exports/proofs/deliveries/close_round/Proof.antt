@@ -8,15 +8,11 @@ use borrow.Author.Needs.{needs}
 use Rattle.exports.proofs.deliveries.close_round.Statement.{statement}
 use Rattle.exports.proofs.deliveries.close_round.Tie as tie
 
-deliver-all-requires : tie.Need-deliver-all-requires
-deliver-all-requires c κs = search needs
-
-close-requires : tie.Need-close-requires
-close-requires c κs = search needs
-
 returns : tie.Need-returns
 unfolding stateClosed
 returns c = c .before .close .ensures .state ∙ ap (λ (x : Exchange). stateAfter x (closing x)) (c .before .before .before .deliver-all .ensures .1)
 
 pub close-round-spec : {M : Type 1} → statement M
-close-round-spec = tie.close (tie.spec deliver-all-requires close-requires returns)
+close-round-spec = tie.close
+    (tie.spec
+    (λ c κs. search needs) (λ c κs. search needs) returns)

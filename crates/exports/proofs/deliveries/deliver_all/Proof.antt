@@ -19,35 +19,8 @@ abbrev μ-loop : tie.MeasureT-loop
 loop-holds : tie.Need-loop-holds Inv-loop μ-loop
 loop-holds c = let a = c .before .args in (omega arith, calling-start (hand (a .size)) (handedOn (a .size)) (a .count) (a .x, a .messages .now))
 
-sub-first-bytes : tie.Need-sub-first-bytes Inv-loop μ-loop
-sub-first-bytes c = search needs
-
-part-first-bytes-start : tie.Need-part-first-bytes-start Inv-loop μ-loop
-part-first-bytes-start c = search needs
-
-part-first-bytes-end : tie.Need-part-first-bytes-end Inv-loop μ-loop
-part-first-bytes-end c = search needs
-
-first-bytes-requires : tie.Need-first-bytes-requires Inv-loop μ-loop
-first-bytes-requires c κs = search needs
-
-message-requires : tie.Need-message-requires Inv-loop μ-loop
-message-requires c κs = search needs
-
-accepted-by-requires : tie.Need-accepted-by-requires Inv-loop μ-loop
-accepted-by-requires c κs = search needs
-
 add-accepted : tie.Need-add-accepted Inv-loop μ-loop
 add-accepted c = omega (arith, c .before .before .before .before .before .before .loop .inv .1 .bound, c .accepted-by .ensures .1)
-
-further-requires : tie.Need-further-requires Inv-loop μ-loop
-further-requires c κs = search needs
-
-add-i : tie.Need-add-i Inv-loop μ-loop
-add-i c = search needs
-
-loop-less : tie.Need-loop-less Inv-loop μ-loop
-loop-less c = search needs
 
 loop-again : tie.Need-loop-again Inv-loop μ-loop
 loop-again c =
@@ -69,18 +42,5 @@ pub deliver-all-spec : {M : Type 1} → statement M
 deliver-all-spec =
     tie.close
     (tie.spec
-    Inv-loop
-    μ-loop
-    loop-holds
-    sub-first-bytes
-    part-first-bytes-start
-    part-first-bytes-end
-    first-bytes-requires
-    message-requires
-    accepted-by-requires
-    add-accepted
-    further-requires
-    add-i
-    loop-less
-    loop-again
-    returns)
+    Inv-loop μ-loop loop-holds (λ c. search needs) (λ c. search needs) (λ c. search needs) (λ c κs. search needs) (λ c κs. search needs)
+    (λ c κs. search needs) add-accepted (λ c κs. search needs) (λ c. search needs) (λ c. search needs) loop-again returns)

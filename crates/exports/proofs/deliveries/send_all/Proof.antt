@@ -18,20 +18,8 @@ abbrev μ-loop : tie.MeasureT-loop
 loop-holds : tie.Need-loop-holds Inv-loop μ-loop
 loop-holds c = let a = c .before .args in (refl, calling-start (sendInto (a .x) (a .start)) (sentInto (a .start)) (a .times) (a .out .now))
 
-send-requires : tie.Need-send-requires Inv-loop μ-loop
-send-requires c κs = search needs
-
-written-by-requires : tie.Need-written-by-requires Inv-loop μ-loop
-written-by-requires c κs = search needs
-
 add-accepted : tie.Need-add-accepted Inv-loop μ-loop
 add-accepted c = omega (arith, c .before .before .before .before .before .before .loop .inv .1 .bound, c .written-by .ensures .1)
-
-add-i : tie.Need-add-i Inv-loop μ-loop
-add-i c = search needs
-
-loop-less : tie.Need-loop-less Inv-loop μ-loop
-loop-less c = search needs
 
 loop-again : tie.Need-loop-again Inv-loop μ-loop
 loop-again c =
@@ -39,9 +27,6 @@ loop-again c =
     let l = c .before .before .before .before .before .before .loop in
     let one = c .written-by .ensures in
     (search needs, sending-turn (a .times) (a .x) (a .start) (a .out .now) (l .i) (l .accepted) (l .out) _ (l .inv .1) (c .before .before .before .before .before .loop-test .taken) _ (c .before .before .before .send .ensures) _ (one .0) (one .1))
-
-same-length : tie.Need-same-length Inv-loop μ-loop
-same-length c = search needs
 
 returns : tie.Need-returns Inv-loop μ-loop
 returns c =
@@ -53,14 +38,5 @@ pub send-all-spec : {M : Type 1} → statement M
 send-all-spec =
     tie.close
     (tie.spec
-    Inv-loop
-    μ-loop
-    loop-holds
-    send-requires
-    written-by-requires
-    add-accepted
-    add-i
-    loop-less
-    loop-again
-    same-length
-    returns)
+    Inv-loop μ-loop loop-holds (λ c κs. search needs) (λ c κs. search needs) add-accepted (λ c. search needs) (λ c. search needs) loop-again
+    (λ c. search needs) returns)

@@ -25,36 +25,12 @@ loop-holds : tie.Need-loop-holds Inv-loop μ-loop
 unfolding alone keep
 loop-holds c = back-start _ _ _ refl
 
-sub-i : tie.Need-sub-i Inv-loop μ-loop
-sub-i c = search needs
-
-mul-s : tie.Need-mul-s Inv-loop μ-loop
-mul-s c = search needs
-
-shared-slice-read-s : tie.Need-shared-slice-read-s Inv-loop μ-loop
-shared-slice-read-s c = search needs
-
-subset-requires : tie.Need-subset-requires Inv-loop μ-loop
-subset-requires c κs = search needs
-
-is-single-requires : tie.Need-is-single-requires Inv-loop μ-loop
-is-single-requires c κs = search needs
-
-covered-requires : tie.Need-covered-requires Inv-loop μ-loop
-covered-requires c κs = search needs
-
-loop-less : tie.Need-loop-less Inv-loop μ-loop
-loop-less c = search needs
-
 loop-again : tie.Need-loop-again Inv-loop μ-loop
 unfolding common union
 loop-again c =
     back-turn _ _ _ _ _ (c .before .before .before .before .before .before .before .before .loop .inv) (c .before .before .before .before .before .before .before .loop-test .taken)
     (kept-more (λ l. alone l (c .before .before .before .before .before .before .before .before .before .before .before .args .m)) _ _ _ (ap not (sym (c .before .covered .ensures)) ∙ c .if3 .taken) _
     (alone-more _ _ _ (eqb-true _ 1 (sym (c .before .before .before .is-single .ensures) ∙ c .before .before .if2 .taken))))
-
-loop-less-2 : tie.Need-loop-less-2 Inv-loop μ-loop
-loop-less-2 c = search needs
 
 loop-again-2 : tie.Need-loop-again-2 Inv-loop μ-loop
 unfolding common
@@ -76,17 +52,5 @@ pub alone-uncovered-spec : {M : Type 1} → statement M
 alone-uncovered-spec =
     tie.close
     (tie.spec
-    Inv-loop
-    μ-loop
-    loop-holds
-    sub-i
-    mul-s
-    shared-slice-read-s
-    subset-requires
-    is-single-requires
-    covered-requires
-    loop-less
-    loop-again
-    loop-less-2
-    loop-again-2
-    returns)
+    Inv-loop μ-loop loop-holds (λ c. search needs) (λ c. search needs) (λ c. search needs) (λ c κs. search needs) (λ c κs. search needs)
+    (λ c κs. search needs) (λ c. search needs) loop-again (λ c. search needs) loop-again-2 returns)

@@ -11,29 +11,11 @@ Inv-loop sets m all rest₀ bar₀ rest bar = Barring sets m rest bar
 abbrev μ-loop : tie.MeasureT-loop
 μ-loop sets m all rest₀ bar₀ rest bar = size rest
 
-in-all-private-requires : tie.Need-in-all-private-requires Inv-loop μ-loop
-in-all-private-requires c κs = search needs
-
 loop-holds : tie.Need-loop-holds Inv-loop μ-loop
 loop-holds c = barring-start _ _ (c .before .before .fits .m .fits)
 
-lowest-requires : tie.Need-lowest-requires Inv-loop μ-loop
-lowest-requires c κs = search needs
-
 place-requires : tie.Need-place-requires Inv-loop μ-loop
 place-requires c κs = walk-bounds _ _ (c .before .before .loop .inv .word) (c .before .loop-test .taken) (c .lowest .ensures)
-
-mul-minus : tie.Need-mul-minus Inv-loop μ-loop
-mul-minus c = search needs
-
-element-copy-out-minus : tie.Need-element-copy-out-minus Inv-loop μ-loop
-element-copy-out-minus c = search needs
-
-minus-requires : tie.Need-minus-requires Inv-loop μ-loop
-minus-requires c κs = search needs
-
-without-lowest-requires : tie.Need-without-lowest-requires Inv-loop μ-loop
-without-lowest-requires c κs = search needs
 
 loop-less : tie.Need-loop-less Inv-loop μ-loop
 loop-less c = walk-fewer _ _ (c .before .before .before .before .before .before .loop .inv .word) (c .before .before .before .before .before .loop-test .taken) (c .before .before .before .before .lowest .ensures) _ (c .without-lowest .ensures)
@@ -50,16 +32,5 @@ pub barred-spec : {M : Type 1} → statement M
 barred-spec =
     tie.close
     (tie.spec
-    Inv-loop
-    μ-loop
-    in-all-private-requires
-    loop-holds
-    lowest-requires
-    place-requires
-    mul-minus
-    element-copy-out-minus
-    minus-requires
-    without-lowest-requires
-    loop-less
-    loop-again
-    returns)
+    Inv-loop μ-loop (λ c κs. search needs) loop-holds (λ c κs. search needs) place-requires (λ c. search needs) (λ c. search needs)
+    (λ c κs. search needs) (λ c κs. search needs) loop-less loop-again returns)

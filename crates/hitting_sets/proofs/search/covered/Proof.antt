@@ -19,20 +19,8 @@ Inv-loop sets m bar p within i₀ i = Ahead (λ l. any (λ s. not (meets s m) &&
 abbrev μ-loop : tie.MeasureT-loop
 μ-loop sets m bar p within i₀ i = length sets - i
 
-minus-requires : tie.Need-minus-requires Inv-loop μ-loop
-minus-requires c κs = search needs
-
 loop-holds : tie.Need-loop-holds Inv-loop μ-loop
 loop-holds c = ahead-start _ _
-
-mul-subset : tie.Need-mul-subset Inv-loop μ-loop
-mul-subset c = search needs
-
-shared-slice-read-subset : tie.Need-shared-slice-read-subset Inv-loop μ-loop
-shared-slice-read-subset c = search needs
-
-subset-requires : tie.Need-subset-requires Inv-loop μ-loop
-subset-requires c κs = search needs
 
 -- what the test of one set says
 is : {b : Bool} (s m bar p within : ℕ) → s < 2 ^ 64 → within ≡ minus (union bar p) m → b ≡ subset s within → b ≡ (not (meets s m) && subset (minus s bar) p)
@@ -45,12 +33,6 @@ returns c =
     let l = c .before .before .before .before .loop in
     let told = is (getD (a .sets .now) (l .i) 0) (a .m) (a .bar) (a .p) _ (c .before .before .before .before .before .before .shared-slice-known .given (l .i) .fits) (c .before .before .before .before .before .minus .ensures) (c .before .subset .ensures) in
     ahead-found _ _ _ (l .inv) (c .before .before .before .loop-test .taken) _ (λ k. any-true _ _ k (sym told ∙ c .if1 .taken))
-
-add-i : tie.Need-add-i Inv-loop μ-loop
-add-i c = search needs
-
-loop-less : tie.Need-loop-less Inv-loop μ-loop
-loop-less c = search needs
 
 loop-again : tie.Need-loop-again Inv-loop μ-loop
 unfolding union
@@ -68,15 +50,5 @@ pub covered-spec : {M : Type 1} → statement M
 covered-spec =
     tie.close
     (tie.spec
-    Inv-loop
-    μ-loop
-    minus-requires
-    loop-holds
-    mul-subset
-    shared-slice-read-subset
-    subset-requires
-    returns
-    add-i
-    loop-less
-    loop-again
-    returns-2)
+    Inv-loop μ-loop (λ c κs. search needs) loop-holds (λ c. search needs) (λ c. search needs) (λ c κs. search needs) returns (λ c. search needs)
+    (λ c. search needs) loop-again returns-2)

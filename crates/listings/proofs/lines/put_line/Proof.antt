@@ -6,21 +6,11 @@ use borrow.Author.Needs.{needs}
 use Rattle.listings.proofs.lines.put_line.Statement.{statement}
 use Rattle.listings.proofs.lines.put_line.Tie as tie
 
-put-all-requires : tie.Need-put-all-requires
-put-all-requires c κs = search needs
-
-put-value-requires : tie.Need-put-value-requires
-put-value-requires c κs = search needs
-
-put-requires : tie.Need-put-requires
-put-requires c κs = search needs
-
-same-length : tie.Need-same-length
-same-length c = search needs
-
 returns : tie.Need-returns
 returns c = let a = c .before .before .before .before .before .before .before .before .before .before .before .before .before .before .args in filled-same (line-is (a .word .now) (inBase (a .base) (a .most)) (a .x)) (filled-then _ _ _ _ _ _ _ _ (search needs) (filled-then _ _ _ _ _ _ _ _ (search needs) (c .before .before .before .before .before .before .before .before .before .before .put-all .ensures) (c .before .before .before .before .before .before .put-value .ensures)) (c .before .before .put .ensures))
 
 pub put-line-spec : {M : Type 1} → statement M
 put-line-spec =
-    tie.close (tie.spec put-all-requires put-value-requires put-requires same-length returns)
+    tie.close
+    (tie.spec
+    (λ c κs. search needs) (λ c κs. search needs) (λ c κs. search needs) (λ c. search needs) returns)

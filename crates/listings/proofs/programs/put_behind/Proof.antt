@@ -12,23 +12,8 @@ use borrow.Author.Needs.{needs}
 use Rattle.listings.proofs.programs.put_behind.Statement.{statement}
 use Rattle.listings.proofs.programs.put_behind.Tie as tie
 
-at-most-requires : tie.Need-at-most-requires
-at-most-requires c κs = search needs
-
-sub-put-run-file : tie.Need-sub-put-run-file
-sub-put-run-file c = search needs
-
-part-put-run-file-start : tie.Need-part-put-run-file-start
-part-put-run-file-start c = search needs
-
 part-put-run-file-end : tie.Need-part-put-run-file-end
 part-put-run-file-end c = let long : length (c .before .before .before .before .before .before .args .table .sets) ≡ 128 = search needs in omega arith
-
-put-run-file-requires : tie.Need-put-run-file-requires
-put-run-file-requires c κs = search needs
-
-same-length : tie.Need-same-length
-same-length c = search needs
 
 returns : tie.Need-returns
 unfolding setsOf
@@ -43,10 +28,4 @@ pub put-behind-spec : {M : Type 1} → statement M
 put-behind-spec =
     tie.close
     (tie.spec
-    at-most-requires
-    sub-put-run-file
-    part-put-run-file-start
-    part-put-run-file-end
-    put-run-file-requires
-    same-length
-    returns)
+    (λ c κs. search needs) (λ c. search needs) (λ c. search needs) part-put-run-file-end (λ c κs. search needs) (λ c. search needs) returns)

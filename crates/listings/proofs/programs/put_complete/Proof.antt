@@ -10,35 +10,14 @@ use borrow.Author.Needs.{needs}
 use Rattle.listings.proofs.programs.put_complete.Statement.{statement}
 use Rattle.listings.proofs.programs.put_complete.Tie as tie
 
-at-most-requires : tie.Need-at-most-requires
-at-most-requires c κs = search needs
-
-at-most-requires-2 : tie.Need-at-most-requires-2
-at-most-requires-2 c κs = search needs
-
-sub-put-listing : tie.Need-sub-put-listing
-sub-put-listing c = search needs
-
-part-put-listing-start : tie.Need-part-put-listing-start
-part-put-listing-start c = search needs
-
 part-put-listing-end : tie.Need-part-put-listing-end
 part-put-listing-end c = let long : length (c .before .before .before .before .before .before .before .before .args .t .table .sets) ≡ 128 = search needs in omega arith
-
-sub-put-listing-2 : tie.Need-sub-put-listing-2
-sub-put-listing-2 c = search needs
-
-part-put-listing-start-2 : tie.Need-part-put-listing-start-2
-part-put-listing-start-2 c = search needs
 
 part-put-listing-end-2 : tie.Need-part-put-listing-end-2
 part-put-listing-end-2 c = let long : length (c .before .before .before .before .before .before .before .before .before .before .args .t .cores) ≡ 1024 = search needs in omega arith
 
 put-listing-requires : tie.Need-put-listing-requires
 put-listing-requires c κs = let p = parts-of (c .before .before .before .before .before .before .before .before .before .before .before .args .t) _ _ (search needs) (search needs) (c .before .before .before .before .before .before .at-most .ensures) (c .before .before .before .before .before .at-most2 .ensures) (c .before .before .before .before .before .before .before .before .before .before .before .pre .1) in (omega arith, search needs, p .few, p .groups)
-
-same-length : tie.Need-same-length
-same-length c = search needs
 
 returns : tie.Need-returns
 returns c = let p = parts-of (c .before .before .before .before .before .before .before .before .before .before .before .before .before .before .args .t) _ _ (search needs) (search needs) (c .before .before .before .before .before .before .before .before .before .at-most .ensures) (c .before .before .before .before .before .before .before .before .at-most2 .ensures) (c .before .before .before .before .before .before .before .before .before .before .before .before .before .before .pre .1) in filled-same (ap (listing (c .before .before .before .before .before .before .before .before .before .before .before .before .before .before .args .t .table .n)) (sym (p .sets))) (c .before .before .put-listing .ensures)
@@ -47,14 +26,5 @@ pub put-complete-spec : {M : Type 1} → statement M
 put-complete-spec =
     tie.close
     (tie.spec
-    at-most-requires
-    at-most-requires-2
-    sub-put-listing
-    part-put-listing-start
-    part-put-listing-end
-    sub-put-listing-2
-    part-put-listing-start-2
-    part-put-listing-end-2
-    put-listing-requires
-    same-length
-    returns)
+    (λ c κs. search needs) (λ c κs. search needs) (λ c. search needs) (λ c. search needs) part-put-listing-end (λ c. search needs) (λ c. search needs)
+    part-put-listing-end-2 put-listing-requires (λ c. search needs) returns)

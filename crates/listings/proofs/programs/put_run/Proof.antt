@@ -10,32 +10,11 @@ use borrow.Author.Needs.{needs}
 use Rattle.listings.proofs.programs.put_run.Statement.{statement}
 use Rattle.listings.proofs.programs.put_run.Tie as tie
 
-read-table-requires : tie.Need-read-table-requires
-read-table-requires c κs = search needs
-
-enum-known-answer : tie.Need-enum-known-answer
-enum-known-answer c = search needs
-
-put-refused-requires : tie.Need-put-refused-requires
-put-refused-requires c κs = search needs
-
-enum-told : tie.Need-enum-told
-enum-told c = search needs
-
-rest-requires : tie.Need-rest-requires
-rest-requires c κs = search needs
-
 put-behind-requires : tie.Need-put-behind-requires
 put-behind-requires c κs = let t = run-accepted (c .before .before .before .before .before .read-table .result) (c .before .before .before .before .before .before .before .before .args .input .now) (c .before .before .before .before .before .read-table .ensures .0) (c .before .before .enum-told .given .1) in (search needs, t .high)
 
-same-length : tie.Need-same-length
-same-length c = search needs
-
 returns : tie.Need-returns
 returns c = filled-same (run-refused (c .before .before .before .before .before .before .before .before .read-table .result) (c .before .before .before .before .before .before .before .before .before .before .before .args .input .now) (c .before .before .before .before .before .before .before .before .read-table .ensures .0) _ (c .before .before .before .before .before .answer .given .1)) (c .before .before .put-refused .ensures)
-
-same-length-2 : tie.Need-same-length-2
-same-length-2 c = search needs
 
 returns-2 : tie.Need-returns-2
 returns-2 c = let file = c .before .before .before .before .before .before .before .before .read-table .result in let t = run-accepted file (c .before .before .before .before .before .before .before .before .before .before .before .args .input .now) (c .before .before .before .before .before .before .before .before .read-table .ensures .0) (c .before .before .before .before .before .enum-told .given .1) in filled-same (t .text ∙ ap (λ (l : List ℕ). runText (simulatedWith (file .complete .table .n) (setsOf (file .complete .table)) l)) (sym (c .before .before .before .rest .ensures))) (c .before .before .put-behind .ensures)
@@ -44,13 +23,5 @@ pub put-run-spec : {M : Type 1} → statement M
 put-run-spec =
     tie.close
     (tie.spec
-    read-table-requires
-    enum-known-answer
-    put-refused-requires
-    enum-told
-    rest-requires
-    put-behind-requires
-    same-length
-    returns
-    same-length-2
-    returns-2)
+    (λ c κs. search needs) (λ c. search needs) (λ c κs. search needs) (λ c. search needs) (λ c κs. search needs) put-behind-requires
+    (λ c. search needs) returns (λ c. search needs) returns-2)

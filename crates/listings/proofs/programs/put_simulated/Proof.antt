@@ -5,29 +5,8 @@ use borrow.Author.Needs.{needs}
 use Rattle.listings.proofs.programs.put_simulated.Statement.{statement}
 use Rattle.listings.proofs.programs.put_simulated.Tie as tie
 
-enum-known-answer : tie.Need-enum-known-answer
-enum-known-answer c = search needs
-
-put-refused-requires : tie.Need-put-refused-requires
-put-refused-requires c κs = search needs
-
-enum-told : tie.Need-enum-told
-enum-told c = search needs
-
-put-drives-requires : tie.Need-put-drives-requires
-put-drives-requires c κs = search needs
-
-put-core-line-requires : tie.Need-put-core-line-requires
-put-core-line-requires c κs = search needs
-
-same-length : tie.Need-same-length
-same-length c = search needs
-
 returns : tie.Need-returns
 returns c = let a = c .before .before .before .before .before .before .before .before .before .before .before .args in filled-same (simulated-refused (a .n) (a .r) _ (c .before .before .before .before .before .answer .given .1)) (c .before .before .put-refused .ensures)
-
-same-length-2 : tie.Need-same-length-2
-same-length-2 c = search needs
 
 returns-2 : tie.Need-returns-2
 returns-2 c = let a = c .before .before .before .before .before .before .before .before .before .before .before .before .before .before .args in filled-same (simulated-text (a .n) (a .r) (c .before .before .before .before .before .before .before .before .enum-told .given .1)) (filled-then _ _ _ _ _ _ _ _ (search needs) (c .before .before .before .before .before .before .put-drives .ensures) (c .before .before .put-core-line .ensures))
@@ -36,12 +15,5 @@ pub put-simulated-spec : {M : Type 1} → statement M
 put-simulated-spec =
     tie.close
     (tie.spec
-    enum-known-answer
-    put-refused-requires
-    enum-told
-    put-drives-requires
-    put-core-line-requires
-    same-length
-    returns
-    same-length-2
-    returns-2)
+    (λ c. search needs) (λ c κs. search needs) (λ c. search needs) (λ c κs. search needs) (λ c κs. search needs) (λ c. search needs) returns
+    (λ c. search needs) returns-2)

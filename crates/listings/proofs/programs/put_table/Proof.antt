@@ -5,29 +5,11 @@ use borrow.Author.Needs.{needs}
 use Rattle.listings.proofs.programs.put_table.Statement.{statement}
 use Rattle.listings.proofs.programs.put_table.Tie as tie
 
-read-whole-requires : tie.Need-read-whole-requires
-read-whole-requires c κs = search needs
-
-enum-known-answer : tie.Need-enum-known-answer
-enum-known-answer c = search needs
-
-put-refused-requires : tie.Need-put-refused-requires
-put-refused-requires c κs = search needs
-
-enum-told : tie.Need-enum-told
-enum-told c = search needs
-
 put-complete-requires : tie.Need-put-complete-requires
 put-complete-requires c κs = (search needs, file-cores (c .before .before .before .before .read-whole .result) (c .before .before .before .before .before .before .before .args .input .now) (c .before .before .before .before .read-whole .ensures .0) (c .before .enum-told .given .1))
 
-same-length : tie.Need-same-length
-same-length c = search needs
-
 returns : tie.Need-returns
 returns c = filled-same (file-refused (c .before .before .before .before .before .before .before .before .read-whole .result) (c .before .before .before .before .before .before .before .before .before .before .before .args .input .now) (c .before .before .before .before .before .before .before .before .read-whole .ensures .0) _ (c .before .before .before .before .before .answer .given .1)) (c .before .before .put-refused .ensures)
-
-same-length-2 : tie.Need-same-length-2
-same-length-2 c = search needs
 
 returns-2 : tie.Need-returns-2
 returns-2 c = filled-same (file-listing (c .before .before .before .before .before .before .before .read-whole .result) (c .before .before .before .before .before .before .before .before .before .before .args .input .now) (c .before .before .before .before .before .before .before .read-whole .ensures .0) (c .before .before .before .before .enum-told .given .1)) (c .before .before .put-complete .ensures)
@@ -36,12 +18,5 @@ pub put-table-spec : {M : Type 1} → statement M
 put-table-spec =
     tie.close
     (tie.spec
-    read-whole-requires
-    enum-known-answer
-    put-refused-requires
-    enum-told
-    put-complete-requires
-    same-length
-    returns
-    same-length-2
-    returns-2)
+    (λ c κs. search needs) (λ c. search needs) (λ c κs. search needs) (λ c. search needs) put-complete-requires (λ c. search needs) returns
+    (λ c. search needs) returns-2)

@@ -10,26 +10,8 @@ use borrow.Author.Needs.{needs}
 use Rattle.listings.proofs.programs.table_listing.Statement.{statement}
 use Rattle.listings.proofs.programs.table_listing.Tie as tie
 
-slice-aggregate-put-table : tie.Need-slice-aggregate-put-table
-slice-aggregate-put-table c = search needs
-
-put-table-requires : tie.Need-put-table-requires
-put-table-requires c κs = search needs
-
-sub-print : tie.Need-sub-print
-sub-print c = search needs
-
-part-print-start : tie.Need-part-print-start
-part-print-start c = search needs
-
 part-print-end : tie.Need-part-print-end
 part-print-end c = omega (arith, c .before .before .put-table .ensures .total, program-length (c .before .before .before .before .before .before .args .input .now))
-
-print-requires : tie.Need-print-requires
-print-requires c κs = search needs
-
-same-length : tie.Need-same-length
-same-length c = search needs
 
 returns : tie.Need-returns
 returns c = let a = c .before .before .before .before .before .before .before .before .before .before .before .args in subst (λ (text : List ℕ). Printed text (a .start) (a .out .now) (c .before .before .print .last .1 .0) (c .before .before .print .result)) (put-whole (c .before .before .before .before .before .before .before .put-table .ensures) (omega (arith, program-length (a .input .now)))) (c .before .before .print .ensures)
@@ -38,11 +20,5 @@ pub table-listing-spec : {M : Type 1} → statement M
 table-listing-spec =
     tie.close
     (tie.spec
-    slice-aggregate-put-table
-    put-table-requires
-    sub-print
-    part-print-start
-    part-print-end
-    print-requires
-    same-length
+    (λ c. search needs) (λ c κs. search needs) (λ c. search needs) (λ c. search needs) part-print-end (λ c κs. search needs) (λ c. search needs)
     returns)

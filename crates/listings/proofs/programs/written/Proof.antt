@@ -7,15 +7,6 @@ use borrow.Author.Needs.{needs}
 use Rattle.listings.proofs.programs.written.Statement.{statement}
 use Rattle.listings.proofs.programs.written.Tie as tie
 
-enum-told : tie.Need-enum-told
-enum-told c = search needs
-
-enum-known-w : tie.Need-enum-known-w
-enum-known-w c = search needs
-
-at-most-requires : tie.Need-at-most-requires
-at-most-requires c κs = search needs
-
 returns : tie.Need-returns
 returns c = let a = c .before .before .before .args in counted (a .buf .now) (a .w) 0 (omega (arith, ap bytesIn (c .enum-told .given .1)))
 
@@ -23,4 +14,6 @@ returns-2 : tie.Need-returns-2
 returns-2 c = let a = c .before .before .before .before .before .args in counted (a .buf .now) (a .w) _ (omega (arith, c .at-most .ensures, ap bytesIn (c .before .before .w .given .1)))
 
 pub written-spec : {M : Type 1} → statement M
-written-spec = tie.close (tie.spec enum-told enum-known-w at-most-requires returns returns-2)
+written-spec = tie.close
+    (tie.spec
+    (λ c. search needs) (λ c. search needs) (λ c κs. search needs) returns returns-2)

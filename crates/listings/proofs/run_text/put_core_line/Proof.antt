@@ -6,24 +6,6 @@ use borrow.Author.Needs.{needs}
 use Rattle.listings.proofs.run_text.put_core_line.Statement.{statement}
 use Rattle.listings.proofs.run_text.put_core_line.Tie as tie
 
-slice-aggregate-put-named : tie.Need-slice-aggregate-put-named
-slice-aggregate-put-named c = search needs
-
-put-named-requires : tie.Need-put-named-requires
-put-named-requires c κs = search needs
-
-slice-aggregate-put-named-2 : tie.Need-slice-aggregate-put-named-2
-slice-aggregate-put-named-2 c = search needs
-
-put-named-requires-2 : tie.Need-put-named-requires-2
-put-named-requires-2 c κs = search needs
-
-put-requires : tie.Need-put-requires
-put-requires c κs = search needs
-
-same-length : tie.Need-same-length
-same-length c = search needs
-
 returns : tie.Need-returns
 unfolding ascii
 returns c = let a = c .before .before .before .before .before .before .before .before .before .before .before .before .before .before .before .args in filled-same (core-line (a .core) (a .stops)) (filled-then _ _ _ _ _ _ _ _ (search needs) (filled-then _ _ _ _ _ _ _ _ (search needs) (c .before .before .before .before .before .before .before .before .before .before .before .put-named .ensures) (c .before .before .before .before .before .before .put-named2 .ensures)) (c .before .before .put .ensures))
@@ -32,10 +14,4 @@ pub put-core-line-spec : {M : Type 1} → statement M
 put-core-line-spec =
     tie.close
     (tie.spec
-    slice-aggregate-put-named
-    put-named-requires
-    slice-aggregate-put-named-2
-    put-named-requires-2
-    put-requires
-    same-length
-    returns)
+    (λ c. search needs) (λ c κs. search needs) (λ c. search needs) (λ c κs. search needs) (λ c κs. search needs) (λ c. search needs) returns)

@@ -19,17 +19,8 @@ abbrev μ-loop : tie.MeasureT-loop
 loop-holds : tie.Need-loop-holds Inv-loop μ-loop
 loop-holds c = let a = c .before .args in putting-start (drives-by-item (endingAt (a .crashed) (a .rounds) (a .numbers))) _ _ _ (c .before .pre .0)
 
-add-t12 : tie.Need-add-t12 Inv-loop μ-loop
-add-t12 c = search needs
-
 put-drive-requires : tie.Need-put-drive-requires Inv-loop μ-loop
 put-drive-requires c κs = (omega (arith, c .before .before .loop .inv .bound, c .before .before .loop .inv .long), omega (arith, c .before .before .loop .inv .long), omega arith, omega arith)
-
-add-i : tie.Need-add-i Inv-loop μ-loop
-add-i c = search needs
-
-loop-less : tie.Need-loop-less Inv-loop μ-loop
-loop-less c = search needs
 
 loop-again : tie.Need-loop-again Inv-loop μ-loop
 loop-again c = let a = c .before .before .before .before .before .before .before .args in putting-turn (drives-by-item (endingAt (a .crashed) (a .rounds) (a .numbers))) (c .before .before .before .before .before .loop .inv) (omega (arith, length-range 1 (a .n))) (drive-at 1 (a .n) (c .before .before .before .before .before .loop .i) (c .before .before .before .before .loop-test .taken)) (search needs) (c .before .before .put-drive .ensures)
@@ -44,13 +35,4 @@ pub put-drives-spec : {M : Type 1} → statement M
 put-drives-spec =
     tie.close
     (tie.spec
-    Inv-loop
-    μ-loop
-    loop-holds
-    add-t12
-    put-drive-requires
-    add-i
-    loop-less
-    loop-again
-    same-length
-    returns)
+    Inv-loop μ-loop loop-holds (λ c. search needs) put-drive-requires (λ c. search needs) (λ c. search needs) loop-again same-length returns)

@@ -18,18 +18,6 @@ abbrev μ-loop : tie.MeasureT-loop
 loop-holds : tie.Need-loop-holds Inv-loop μ-loop
 loop-holds c = putting-start (fields-by-item decimal) _ _ _ (c .before .before .pre .0)
 
-shared-slice-read-put-position : tie.Need-shared-slice-read-put-position Inv-loop μ-loop
-shared-slice-read-put-position c = search needs
-
-put-position-requires : tie.Need-put-position-requires Inv-loop μ-loop
-put-position-requires c κs = search needs
-
-add-i : tie.Need-add-i Inv-loop μ-loop
-add-i c = search needs
-
-loop-less : tie.Need-loop-less Inv-loop μ-loop
-loop-less c = search needs
-
 loop-again : tie.Need-loop-again Inv-loop μ-loop
 unfolding decimal
 loop-again c = putting-turn (fields-by-item decimal) (c .before .before .before .before .before .before .loop .inv) (c .before .before .before .before .before .loop-test .taken) refl (search needs) (c .before .before .put-position .ensures)
@@ -44,13 +32,4 @@ pub put-positions-spec : {M : Type 1} → statement M
 put-positions-spec =
     tie.close
     (tie.spec
-    Inv-loop
-    μ-loop
-    loop-holds
-    shared-slice-read-put-position
-    put-position-requires
-    add-i
-    loop-less
-    loop-again
-    same-length
-    returns)
+    Inv-loop μ-loop loop-holds (λ c. search needs) (λ c κs. search needs) (λ c. search needs) (λ c. search needs) loop-again same-length returns)

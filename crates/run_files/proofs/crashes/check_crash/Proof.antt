@@ -5,22 +5,13 @@ use borrow.Author.Needs.{needs}
 use Rattle.run_files.proofs.crashes.check_crash.Statement.{statement}
 use Rattle.run_files.proofs.crashes.check_crash.Tie as tie
 
-is-next-requires : tie.Need-is-next-requires
-is-next-requires c κs = search needs
-
 returns : tie.Need-returns
 unfolding crashRecord
 returns c = let a = c .before .before .args in drive-refused (a .n) (a .core) (a .last .0) (crashRecord (a .drive) (a .round) (a .sends)) _ (c .before .is-next .ensures) (c .if1 .taken)
 
-is-round-requires : tie.Need-is-round-requires
-is-round-requires c κs = search needs
-
 returns-2 : tie.Need-returns-2
 unfolding crashRecord
 returns-2 c = let a = c .before .before .before .before .args in round-refused (a .n) (a .core) (a .last .0) (crashRecord (a .drive) (a .round) (a .sends)) _ (c .before .before .before .is-next .ensures) (c .before .before .if1 .left) _ (c .before .is-round .ensures) (c .if2 .taken)
-
-most-sends-requires : tie.Need-most-sends-requires
-most-sends-requires c κs = search needs
 
 returns-3 : tie.Need-returns-3
 unfolding crashRecord
@@ -34,10 +25,4 @@ pub check-crash-spec : {M : Type 1} → statement M
 check-crash-spec =
     tie.close
     (tie.spec
-    is-next-requires
-    returns
-    is-round-requires
-    returns-2
-    most-sends-requires
-    returns-3
-    returns-4)
+    (λ c κs. search needs) returns (λ c κs. search needs) returns-2 (λ c κs. search needs) returns-3 returns-4)

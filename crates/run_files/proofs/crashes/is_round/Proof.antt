@@ -9,12 +9,6 @@ use borrow.Author.Needs.{needs}
 use Rattle.run_files.proofs.crashes.is_round.Statement.{statement}
 use Rattle.run_files.proofs.crashes.is_round.Tie as tie
 
-size-requires : tie.Need-size-requires
-size-requires c κs = search needs
-
-cast-result : tie.Need-cast-result
-cast-result c = search needs
-
 returns : tie.Need-returns
 unfolding isRound
 returns c = let a = c .before .before .args in ap (leb (a .round .0)) (c .before .size .ensures) ∙ and-second (leb 1 (a .round .0)) (leb (a .round .0) (size (a .core))) (le-leb 1 (a .round .0) (c .if1 .taken))
@@ -24,4 +18,6 @@ unfolding isRound
 returns-2 c = let a = c .before .before .args in and-first (leb 1 (a .round .0)) (leb (a .round .0) (size (a .core))) (lt-leb 1 (a .round .0) (c .if1 .left))
 
 pub is-round-spec : {M : Type 1} → statement M
-is-round-spec = tie.close (tie.spec size-requires cast-result returns returns-2)
+is-round-spec = tie.close
+    (tie.spec
+    (λ c κs. search needs) (λ c. search needs) returns returns-2)

@@ -7,12 +7,6 @@ use Rattle.run_files.proofs.crashes.most_sends.Tie as tie
 returns : tie.Need-returns
 returns c = let a = c .before .args in most-none (a .n) (a .core) (a .drive .0) (c .if1 .taken)
 
-has-requires : tie.Need-has-requires
-has-requires c κs = search needs
-
-sub-result : tie.Need-sub-result
-sub-result c = search needs
-
 returns-2 : tie.Need-returns-2
 returns-2 c = let a = c .before .before .before .args in most-core (a .n) (a .core) (a .drive .0) _ (c .before .has .ensures) (c .if2 .taken)
 
@@ -20,4 +14,6 @@ returns-3 : tie.Need-returns-3
 returns-3 c = let a = c .before .before .before .args in most-listener (a .n) (a .core) (a .drive .0) _ (c .before .has .ensures) (c .if2 .left)
 
 pub most-sends-spec : {M : Type 1} → statement M
-most-sends-spec = tie.close (tie.spec returns has-requires sub-result returns-2 returns-3)
+most-sends-spec = tie.close
+    (tie.spec
+    returns (λ c κs. search needs) (λ c. search needs) returns-2 returns-3)

@@ -5,24 +5,6 @@ use borrow.Author.Needs.{needs}
 use Rattle.run_files.proofs.listing.crash_step.Statement.{statement}
 use Rattle.run_files.proofs.listing.crash_step.Tie as tie
 
-shared-slice-read-sends : tie.Need-shared-slice-read-sends
-shared-slice-read-sends c = search needs
-
-shared-slice-read-sends-2 : tie.Need-shared-slice-read-sends-2
-shared-slice-read-sends-2 c = search needs
-
-shared-slice-read-sends-3 : tie.Need-shared-slice-read-sends-3
-shared-slice-read-sends-3 c = search needs
-
-check-crash-requires : tie.Need-check-crash-requires
-check-crash-requires c κs = search needs
-
-enum-known-answer : tie.Need-enum-known-answer
-enum-known-answer c = search needs
-
-enum-told : tie.Need-enum-told
-enum-told c = search needs
-
 returns : tie.Need-returns
 returns c = let a = c .before .before .before .before .before .before .before .before .args in crash-refused (a .n) (a .core) (a .last .0) (a .s .now) (c .before .before .before .before .before .before .before .before .pre) _ _ _ refl refl refl _ (c .before .before .before .check-crash .ensures) _ (c .before .answer .given .1)
 
@@ -33,11 +15,4 @@ pub crash-step-spec : {M : Type 1} → statement M
 crash-step-spec =
     tie.close
     (tie.spec
-    shared-slice-read-sends
-    shared-slice-read-sends-2
-    shared-slice-read-sends-3
-    check-crash-requires
-    enum-known-answer
-    enum-told
-    returns
-    returns-2)
+    (λ c. search needs) (λ c. search needs) (λ c. search needs) (λ c κs. search needs) (λ c. search needs) (λ c. search needs) returns returns-2)

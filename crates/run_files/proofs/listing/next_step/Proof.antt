@@ -5,21 +5,6 @@ use borrow.Author.Needs.{needs}
 use Rattle.run_files.proofs.listing.next_step.Statement.{statement}
 use Rattle.run_files.proofs.listing.next_step.Tie as tie
 
-read-head-requires : tie.Need-read-head-requires
-read-head-requires c κs = search needs
-
-enum-known-head : tie.Need-enum-known-head
-enum-known-head c = search needs
-
-enum-known-head-2 : tie.Need-enum-known-head-2
-enum-known-head-2 c = search needs
-
-is-end-requires : tie.Need-is-end-requires
-is-end-requires c κs = search needs
-
-end-step-requires : tie.Need-end-step-requires
-end-step-requires c κs = search needs
-
 returns : tie.Need-returns
 returns c = let a = c .before .before .before .before .before .before .before .before .args in c .end-step .ensures ∙ step-end (a .n) (a .core) (a .last .0) (a .count) (a .s .now) _ (c .before .before .before .before .before .before .read-head .ensures) _ _ (c .before .before .before .before .head2 .given .1) (c .before .before .is-end .ensures) (c .before .if1 .taken)
 
@@ -36,12 +21,5 @@ pub next-step-spec : {M : Type 1} → statement M
 next-step-spec =
     tie.close
     (tie.spec
-    read-head-requires
-    enum-known-head
-    enum-known-head-2
-    is-end-requires
-    end-step-requires
-    returns
-    crash-step-requires
-    returns-2
+    (λ c κs. search needs) (λ c. search needs) (λ c. search needs) (λ c κs. search needs) (λ c κs. search needs) returns crash-step-requires returns-2
     returns-3)

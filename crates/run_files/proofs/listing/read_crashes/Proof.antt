@@ -15,35 +15,11 @@ Inv-loop s n core crashes₀ last₀ count₀ at₀ crashes last count at = List
 abbrev μ-loop : tie.MeasureT-loop
 μ-loop s n core crashes₀ last₀ count₀ at₀ crashes last count at = n - last .0
 
-none-requires : tie.Need-none-requires Inv-loop μ-loop
-none-requires c κs = search needs
-
 loop-holds : tie.Need-loop-holds Inv-loop μ-loop
 loop-holds c = let a = c .before .before .args in listing-start (a .s .now) (a .n) (a .core) _ (c .none .ensures .0) (c .none .ensures .1) (c .none .ensures .2)
 
-sub-next-step : tie.Need-sub-next-step Inv-loop μ-loop
-sub-next-step c = search needs
-
-part-next-step-start : tie.Need-part-next-step-start Inv-loop μ-loop
-part-next-step-start c = search needs
-
-part-next-step-end : tie.Need-part-next-step-end Inv-loop μ-loop
-part-next-step-end c = search needs
-
-next-step-requires : tie.Need-next-step-requires Inv-loop μ-loop
-next-step-requires c κs = search needs
-
-enum-known-next : tie.Need-enum-known-next Inv-loop μ-loop
-enum-known-next c = search needs
-
-refused-requires : tie.Need-refused-requires Inv-loop μ-loop
-refused-requires c κs = search needs
-
 returns : tie.Need-returns Inv-loop μ-loop
 returns c = let l = c .before .before .before .before .before .before .loop in let a = c .before .before .before .before .before .before .before .before .before .args in refused-outcome _ _ _ (c .refused .ensures) ∙ listing-stop (a .s .now) (a .n) (a .core) (l .crashes) (l .last .0) (l .count) (l .at) (l .inv) _ (from-part (a .n) (a .core) (l .last .0) (l .count) (a .s .now) (l .at) _ _ (c .before .before .next .given .1) (c .before .before .before .before .next-step .ensures))
-
-enum-told : tie.Need-enum-told Inv-loop μ-loop
-enum-told c = search needs
 
 add-t18 : tie.Need-add-t18 Inv-loop μ-loop
 add-t18 c = let l = c .before .before .before .before .loop in let a = c .before .before .before .before .before .before .before .args in omega (arith, end-within (a .s .now) (a .n) (a .core) (l .crashes) (l .last .0) (l .count) (l .at) (l .inv) (from-part (a .n) (a .core) (l .last .0) (l .count) (a .s .now) (l .at) _ _ (c .enum-told .given .1) (c .before .before .next-step .ensures)))
@@ -51,9 +27,6 @@ add-t18 c = let l = c .before .before .before .before .loop in let a = c .before
 returns-2 : tie.Need-returns-2 Inv-loop μ-loop
 unfolding crashesOutcome
 returns-2 c = let l = c .before .before .before .before .loop in let a = c .before .before .before .before .before .before .before .args in listing-end (a .s .now) (a .n) (a .core) (l .crashes) (l .last .0) (l .count) (l .at) (l .inv) (from-part (a .n) (a .core) (l .last .0) (l .count) (a .s .now) (l .at) _ _ (c .enum-told .given .1) (c .before .before .next-step .ensures))
-
-enum-known-next-2 : tie.Need-enum-known-next-2 Inv-loop μ-loop
-enum-known-next-2 c = search needs
 
 note-requires : tie.Need-note-requires Inv-loop μ-loop
 note-requires c κs = let l = c .before .before .before .before .before .loop in let a = c .before .before .before .before .before .before .before .before .args in let w = crash-bounds (a .s .now) (a .n) (a .core) (l .crashes) (l .last .0) (l .count) (l .at) (l .inv) _ _ _ (from-part (a .n) (a .core) (l .last .0) (l .count) (a .s .now) (l .at) _ _ (c .before .next2 .given .1) (c .before .before .before .next-step .ensures)) in (w .0, omega (arith, w .1, c .before .before .before .before .before .before .before .before .pre))
@@ -74,23 +47,6 @@ pub read-crashes-spec : {M : Type 1} → statement M
 read-crashes-spec =
     tie.close
     (tie.spec
-    Inv-loop
-    μ-loop
-    none-requires
-    loop-holds
-    sub-next-step
-    part-next-step-start
-    part-next-step-end
-    next-step-requires
-    enum-known-next
-    refused-requires
-    returns
-    enum-told
-    add-t18
-    returns-2
-    enum-known-next-2
-    note-requires
-    add-count
-    add-at
-    loop-less
-    loop-again)
+    Inv-loop μ-loop (λ c κs. search needs) loop-holds (λ c. search needs) (λ c. search needs) (λ c. search needs) (λ c κs. search needs)
+    (λ c. search needs) (λ c κs. search needs) returns (λ c. search needs) add-t18 returns-2 (λ c. search needs) note-requires add-count add-at
+    loop-less loop-again)

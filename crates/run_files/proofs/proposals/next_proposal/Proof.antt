@@ -5,23 +5,11 @@ use borrow.Author.Needs.{needs}
 use Rattle.run_files.proofs.proposals.next_proposal.Statement.{statement}
 use Rattle.run_files.proofs.proposals.next_proposal.Tie as tie
 
-read-head-requires : tie.Need-read-head-requires
-read-head-requires c κs = search needs
-
-enum-known-head : tie.Need-enum-known-head
-enum-known-head c = search needs
-
-enum-told : tie.Need-enum-told
-enum-told c = search needs
-
 shared-slice-read-if1 : tie.Need-shared-slice-read-if1
 shared-slice-read-if1 c = let a = c .before .before .before .before .before .args in omega (arith, proposal-long (a .due .0) (a .s .now) _ (c .before .before .before .read-head .ensures) _ (c .before .enum-told .given .1))
 
 returns : tie.Need-returns
 returns c = let a = c .before .before .before .before .before .before .args in not-next (a .due .0) (a .s .now) _ (c .before .before .before .before .read-head .ensures) _ (c .before .before .enum-told .given .1) (c .if1 .taken)
-
-pattern-at-requires : tie.Need-pattern-at-requires
-pattern-at-requires c κs = search needs
 
 returns-2 : tie.Need-returns-2
 returns-2 c = let a = c .before .before .before .before .before .args in proposal-refused (a .due .0) (a .s .now) _ (c .before .before .before .read-head .ensures) _ (c .before .head .given .1)
@@ -33,11 +21,4 @@ pub next-proposal-spec : {M : Type 1} → statement M
 next-proposal-spec =
     tie.close
     (tie.spec
-    read-head-requires
-    enum-known-head
-    enum-told
-    shared-slice-read-if1
-    returns
-    pattern-at-requires
-    returns-2
-    returns-3)
+    (λ c κs. search needs) (λ c. search needs) (λ c. search needs) shared-slice-read-if1 returns (λ c κs. search needs) returns-2 returns-3)

@@ -17,35 +17,11 @@ abbrev μ-loop : tie.MeasureT-loop
 loop-holds : tie.Need-loop-holds Inv-loop μ-loop
 loop-holds c = let a = c .before .args in proposing-start (a .s .now) (a .n) _ refl
 
-sub-next-proposal : tie.Need-sub-next-proposal Inv-loop μ-loop
-sub-next-proposal c = search needs
-
-part-next-proposal-start : tie.Need-part-next-proposal-start Inv-loop μ-loop
-part-next-proposal-start c = search needs
-
-part-next-proposal-end : tie.Need-part-next-proposal-end Inv-loop μ-loop
-part-next-proposal-end c = search needs
-
 add-t16 : tie.Need-add-t16 Inv-loop μ-loop
 add-t16 c = omega (arith, c .before .before .before .before .pre)
 
-next-proposal-requires : tie.Need-next-proposal-requires Inv-loop μ-loop
-next-proposal-requires c κs = search needs
-
-enum-known-next : tie.Need-enum-known-next Inv-loop μ-loop
-enum-known-next c = search needs
-
-refused-requires : tie.Need-refused-requires Inv-loop μ-loop
-refused-requires c κs = search needs
-
 returns : tie.Need-returns Inv-loop μ-loop
 returns c = let l = c .before .before .before .before .before .before .before .loop in let a = c .before .before .before .before .before .before .before .before .before .args in (refused-outcome (a .n) _ _ _ (c .refused .ensures .0) ∙ proposing-stop (a .s .now) (a .n) (l .numbers) (l .given) (l .at) (l .inv) (c .before .before .before .before .before .before .loop-test .taken) (c .before .before .before .before .before .before .before .before .before .pre) _ (from-part (l .given + 1) (a .s .now) (l .at) _ _ (c .before .before .next .given .1) (c .before .before .before .before .next-proposal .ensures)), omega (arith, c .refused .ensures))
-
-enum-known-next-2 : tie.Need-enum-known-next-2 Inv-loop μ-loop
-enum-known-next-2 c = search needs
-
-cast-place : tie.Need-cast-place Inv-loop μ-loop
-cast-place c = search needs
 
 mul-numbers : tie.Need-mul-numbers Inv-loop μ-loop
 mul-numbers c = omega (arith, c .before .before .before .before .before .before .before .before .pre)
@@ -59,9 +35,6 @@ add-given c = omega (arith, c .before .before .before .before .before .before .b
 add-at : tie.Need-add-at Inv-loop μ-loop
 add-at c = let l = c .before .before .before .before .before .before .loop in let a = c .before .before .before .before .before .before .before .before .args in omega (arith, number-within (a .s .now) (a .n) (l .numbers) (l .given) (l .at) (l .inv) (c .before .before .before .before .before .loop-test .taken) (c .before .before .before .before .before .before .before .before .pre) _ (from-part (l .given + 1) (a .s .now) (l .at) _ _ (c .before .next2 .given .1) (c .before .before .before .next-proposal .ensures)))
 
-loop-less : tie.Need-loop-less Inv-loop μ-loop
-loop-less c = search needs
-
 loop-again : tie.Need-loop-again Inv-loop μ-loop
 loop-again c = let l = c .before .before .before .before .before .before .loop in let a = c .before .before .before .before .before .before .before .before .args in proposing-turn (a .s .now) (a .n) (l .numbers) (l .given) (l .at) (l .inv) (c .before .before .before .before .before .loop-test .taken) (c .before .before .before .before .before .before .before .before .pre) _ (from-part (l .given + 1) (a .s .now) (l .at) _ _ (c .before .next2 .given .1) (c .before .before .before .next-proposal .ensures))
 
@@ -73,23 +46,6 @@ pub read-proposals-spec : {M : Type 1} → statement M
 read-proposals-spec =
     tie.close
     (tie.spec
-    Inv-loop
-    μ-loop
-    loop-holds
-    sub-next-proposal
-    part-next-proposal-start
-    part-next-proposal-end
-    add-t16
-    next-proposal-requires
-    enum-known-next
-    refused-requires
-    returns
-    enum-known-next-2
-    cast-place
-    mul-numbers
-    array-set-from-numbers
-    add-given
-    add-at
-    loop-less
-    loop-again
-    returns-2)
+    Inv-loop μ-loop loop-holds (λ c. search needs) (λ c. search needs) (λ c. search needs) add-t16 (λ c κs. search needs) (λ c. search needs)
+    (λ c κs. search needs) returns (λ c. search needs) (λ c. search needs) mul-numbers array-set-from-numbers add-given add-at (λ c. search needs)
+    loop-again returns-2)

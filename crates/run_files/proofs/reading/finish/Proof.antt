@@ -7,12 +7,6 @@ use borrow.Author.Needs.{needs}
 use Rattle.run_files.proofs.reading.finish.Statement.{statement}
 use Rattle.run_files.proofs.reading.finish.Tie as tie
 
-meets-all-requires : tie.Need-meets-all-requires
-meets-all-requires c κs = search needs
-
-refused-file-requires : tie.Need-refused-file-requires
-refused-file-requires c κs = search needs
-
 returns : tie.Need-returns
 returns c = let a = c .before .before .before .before .args in let word : a .crashes .crashed < 2 ^ 64 = search needs in λ n. refused-outcome _ _ (c .refused-file .ensures) n ∙ none-untouched (a .sets .now) (a .numbers) (a .crashes) word _ (c .before .before .meets-all .ensures) n (c .before .if1 .taken)
 
@@ -21,4 +15,6 @@ unfolding runFileOutcome
 returns-2 c = let a = c .before .before .before .args in let word : a .crashes .crashed < 2 ^ 64 = search needs in λ n. some-untouched (a .sets .now) (a .numbers) (a .crashes) word _ (c .before .meets-all .ensures) n (c .if1 .left)
 
 pub finish-spec : {M : Type 1} → statement M
-finish-spec = tie.close (tie.spec meets-all-requires refused-file-requires returns returns-2)
+finish-spec = tie.close
+    (tie.spec
+    (λ c κs. search needs) (λ c κs. search needs) returns returns-2)

@@ -11,30 +11,6 @@ use borrow.Author.Needs.{needs}
 use Rattle.run_files.proofs.reading.read_behind.Statement.{statement}
 use Rattle.run_files.proofs.reading.read_behind.Tie as tie
 
-read-proposals-requires : tie.Need-read-proposals-requires
-read-proposals-requires c κs = search needs
-
-enum-known-answer : tie.Need-enum-known-answer
-enum-known-answer c = search needs
-
-refused-file-requires : tie.Need-refused-file-requires
-refused-file-requires c κs = search needs
-
-enum-told : tie.Need-enum-told
-enum-told c = search needs
-
-sub-read-rest : tie.Need-sub-read-rest
-sub-read-rest c = search needs
-
-part-read-rest-start : tie.Need-part-read-rest-start
-part-read-rest-start c = search needs
-
-part-read-rest-end : tie.Need-part-read-rest-end
-part-read-rest-end c = search needs
-
-read-rest-requires : tie.Need-read-rest-requires
-read-rest-requires c κs = search needs
-
 returns : tie.Need-returns
 returns c = let a = c .before .before .before .before .before .before .before .before .args in refused-outcome _ _ (c .refused-file .ensures) (a .n) ∙ behind-refused (a .n) (a .core) (a .sets .now) (a .s .now) (c .before .before .before .before .before .read-proposals .result) (c .before .before .before .before .before .read-proposals .ensures .0) _ (c .before .before .answer .given .1)
 
@@ -45,13 +21,5 @@ pub read-behind-spec : {M : Type 1} → statement M
 read-behind-spec =
     tie.close
     (tie.spec
-    read-proposals-requires
-    enum-known-answer
-    refused-file-requires
-    enum-told
-    sub-read-rest
-    part-read-rest-start
-    part-read-rest-end
-    read-rest-requires
-    returns
-    returns-2)
+    (λ c κs. search needs) (λ c. search needs) (λ c κs. search needs) (λ c. search needs) (λ c. search needs) (λ c. search needs) (λ c. search needs)
+    (λ c κs. search needs) returns returns-2)

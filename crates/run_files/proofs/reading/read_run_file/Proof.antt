@@ -5,18 +5,6 @@ use borrow.Author.Needs.{needs}
 use Rattle.run_files.proofs.reading.read_run_file.Statement.{statement}
 use Rattle.run_files.proofs.reading.read_run_file.Tie as tie
 
-chosen-core-requires : tie.Need-chosen-core-requires
-chosen-core-requires c κs = search needs
-
-enum-known-chosen : tie.Need-enum-known-chosen
-enum-known-chosen c = search needs
-
-refused-file-requires : tie.Need-refused-file-requires
-refused-file-requires c κs = search needs
-
-enum-known-chosen-2 : tie.Need-enum-known-chosen-2
-enum-known-chosen-2 c = search needs
-
 read-behind-requires : tie.Need-read-behind-requires
 read-behind-requires c κs =
     let a = c .before .before .before .before .before .before .args in
@@ -38,10 +26,4 @@ pub read-run-file-spec : {M : Type 1} → statement M
 read-run-file-spec =
     tie.close
     (tie.spec
-    chosen-core-requires
-    enum-known-chosen
-    refused-file-requires
-    enum-known-chosen-2
-    read-behind-requires
-    returns
-    returns-2)
+    (λ c κs. search needs) (λ c. search needs) (λ c κs. search needs) (λ c. search needs) read-behind-requires returns returns-2)

@@ -15,26 +15,14 @@ abbrev μ-loop : tie.MeasureT-loop
 loop-holds : tie.Need-loop-holds Inv-loop μ-loop
 loop-holds c = let a = c .args in check-start (a .n) (a .core) (a .crashes) (search needs)
 
-lowest-requires : tie.Need-lowest-requires Inv-loop μ-loop
-lowest-requires c κs = search needs
-
 check-one-requires : tie.Need-check-one-requires Inv-loop μ-loop
 check-one-requires c κs = let l = c .before .before .loop in lowest-bounds (l .rest) _ (l .inv .word) (c .before .loop-test .taken) (c .lowest .ensures)
-
-enum-known-answer : tie.Need-enum-known-answer Inv-loop μ-loop
-enum-known-answer c = search needs
 
 returns : tie.Need-returns Inv-loop μ-loop
 returns c =
     let a = c .before .before .before .before .before .before .before .args in
     let l = c .before .before .before .before .before .before .loop in
     check-refused (a .n) (a .core) (a .crashes) (l .rest) (l .last .0) _ (l .inv) (c .before .before .before .before .before .loop-test .taken) (c .before .before .before .before .lowest .ensures) _ (c .before .before .before .check-one .ensures) _ (c .before .answer .given .1)
-
-enum-told : tie.Need-enum-told Inv-loop μ-loop
-enum-told c = search needs
-
-remove-requires : tie.Need-remove-requires Inv-loop μ-loop
-remove-requires c κs = search needs
 
 loop-less : tie.Need-loop-less Inv-loop μ-loop
 loop-less c = let l = c .before .before .before .before .before .before .loop in removed-less (l .rest) _ _ (l .inv .word) (c .before .before .before .before .before .loop-test .taken) (c .before .before .before .before .lowest .ensures) (c .remove .ensures)
@@ -52,15 +40,5 @@ pub check-all-spec : {M : Type 1} → statement M
 check-all-spec =
     tie.close
     (tie.spec
-    Inv-loop
-    μ-loop
-    loop-holds
-    lowest-requires
-    check-one-requires
-    enum-known-answer
-    returns
-    enum-told
-    remove-requires
-    loop-less
-    loop-again
-    returns-2)
+    Inv-loop μ-loop loop-holds (λ c κs. search needs) check-one-requires (λ c. search needs) returns (λ c. search needs) (λ c κs. search needs)
+    loop-less loop-again returns-2)

@@ -4,15 +4,6 @@ use borrow.Author.Needs.{needs}
 use Rattle.simulation.proofs.checking.check_one.Statement.{statement}
 use Rattle.simulation.proofs.checking.check_one.Tie as tie
 
-round-at-requires : tie.Need-round-at-requires
-round-at-requires c κs = search needs
-
-sends-at-requires : tie.Need-sends-at-requires
-sends-at-requires c κs = search needs
-
-check-crash-requires : tie.Need-check-crash-requires
-check-crash-requires c κs = search needs
-
 returns : tie.Need-returns
 returns c =
     let a = c .before .before .before .before .before .args in
@@ -20,4 +11,6 @@ returns c =
 
 pub check-one-spec : {M : Type 1} → statement M
 check-one-spec =
-    tie.close (tie.spec round-at-requires sends-at-requires check-crash-requires returns)
+    tie.close
+    (tie.spec
+    (λ c κs. search needs) (λ c κs. search needs) (λ c κs. search needs) returns)

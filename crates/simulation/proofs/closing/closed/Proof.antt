@@ -4,17 +4,13 @@ use borrow.Author.Needs.{needs}
 use Rattle.simulation.proofs.closing.closed.Statement.{statement}
 use Rattle.simulation.proofs.closing.closed.Tie as tie
 
-is-closer-requires : tie.Need-is-closer-requires
-is-closer-requires c κs = search needs
-
 returns : tie.Need-returns
 returns c = let a = c .before .before .args in not-closed (a .x) _ _ (c .before .is-closer .ensures) (c .if1 .taken)
-
-close-requires : tie.Need-close-requires
-close-requires c κs = search needs
 
 returns-2 : tie.Need-returns-2
 returns-2 c = let a = c .before .before .before .before .args in closed-now (a .x) _ _ (c .before .before .before .is-closer .ensures) (c .before .before .if1 .left) _ (c .before .close .ensures .state)
 
 pub closed-spec : {M : Type 1} → statement M
-closed-spec = tie.close (tie.spec is-closer-requires returns close-requires returns-2)
+closed-spec = tie.close
+    (tie.spec
+    (λ c κs. search needs) returns (λ c κs. search needs) returns-2)

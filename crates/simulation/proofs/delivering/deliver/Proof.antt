@@ -4,21 +4,6 @@ use borrow.Author.Needs.{needs}
 use Rattle.simulation.proofs.delivering.deliver.Statement.{statement}
 use Rattle.simulation.proofs.delivering.deliver.Tie as tie
 
-remove-requires : tie.Need-remove-requires
-remove-requires c κs = search needs
-
-deliver-to-requires : tie.Need-deliver-to-requires
-deliver-to-requires c κs = search needs
-
-left-after-requires : tie.Need-left-after-requires
-left-after-requires c κs = search needs
-
-outside-requires : tie.Need-outside-requires
-outside-requires c κs = search needs
-
-deliver-to-requires-2 : tie.Need-deliver-to-requires-2
-deliver-to-requires-2 c κs = search needs
-
 returns : tie.Need-returns
 returns c =
     let a = c .before .before .before .before .before .before .args in
@@ -29,9 +14,4 @@ pub deliver-spec : {M : Type 1} → statement M
 deliver-spec =
     tie.close
     (tie.spec
-    remove-requires
-    deliver-to-requires
-    left-after-requires
-    outside-requires
-    deliver-to-requires-2
-    returns)
+    (λ c κs. search needs) (λ c κs. search needs) (λ c κs. search needs) (λ c κs. search needs) (λ c κs. search needs) returns)

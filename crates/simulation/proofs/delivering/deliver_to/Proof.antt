@@ -19,14 +19,8 @@ loop-holds c = let a = c .before .args in deliver-start (a .bytes .now) (a .m) (
 returns : tie.Need-returns Inv-loop μ-loop
 returns c = let a = c .before .before .before .before .args in let l = c .before .before .loop in deliver-none (a .bytes .now) (a .m) (a .sends) (a .states) (l .all) (l .rest) (l .left) (l .inv) (c .if1 .taken)
 
-lowest-requires : tie.Need-lowest-requires Inv-loop μ-loop
-lowest-requires c κs = search needs
-
 sub-at : tie.Need-sub-at Inv-loop μ-loop
 sub-at c = let l = c .before .before .before .loop in omega (arith, lowest-bounds (l .rest) _ (l .inv .word) (c .before .before .loop-test .taken) (c .lowest .ensures) .0)
-
-cast-at : tie.Need-cast-at Inv-loop μ-loop
-cast-at c = search needs
 
 mul-x : tie.Need-mul-x Inv-loop μ-loop
 mul-x c = let l = c .before .before .before .loop in omega (arith, lowest-bounds (l .rest) _ (l .inv .word) (c .before .before .loop-test .taken) (c .lowest .ensures) .1)
@@ -37,9 +31,6 @@ array-copy-out-x c =
     let b = lowest-bounds (l .rest) _ (l .inv .word) (c .before .before .loop-test .taken) (c .lowest .ensures) in
     omega (arith, b .0, b .1)
 
-message-requires : tie.Need-message-requires Inv-loop μ-loop
-message-requires c κs = search needs
-
 mul-all : tie.Need-mul-all Inv-loop μ-loop
 mul-all c = let l = c .before .before .before .before .before .before .loop in omega (arith, lowest-bounds (l .rest) _ (l .inv .word) (c .before .before .before .before .before .loop-test .taken) (c .before .before .before .lowest .ensures) .1)
 
@@ -48,12 +39,6 @@ array-set-from-all c =
     let l = c .before .before .before .before .before .before .loop in
     let b = lowest-bounds (l .rest) _ (l .inv .word) (c .before .before .before .before .before .loop-test .taken) (c .before .before .before .lowest .ensures) in
     omega (arith, b .0, b .1)
-
-remove-requires : tie.Need-remove-requires Inv-loop μ-loop
-remove-requires c κs = search needs
-
-sub-left : tie.Need-sub-left Inv-loop μ-loop
-sub-left c = search needs
 
 loop-less : tie.Need-loop-less Inv-loop μ-loop
 loop-less c = let l = c .before .before .before .before .before .before .before .loop in removed-less (l .rest) _ _ (l .inv .word) (c .before .before .before .before .before .before .loop-test .taken) (c .before .before .before .before .lowest .ensures) (c .remove .ensures)
@@ -72,20 +57,5 @@ pub deliver-to-spec : {M : Type 1} → statement M
 deliver-to-spec =
     tie.close
     (tie.spec
-    Inv-loop
-    μ-loop
-    loop-holds
-    returns
-    lowest-requires
-    sub-at
-    cast-at
-    mul-x
-    array-copy-out-x
-    message-requires
-    mul-all
-    array-set-from-all
-    remove-requires
-    sub-left
-    loop-less
-    loop-again
-    returns-2)
+    Inv-loop μ-loop loop-holds returns (λ c κs. search needs) sub-at (λ c. search needs) mul-x array-copy-out-x (λ c κs. search needs) mul-all
+    array-set-from-all (λ c κs. search needs) (λ c. search needs) loop-less loop-again returns-2)

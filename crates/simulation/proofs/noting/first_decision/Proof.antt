@@ -7,12 +7,6 @@ use Rattle.simulation.proofs.noting.first_decision.Tie as tie
 returns : tie.Need-returns
 returns c = let a = c .before .before .args in kept (a .was .0) (a .number .0) (a .decision) (a .round .0) (c .if1 .taken)
 
-enum-told : tie.Need-enum-told
-enum-told c = search needs
-
-enum-known-decision : tie.Need-enum-known-decision
-enum-known-decision c = search needs
-
 returns-2 : tie.Need-returns-2
 returns-2 c = let a = c .before .before .before .before .args in still-none (a .was .0) (a .number .0) (a .decision) (a .round .0) (c .before .before .if1 .left) (c .enum-told .given .1)
 
@@ -21,4 +15,6 @@ returns-3 c = let a = c .before .before .before .before .before .args in found-n
 
 pub first-decision-spec : {M : Type 1} → statement M
 first-decision-spec =
-    tie.close (tie.spec returns enum-told enum-known-decision returns-2 returns-3)
+    tie.close
+    (tie.spec
+    returns (λ c. search needs) (λ c. search needs) returns-2 returns-3)

@@ -21,42 +21,6 @@ loop-holds c =
     let fields = c .before .before .good .0 .1 .1 in
     note-start (a .found .rounds) (a .found .numbers) (a .t2) (a .round .0) (sym (length-map (a .found .rounds) _) ∙ fields .0 .1 .0 .1) (sym (length-map (a .found .numbers) _) ∙ fields .1 .0 .1 .0 .1)
 
-cast-at : tie.Need-cast-at Inv-loop μ-loop
-cast-at c = search needs
-
-mul-x : tie.Need-mul-x Inv-loop μ-loop
-mul-x c = search needs
-
-array-copy-out-x : tie.Need-array-copy-out-x Inv-loop μ-loop
-array-copy-out-x c = search needs
-
-array-copy-out-was : tie.Need-array-copy-out-was Inv-loop μ-loop
-array-copy-out-was c = search needs
-
-mul-had : tie.Need-mul-had Inv-loop μ-loop
-mul-had c = search needs
-
-array-copy-out-had : tie.Need-array-copy-out-had Inv-loop μ-loop
-array-copy-out-had c = search needs
-
-first-decision-requires : tie.Need-first-decision-requires Inv-loop μ-loop
-first-decision-requires c κs = search needs
-
-array-set-from-rounds : tie.Need-array-set-from-rounds Inv-loop μ-loop
-array-set-from-rounds c = search needs
-
-mul-numbers : tie.Need-mul-numbers Inv-loop μ-loop
-mul-numbers c = search needs
-
-array-set-from-numbers : tie.Need-array-set-from-numbers Inv-loop μ-loop
-array-set-from-numbers c = search needs
-
-add-i : tie.Need-add-i Inv-loop μ-loop
-add-i c = search needs
-
-loop-less : tie.Need-loop-less Inv-loop μ-loop
-loop-less c = search needs
-
 loop-again : tie.Need-loop-again Inv-loop μ-loop
 loop-again c =
     let a = c .before .before .before .before .before .before .before .before .before .before .args in
@@ -74,20 +38,5 @@ pub note-all-spec : {M : Type 1} → statement M
 note-all-spec =
     tie.close
     (tie.spec
-    Inv-loop
-    μ-loop
-    loop-holds
-    cast-at
-    mul-x
-    array-copy-out-x
-    array-copy-out-was
-    mul-had
-    array-copy-out-had
-    first-decision-requires
-    array-set-from-rounds
-    mul-numbers
-    array-set-from-numbers
-    add-i
-    loop-less
-    loop-again
-    returns)
+    Inv-loop μ-loop loop-holds (λ c. search needs) (λ c. search needs) (λ c. search needs) (λ c. search needs) (λ c. search needs) (λ c. search needs)
+    (λ c κs. search needs) (λ c. search needs) (λ c. search needs) (λ c. search needs) (λ c. search needs) (λ c. search needs) loop-again returns)

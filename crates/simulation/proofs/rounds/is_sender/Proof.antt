@@ -7,9 +7,6 @@ use borrow.Author.Needs.{needs}
 use Rattle.simulation.proofs.rounds.is_sender.Statement.{statement}
 use Rattle.simulation.proofs.rounds.is_sender.Tie as tie
 
-has-requires : tie.Need-has-requires
-has-requires c κs = search needs
-
 returns : tie.Need-returns
 unfolding active
 returns c =
@@ -22,12 +19,11 @@ returns-2 c =
     let a = c .before .before .before .args in
     has-halted _ _ (a .x .halted) (goneBefore (crashAt (a .crashes) (a .d .0)) (a .round .0)) (c .before .before .has .ensures) (c .before .if1 .left) (c .if2 .taken)
 
-gone-before-requires : tie.Need-gone-before-requires
-gone-before-requires c κs = search needs
-
 returns-3 : tie.Need-returns-3
 unfolding active
 returns-3 c = sends-unless-gone _ _ (c .before .before .before .before .args .x .halted) _ (c .before .before .before .has .ensures) (c .before .before .if1 .left) (c .before .if2 .left) _ (c .gone-before .ensures)
 
 pub is-sender-spec : {M : Type 1} → statement M
-is-sender-spec = tie.close (tie.spec has-requires returns returns-2 gone-before-requires returns-3)
+is-sender-spec = tie.close
+    (tie.spec
+    (λ c κs. search needs) returns returns-2 (λ c κs. search needs) returns-3)

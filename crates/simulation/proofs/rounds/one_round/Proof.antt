@@ -8,12 +8,6 @@ use borrow.Author.Needs.{needs}
 use Rattle.simulation.proofs.rounds.one_round.Statement.{statement}
 use Rattle.simulation.proofs.rounds.one_round.Tie as tie
 
-send-all-requires : tie.Need-send-all-requires
-send-all-requires c κs = search needs
-
-close-all-requires : tie.Need-close-all-requires
-close-all-requires c κs = search needs
-
 returns : tie.Need-returns
 returns c s g =
     let a = c .before .before .args in
@@ -23,4 +17,6 @@ returns c s g =
     ∙ sym (round-made (a .n) (a .core) (a .crashes) s (pre .0) (pre .1) g (a .states) (a .round .0)))
 
 pub one-round-spec : {M : Type 1} → statement M
-one-round-spec = tie.close (tie.spec send-all-requires close-all-requires returns)
+one-round-spec = tie.close
+    (tie.spec
+    (λ c κs. search needs) (λ c κs. search needs) returns)

@@ -11,12 +11,6 @@ use borrow.Author.Needs.{needs}
 use Rattle.simulation.proofs.rounds.sent.Statement.{statement}
 use Rattle.simulation.proofs.rounds.sent.Tie as tie
 
-sends-made-requires : tie.Need-sends-made-requires
-sends-made-requires c κs = search needs
-
-send-from-requires : tie.Need-send-from-requires
-send-from-requires c κs = search needs
-
 returns : tie.Need-returns
 returns c =
     let a = c .before .before .args in
@@ -27,4 +21,6 @@ returns c =
     (sym (c .before .sends-made .ensures list (length-list (a .n) (a .core) (a .d .0) (pre .0) (pre .1))))
 
 pub sent-spec : {M : Type 1} → statement M
-sent-spec = tie.close (tie.spec sends-made-requires send-from-requires returns)
+sent-spec = tie.close
+    (tie.spec
+    (λ c κs. search needs) (λ c κs. search needs) returns)

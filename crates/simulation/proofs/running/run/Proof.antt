@@ -15,35 +15,14 @@ Inv-loop n core crashes states₀ found₀ last done₀ states found done = Runn
 abbrev μ-loop : tie.MeasureT-loop
 μ-loop n core crashes states₀ found₀ last done₀ states found done = last - done
 
-open-all-requires : tie.Need-open-all-requires Inv-loop μ-loop
-open-all-requires c κs = search needs
-
-nothing-requires : tie.Need-nothing-requires Inv-loop μ-loop
-nothing-requires c κs = search needs
-
-size-requires : tie.Need-size-requires Inv-loop μ-loop
-size-requires c κs = search needs
-
 loop-holds : tie.Need-loop-holds Inv-loop μ-loop
 loop-holds c = let a = c .before .before .before .args in run-start (a .n) (a .core) (a .crashes) _ _ (c .before .nothing .ensures)
-
-cast-loop : tie.Need-cast-loop Inv-loop μ-loop
-cast-loop c = search needs
 
 add-t14 : tie.Need-add-t14 Inv-loop μ-loop
 add-t14 c = let a = c .before .before .before .before .before .args in omega (arith, c .before .before .size .ensures, size-le (a .core))
 
-one-round-requires : tie.Need-one-round-requires Inv-loop μ-loop
-one-round-requires c κs = search needs
-
-note-all-requires : tie.Need-note-all-requires Inv-loop μ-loop
-note-all-requires c κs = search needs
-
 add-done : tie.Need-add-done Inv-loop μ-loop
 add-done c = let a = c .before .before .before .before .before .before .before .args in omega (arith, c .before .before .before .before .size .ensures, size-le (a .core))
-
-loop-less : tie.Need-loop-less Inv-loop μ-loop
-loop-less c = search needs
 
 loop-again : tie.Need-loop-again Inv-loop μ-loop
 loop-again c =
@@ -62,17 +41,5 @@ pub run-spec : {M : Type 1} → statement M
 run-spec =
     tie.close
     (tie.spec
-    Inv-loop
-    μ-loop
-    open-all-requires
-    nothing-requires
-    size-requires
-    loop-holds
-    cast-loop
-    add-t14
-    one-round-requires
-    note-all-requires
-    add-done
-    loop-less
-    loop-again
-    returns)
+    Inv-loop μ-loop (λ c κs. search needs) (λ c κs. search needs) (λ c κs. search needs) loop-holds (λ c. search needs) add-t14 (λ c κs. search needs)
+    (λ c κs. search needs) add-done (λ c. search needs) loop-again returns)

@@ -9,12 +9,6 @@ use borrow.Author.Needs.{needs}
 use Rattle.simulation.proofs.simulating.result_on.Statement.{statement}
 use Rattle.simulation.proofs.simulating.result_on.Tie as tie
 
-run-requires : tie.Need-run-requires
-run-requires c κs = search needs
-
-size-requires : tie.Need-size-requires
-size-requires c κs = search needs
-
 cast-t10 : tie.Need-cast-t10
 cast-t10 c = let a = c .before .before .args in omega (arith, c .size .ensures, size-le (bitAnd (a .core) (a .crashes .crashed)))
 
@@ -25,4 +19,6 @@ returns c s t =
     result-is (a .n) (a .core) (a .crashes) s (t .says) (t .valid) _ (c .before .run .ensures s t) _ (c .size .ensures)
 
 pub result-on-spec : {M : Type 1} → statement M
-result-on-spec = tie.close (tie.spec run-requires size-requires cast-t10 returns)
+result-on-spec = tie.close
+    (tie.spec
+    (λ c κs. search needs) (λ c κs. search needs) cast-t10 returns)

@@ -9,18 +9,6 @@ use borrow.Author.Needs.{needs}
 use Rattle.simulation.proofs.simulating.simulate.Statement.{statement}
 use Rattle.simulation.proofs.simulating.simulate.Tie as tie
 
-chosen-core-requires : tie.Need-chosen-core-requires
-chosen-core-requires c κs = search needs
-
-enum-known-chosen : tie.Need-enum-known-chosen
-enum-known-chosen c = search needs
-
-refused-requires : tie.Need-refused-requires
-refused-requires c κs = search needs
-
-enum-known-chosen-2 : tie.Need-enum-known-chosen-2
-enum-known-chosen-2 c = search needs
-
 where-checked-requires : tie.Need-where-checked-requires
 where-checked-requires c κs = sym (c .before .before .before .chosen-core .ensures) ∙ ap chosenOutcome (c .before .chosen2 .given .1)
 
@@ -42,10 +30,4 @@ pub simulate-spec : {M : Type 1} → statement M
 simulate-spec =
     tie.close
     (tie.spec
-    chosen-core-requires
-    enum-known-chosen
-    refused-requires
-    enum-known-chosen-2
-    where-checked-requires
-    returns
-    returns-2)
+    (λ c κs. search needs) (λ c. search needs) (λ c κs. search needs) (λ c. search needs) where-checked-requires returns returns-2)

@@ -8,18 +8,6 @@ use borrow.Author.Needs.{needs}
 use Rattle.simulation.proofs.simulating.where_checked.Statement.{statement}
 use Rattle.simulation.proofs.simulating.where_checked.Tie as tie
 
-check-all-requires : tie.Need-check-all-requires
-check-all-requires c κs = search needs
-
-enum-known-checked : tie.Need-enum-known-checked
-enum-known-checked c = search needs
-
-refused-requires : tie.Need-refused-requires
-refused-requires c κs = search needs
-
-enum-told : tie.Need-enum-told
-enum-told c = search needs
-
 where-untouched-requires : tie.Need-where-untouched-requires
 where-untouched-requires c κs =
     let a = c .before .before .before .before .args in
@@ -39,10 +27,4 @@ pub where-checked-spec : {M : Type 1} → statement M
 where-checked-spec =
     tie.close
     (tie.spec
-    check-all-requires
-    enum-known-checked
-    refused-requires
-    enum-told
-    where-untouched-requires
-    returns
-    returns-2)
+    (λ c κs. search needs) (λ c. search needs) (λ c κs. search needs) (λ c. search needs) where-untouched-requires returns returns-2)

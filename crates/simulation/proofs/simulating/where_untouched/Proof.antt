@@ -7,12 +7,6 @@ use borrow.Author.Needs.{needs}
 use Rattle.simulation.proofs.simulating.where_untouched.Statement.{statement}
 use Rattle.simulation.proofs.simulating.where_untouched.Tie as tie
 
-meets-all-requires : tie.Need-meets-all-requires
-meets-all-requires c κs = search needs
-
-refused-requires : tie.Need-refused-requires
-refused-requires c κs = search needs
-
 returns : tie.Need-returns
 returns c =
     let a = c .before .before .before .before .args in
@@ -35,4 +29,6 @@ returns-2 c =
 
 pub where-untouched-spec : {M : Type 1} → statement M
 where-untouched-spec =
-    tie.close (tie.spec meets-all-requires refused-requires returns result-on-requires returns-2)
+    tie.close
+    (tie.spec
+    (λ c κs. search needs) (λ c κs. search needs) returns result-on-requires returns-2)

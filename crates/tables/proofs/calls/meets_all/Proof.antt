@@ -17,27 +17,9 @@ Inv-loop sets m i₀ i = (i ≤ length sets) × (all (λ s. meets s m) (drop i s
 abbrev μ-loop : tie.MeasureT-loop
 μ-loop sets m i₀ i = length sets - i
 
-loop-holds : tie.Need-loop-holds Inv-loop μ-loop
-loop-holds c = search needs
-
-mul-meets : tie.Need-mul-meets Inv-loop μ-loop
-mul-meets c = search needs
-
-shared-slice-read-meets : tie.Need-shared-slice-read-meets Inv-loop μ-loop
-shared-slice-read-meets c = search needs
-
-meets-requires : tie.Need-meets-requires Inv-loop μ-loop
-meets-requires c κs = search needs
-
 returns : tie.Need-returns Inv-loop μ-loop
 unfolding hits
 returns c = let a = c .before .before .before .before .before .before .args in let l = c .before .before .before .before .loop in sym (all-stop (λ s. meets s (a .m)) (a .sets .now) (l .i) (c .before .before .before .loop-test .taken) (sym (c .before .meets .ensures) ∙ not-true _ (c .if1 .taken))) ∙ l .inv .1
-
-add-i : tie.Need-add-i Inv-loop μ-loop
-add-i c = search needs
-
-loop-less : tie.Need-loop-less Inv-loop μ-loop
-loop-less c = search needs
 
 loop-again : tie.Need-loop-again Inv-loop μ-loop
 loop-again c = let a = c .before .before .before .before .before .before .args in let l = c .before .before .before .before .loop in (search needs, all-step (λ s. meets s (a .m)) (a .sets .now) (l .i) (c .before .before .before .loop-test .taken) (sym (c .before .meets .ensures) ∙ not-false _ (c .if1 .left)) ∙ l .inv .1)
@@ -50,14 +32,5 @@ pub meets-all-spec : {M : Type 1} → statement M
 meets-all-spec =
     tie.close
     (tie.spec
-    Inv-loop
-    μ-loop
-    loop-holds
-    mul-meets
-    shared-slice-read-meets
-    meets-requires
-    returns
-    add-i
-    loop-less
-    loop-again
-    returns-2)
+    Inv-loop μ-loop (λ c. search needs) (λ c. search needs) (λ c. search needs) (λ c κs. search needs) returns (λ c. search needs) (λ c. search needs)
+    loop-again returns-2)

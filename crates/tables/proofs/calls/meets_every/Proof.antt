@@ -10,23 +10,8 @@ use borrow.Author.Needs.{needs}
 use Rattle.tables.proofs.calls.meets_every.Statement.{statement}
 use Rattle.tables.proofs.calls.meets_every.Tie as tie
 
-accept-requires : tie.Need-accept-requires
-accept-requires c κs = search needs
-
-enum-known-answer : tie.Need-enum-known-answer
-enum-known-answer c = search needs
-
-enum-told : tie.Need-enum-told
-enum-told c = search needs
-
-is-set-requires : tie.Need-is-set-requires
-is-set-requires c κs = search needs
-
 returns : tie.Need-returns
 returns c = let a = c .before .before .before .before .before .before .args in group-bad (a .n) (a .sets .now) (a .group) (c .before .before .before .before .accept .result) (c .before .before .before .before .accept .ensures .0) (c .before .before .enum-told .given .1) _ (c .before .is-set .ensures) (c .if1 .taken)
-
-meets-all-requires : tie.Need-meets-all-requires
-meets-all-requires c κs = search needs
 
 returns-2 : tie.Need-returns-2
 returns-2 c = let a = c .before .before .before .before .before .before .before .before .args in group-asked (a .n) (a .sets .now) (a .group) (c .before .before .before .before .before .before .accept .result) (c .before .before .before .before .before .before .accept .ensures .0) (c .before .before .before .before .enum-told .given .1) _ (c .before .before .before .is-set .ensures) (c .before .before .if1 .left) _ (sym (c .if2 .taken) ∙ c .before .meets-all .ensures)
@@ -42,12 +27,4 @@ pub meets-every-spec : {M : Type 1} → statement M
 meets-every-spec =
     tie.close
     (tie.spec
-    accept-requires
-    enum-known-answer
-    enum-told
-    is-set-requires
-    returns
-    meets-all-requires
-    returns-2
-    returns-3
-    returns-4)
+    (λ c κs. search needs) (λ c. search needs) (λ c. search needs) (λ c κs. search needs) returns (λ c κs. search needs) returns-2 returns-3 returns-4)

@@ -6,44 +6,17 @@ use borrow.Author.Needs.{needs}
 use Rattle.tables.proofs.calls.survivor_sets.Statement.{statement}
 use Rattle.tables.proofs.calls.survivor_sets.Tie as tie
 
-is-frame-requires : tie.Need-is-frame-requires
-is-frame-requires c κs = search needs
-
-no-list-requires : tie.Need-no-list-requires
-no-list-requires c κs = search needs
-
 returns : tie.Need-returns
 returns c = let a = c .before .before .before .before .args in (c .no-list .ensures .0 ∙ back-no-frame (a .n) (a .groups .now) _ (c .before .before .is-frame .ensures) (c .before .if1 .taken), c .no-list .ensures .1)
-
-no-list-requires-2 : tie.Need-no-list-requires-2
-no-list-requires-2 c κs = search needs
 
 returns-2 : tie.Need-returns-2
 returns-2 c = let a = c .before .before .before .before .before .args in (c .no-list2 .ensures .0 ∙ back-none (a .n) (a .groups .now) _ (c .before .before .before .is-frame .ensures) (c .before .before .if1 .left) (c .before .if2 .taken), c .no-list2 .ensures .1)
 
-no-list-requires-3 : tie.Need-no-list-requires-3
-no-list-requires-3 c κs = search needs
-
 returns-3 : tie.Need-returns-3
 returns-3 c = let a = c .before .before .before .before .before .before .args in (c .no-list3 .ensures .0 ∙ back-many (a .n) (a .groups .now) _ (c .before .before .before .before .is-frame .ensures) (c .before .before .before .if1 .left) (c .before .before .if2 .left) (c .before .if3 .taken), c .no-list3 .ensures .1)
 
-all-sets-requires : tie.Need-all-sets-requires
-all-sets-requires c κs = search needs
-
-no-list-requires-4 : tie.Need-no-list-requires-4
-no-list-requires-4 c κs = search needs
-
 returns-4 : tie.Need-returns-4
 returns-4 c = let a = c .before .before .before .before .before .before .before .before .args in (c .no-list4 .ensures .0 ∙ back-bad (a .n) (a .groups .now) _ (c .before .before .before .before .before .before .is-frame .ensures) (c .before .before .before .before .before .if1 .left) (c .before .before .before .before .if2 .left) (c .before .before .before .if3 .left) _ (c .before .before .all-sets .ensures) (c .before .if4 .taken), c .no-list4 .ensures .1)
-
-slice-aggregate-find : tie.Need-slice-aggregate-find
-slice-aggregate-find c = search needs
-
-find-requires : tie.Need-find-requires
-find-requires c κs = search needs
-
-no-list-requires-5 : tie.Need-no-list-requires-5
-no-list-requires-5 c κs = search needs
 
 returns-5 : tie.Need-returns-5
 returns-5 c = let a = c .before .before .before .before .before .before .before .before .before .before .before .before .args in (c .no-list5 .ensures .0 ∙ back-more (a .n) (a .groups .now) _ (c .before .before .before .before .before .before .before .before .before .before .is-frame .ensures) (c .before .before .before .before .before .before .before .before .before .if1 .left) (c .before .before .before .before .before .before .before .before .if2 .left) (c .before .before .before .before .before .before .before .if3 .left) _ (c .before .before .before .before .before .before .all-sets .ensures) (c .before .before .before .before .before .if4 .left) _ _ _ refl (c .before .before .before .find .ensures) (c .before .if5 .taken), c .no-list5 .ensures .1)
@@ -56,18 +29,5 @@ pub survivor-sets-spec : {M : Type 1} → statement M
 survivor-sets-spec =
     tie.close
     (tie.spec
-    is-frame-requires
-    no-list-requires
-    returns
-    no-list-requires-2
-    returns-2
-    no-list-requires-3
-    returns-3
-    all-sets-requires
-    no-list-requires-4
-    returns-4
-    slice-aggregate-find
-    find-requires
-    no-list-requires-5
-    returns-5
-    returns-6)
+    (λ c κs. search needs) (λ c κs. search needs) returns (λ c κs. search needs) returns-2 (λ c κs. search needs) returns-3 (λ c κs. search needs)
+    (λ c κs. search needs) returns-4 (λ c. search needs) (λ c κs. search needs) (λ c κs. search needs) returns-5 returns-6)

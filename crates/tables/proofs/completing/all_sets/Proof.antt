@@ -16,26 +16,8 @@ Inv-loop n sets i₀ i = (i ≤ length sets) × (all (isSet n) (drop i sets) ≡
 abbrev μ-loop : tie.MeasureT-loop
 μ-loop n sets i₀ i = length sets - i
 
-loop-holds : tie.Need-loop-holds Inv-loop μ-loop
-loop-holds c = search needs
-
-mul-is-set : tie.Need-mul-is-set Inv-loop μ-loop
-mul-is-set c = search needs
-
-shared-slice-read-is-set : tie.Need-shared-slice-read-is-set Inv-loop μ-loop
-shared-slice-read-is-set c = search needs
-
-is-set-requires : tie.Need-is-set-requires Inv-loop μ-loop
-is-set-requires c κs = search needs
-
 returns : tie.Need-returns Inv-loop μ-loop
 returns c = let a = c .before .before .before .before .before .before .args in let l = c .before .before .before .before .loop in sym (all-stop (isSet (a .n)) (a .sets .now) (l .i) (c .before .before .before .loop-test .taken) (sym (c .before .is-set .ensures) ∙ not-true _ (c .if1 .taken))) ∙ l .inv .1
-
-add-i : tie.Need-add-i Inv-loop μ-loop
-add-i c = search needs
-
-loop-less : tie.Need-loop-less Inv-loop μ-loop
-loop-less c = search needs
 
 loop-again : tie.Need-loop-again Inv-loop μ-loop
 loop-again c = let a = c .before .before .before .before .before .before .args in let l = c .before .before .before .before .loop in (search needs, all-step (isSet (a .n)) (a .sets .now) (l .i) (c .before .before .before .loop-test .taken) (sym (c .before .is-set .ensures) ∙ not-false _ (c .if1 .left)) ∙ l .inv .1)
@@ -47,14 +29,5 @@ pub all-sets-spec : {M : Type 1} → statement M
 all-sets-spec =
     tie.close
     (tie.spec
-    Inv-loop
-    μ-loop
-    loop-holds
-    mul-is-set
-    shared-slice-read-is-set
-    is-set-requires
-    returns
-    add-i
-    loop-less
-    loop-again
-    returns-2)
+    Inv-loop μ-loop (λ c. search needs) (λ c. search needs) (λ c. search needs) (λ c κs. search needs) returns (λ c. search needs) (λ c. search needs)
+    loop-again returns-2)

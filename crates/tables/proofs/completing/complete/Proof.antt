@@ -8,17 +8,8 @@ use borrow.Author.Needs.{needs}
 use Rattle.tables.proofs.completing.complete.Statement.{statement}
 use Rattle.tables.proofs.completing.complete.Tie as tie
 
-sub-complete-sets : tie.Need-sub-complete-sets
-sub-complete-sets c = search needs
-
-part-complete-sets-start : tie.Need-part-complete-sets-start
-part-complete-sets-start c = search needs
-
 part-complete-sets-end : tie.Need-part-complete-sets-end
 part-complete-sets-end c = let long : length (c .before .before .args .t .sets) ≡ 128 = search needs in omega arith
-
-complete-sets-requires : tie.Need-complete-sets-requires
-complete-sets-requires c κs = search needs
 
 returns : tie.Need-returns
 returns c = let t = c .before .before .before .before .args .t in (c .complete-sets .ensures .0 ∙ ap (completeSets (t .n)) (first-taken t), c .complete-sets .ensures .1)
@@ -27,8 +18,4 @@ pub complete-spec : {M : Type 1} → statement M
 complete-spec =
     tie.close
     (tie.spec
-    sub-complete-sets
-    part-complete-sets-start
-    part-complete-sets-end
-    complete-sets-requires
-    returns)
+    (λ c. search needs) (λ c. search needs) part-complete-sets-end (λ c κs. search needs) returns)

@@ -8,26 +8,8 @@ use borrow.Author.Needs.{needs}
 use Rattle.tables.proofs.completing.complete_sets.Statement.{statement}
 use Rattle.tables.proofs.completing.complete_sets.Tie as tie
 
-slice-aggregate-normal : tie.Need-slice-aggregate-normal
-slice-aggregate-normal c = search needs
-
-normal-requires : tie.Need-normal-requires
-normal-requires c κs = search needs
-
-sub-find : tie.Need-sub-find
-sub-find c = search needs
-
-part-find-start : tie.Need-part-find-start
-part-find-start c = search needs
-
 part-find-end : tie.Need-part-find-end
 part-find-end c = omega (arith, count-le (c .before .before .before .before .before .args .sets .now) _ _ _ (c .before .before .before .before .before .pre) refl (c .before .before .normal2 .ensures))
-
-slice-aggregate-find : tie.Need-slice-aggregate-find
-slice-aggregate-find c = search needs
-
-find-requires : tie.Need-find-requires
-find-requires c κs = search needs
 
 returns : tie.Need-returns
 unfolding completeOutcome
@@ -50,12 +32,5 @@ pub complete-sets-spec : {M : Type 1} → statement M
 complete-sets-spec =
     tie.close
     (tie.spec
-    slice-aggregate-normal
-    normal-requires
-    sub-find
-    part-find-start
-    part-find-end
-    slice-aggregate-find
-    find-requires
-    returns
-    returns-2)
+    (λ c. search needs) (λ c κs. search needs) (λ c. search needs) (λ c. search needs) part-find-end (λ c. search needs) (λ c κs. search needs)
+    returns returns-2)

@@ -5,18 +5,6 @@ use borrow.Author.Needs.{needs}
 use Rattle.tables.proofs.files.finish.Statement.{statement}
 use Rattle.tables.proofs.files.finish.Tie as tie
 
-enum-known-answer : tie.Need-enum-known-answer
-enum-known-answer c = search needs
-
-refused-file-requires : tie.Need-refused-file-requires
-refused-file-requires c κs = search needs
-
-enum-told : tie.Need-enum-told
-enum-told c = search needs
-
-complete-requires : tie.Need-complete-requires
-complete-requires c κs = search needs
-
 returns : tie.Need-returns
 returns c = (finish-refused (c .before .before .before .before .before .args .listed) _ _ (c .before .before .answer .given .1) (c .refused-file .ensures .0), λ s h. c .refused-file .ensures .1 s)
 
@@ -27,9 +15,4 @@ pub finish-spec : {M : Type 1} → statement M
 finish-spec =
     tie.close
     (tie.spec
-    enum-known-answer
-    refused-file-requires
-    enum-told
-    complete-requires
-    returns
-    returns-2)
+    (λ c. search needs) (λ c κs. search needs) (λ c. search needs) (λ c κs. search needs) returns returns-2)

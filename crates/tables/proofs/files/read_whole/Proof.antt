@@ -4,26 +4,8 @@ use borrow.Author.Needs.{needs}
 use Rattle.tables.proofs.files.read_whole.Statement.{statement}
 use Rattle.tables.proofs.files.read_whole.Tie as tie
 
-read-listed-requires : tie.Need-read-listed-requires
-read-listed-requires c κs = search needs
-
-enum-known-answer : tie.Need-enum-known-answer
-enum-known-answer c = search needs
-
-refused-file-requires : tie.Need-refused-file-requires
-refused-file-requires c κs = search needs
-
-enum-told : tie.Need-enum-told
-enum-told c = search needs
-
-refused-file-requires-2 : tie.Need-refused-file-requires-2
-refused-file-requires-2 c κs = search needs
-
 returns : tie.Need-returns
 returns c = (whole-trailing (c .before .before .before .before .read-listed .result) _ (c .before .before .before .before .before .before .args .s .now) (c .before .before .before .before .read-listed .ensures .0) (c .before .before .enum-told .given .1) (c .before .if1 .taken) (c .refused-file2 .ensures .0), c .refused-file2 .ensures .1 (c .before .before .before .before .before .before .args .s .now))
-
-finish-requires : tie.Need-finish-requires
-finish-requires c κs = search needs
 
 returns-2 : tie.Need-returns-2
 returns-2 c = (whole-refused (c .before .before .before .before .read-listed .result) _ (c .before .before .before .before .before .before .args .s .now) (c .before .before .before .before .read-listed .ensures .0) _ (c .before .before .answer .given .1) (c .refused-file .ensures .0), c .refused-file .ensures .1 (c .before .before .before .before .before .before .args .s .now))
@@ -35,12 +17,5 @@ pub read-whole-spec : {M : Type 1} → statement M
 read-whole-spec =
     tie.close
     (tie.spec
-    read-listed-requires
-    enum-known-answer
-    refused-file-requires
-    enum-told
-    refused-file-requires-2
-    returns
-    finish-requires
-    returns-2
-    returns-3)
+    (λ c κs. search needs) (λ c. search needs) (λ c κs. search needs) (λ c. search needs) (λ c κs. search needs) returns (λ c κs. search needs)
+    returns-2 returns-3)

@@ -10,12 +10,6 @@ use borrow.Author.Needs.{needs}
 use Rattle.tables.proofs.reading.is_set.Statement.{statement}
 use Rattle.tables.proofs.reading.is_set.Tie as tie
 
-full-requires : tie.Need-full-requires
-full-requires c κs = search needs
-
-subset-requires : tie.Need-subset-requires
-subset-requires c κs = search needs
-
 returns : tie.Need-returns
 unfolding isSet
 returns c = let a = c .before .before .before .args in (c .subset .ensures ∙ ap (subset (a .s)) (c .before .full .ensures)) ∙ and-second (not (eqb (a .s) 0)) (subset (a .s) (full (a .n))) (ap not (ne-eqb (a .s) 0 (c .before .before .if1 .taken)))
@@ -25,4 +19,6 @@ unfolding isSet
 returns-2 c = let a = c .before .args in and-first (not (eqb (a .s) 0)) (subset (a .s) (full (a .n))) (ap not (eq-eqb (a .s) 0 (c .if1 .left)))
 
 pub is-set-spec : {M : Type 1} → statement M
-is-set-spec = tie.close (tie.spec full-requires subset-requires returns returns-2)
+is-set-spec = tie.close
+    (tie.spec
+    (λ c κs. search needs) (λ c κs. search needs) returns returns-2)

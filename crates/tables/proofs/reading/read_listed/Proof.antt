@@ -6,26 +6,8 @@ use borrow.Author.Needs.{needs}
 use Rattle.tables.proofs.reading.read_listed.Statement.{statement}
 use Rattle.tables.proofs.reading.read_listed.Tie as tie
 
-read-head-requires : tie.Need-read-head-requires
-read-head-requires c κs = search needs
-
-enum-known-head : tie.Need-enum-known-head
-enum-known-head c = search needs
-
-refused-requires : tie.Need-refused-requires
-refused-requires c κs = search needs
-
-enum-told : tie.Need-enum-told
-enum-told c = search needs
-
 shared-slice-read-n : tie.Need-shared-slice-read-n
 shared-slice-read-n c = let a = c .before .before .before .before .before .args in omega (arith, frame-whole (a .s .now) _ (c .before .before .before .read-head .ensures) _ (c .before .enum-told .given .1))
-
-is-frame-requires : tie.Need-is-frame-requires
-is-frame-requires c κs = search needs
-
-refused-requires-2 : tie.Need-refused-requires-2
-refused-requires-2 c κs = search needs
 
 returns : tie.Need-returns
 returns c = let a = c .before .before .before .before .before .before .before .before .args in (refused-outcome _ _ _ (c .refused2 .ensures .0) ∙ listed-no-frame (a .s .now) _ (c .before .before .before .before .before .before .read-head .ensures) _ (c .before .before .before .before .enum-told .given .1) _ _ refl (c .before .before .is-frame .ensures) (c .before .if1 .taken), c .refused2 .ensures .1 (a .s .now))
@@ -43,14 +25,5 @@ pub read-listed-spec : {M : Type 1} → statement M
 read-listed-spec =
     tie.close
     (tie.spec
-    read-head-requires
-    enum-known-head
-    refused-requires
-    enum-told
-    shared-slice-read-n
-    is-frame-requires
-    refused-requires-2
-    returns
-    read-sets-requires
-    returns-2
-    returns-3)
+    (λ c κs. search needs) (λ c. search needs) (λ c κs. search needs) (λ c. search needs) shared-slice-read-n (λ c κs. search needs)
+    (λ c κs. search needs) returns read-sets-requires returns-2 returns-3)

@@ -17,29 +17,8 @@ abbrev μ-loop : tie.MeasureT-loop
 loop-holds : tie.Need-loop-holds Inv-loop μ-loop
 loop-holds c = reading-start (c .before .args .s .now) (c .before .args .n) _ refl (c .before .pre)
 
-sub-next-step : tie.Need-sub-next-step Inv-loop μ-loop
-sub-next-step c = search needs
-
-part-next-step-start : tie.Need-part-next-step-start Inv-loop μ-loop
-part-next-step-start c = search needs
-
-part-next-step-end : tie.Need-part-next-step-end Inv-loop μ-loop
-part-next-step-end c = search needs
-
-next-step-requires : tie.Need-next-step-requires Inv-loop μ-loop
-next-step-requires c κs = search needs
-
-enum-known-next : tie.Need-enum-known-next Inv-loop μ-loop
-enum-known-next c = search needs
-
-refused-requires : tie.Need-refused-requires Inv-loop μ-loop
-refused-requires c κs = search needs
-
 returns : tie.Need-returns Inv-loop μ-loop
 returns c = let l = c .before .before .before .before .before .before .loop in let a = c .before .before .before .before .before .before .before .before .args in (refused-outcome _ _ _ (c .refused .ensures .0) ∙ reading-stop (a .s .now) (a .n) (l .sets) (l .count) (l .at) (l .inv) _ (from-part (a .s .now) (a .n) (l .count) (l .at) _ _ (c .before .before .next .given .1) (c .before .before .before .before .next-step .ensures)), c .refused .ensures .1 (a .s .now))
-
-enum-told : tie.Need-enum-told Inv-loop μ-loop
-enum-told c = search needs
 
 add-t16 : tie.Need-add-t16 Inv-loop μ-loop
 add-t16 c = let l = c .before .before .before .before .loop in let a = c .before .before .before .before .before .before .args in omega (arith, end-within (a .s .now) (a .n) (l .sets) (l .count) (l .at) (l .inv) (from-part (a .s .now) (a .n) (l .count) (l .at) _ _ (c .enum-told .given .1) (c .before .before .next-step .ensures)))
@@ -47,9 +26,6 @@ add-t16 c = let l = c .before .before .before .before .loop in let a = c .before
 returns-2 : tie.Need-returns-2 Inv-loop μ-loop
 unfolding readOutcome setsOf
 returns-2 c = let l = c .before .before .before .before .loop in let a = c .before .before .before .before .before .before .args in (reading-end (a .s .now) (a .n) (l .sets) (l .count) (l .at) (l .inv) (from-part (a .s .now) (a .n) (l .count) (l .at) _ _ (c .enum-told .given .1) (c .before .before .next-step .ensures)), record { sets = l .inv .few; bytes = end-within (a .s .now) (a .n) (l .sets) (l .count) (l .at) (l .inv) (from-part (a .s .now) (a .n) (l .count) (l .at) _ _ (c .enum-told .given .1) (c .before .before .next-step .ensures)) })
-
-enum-known-next-2 : tie.Need-enum-known-next-2 Inv-loop μ-loop
-enum-known-next-2 c = search needs
 
 mul-sets : tie.Need-mul-sets Inv-loop μ-loop
 mul-sets c = let l = c .before .before .before .before .before .loop in let a = c .before .before .before .before .before .before .before .args in omega (arith, set-within (a .s .now) (a .n) (l .sets) (l .count) (l .at) (l .inv) _ (from-part (a .s .now) (a .n) (l .count) (l .at) _ _ (c .before .next2 .given .1) (c .before .before .before .next-step .ensures)))
@@ -73,23 +49,6 @@ pub read-sets-spec : {M : Type 1} → statement M
 read-sets-spec =
     tie.close
     (tie.spec
-    Inv-loop
-    μ-loop
-    loop-holds
-    sub-next-step
-    part-next-step-start
-    part-next-step-end
-    next-step-requires
-    enum-known-next
-    refused-requires
-    returns
-    enum-told
-    add-t16
-    returns-2
-    enum-known-next-2
-    mul-sets
-    array-write-sets
-    add-count
-    add-at
-    loop-less
+    Inv-loop μ-loop loop-holds (λ c. search needs) (λ c. search needs) (λ c. search needs) (λ c κs. search needs) (λ c. search needs)
+    (λ c κs. search needs) returns (λ c. search needs) add-t16 returns-2 (λ c. search needs) mul-sets array-write-sets add-count add-at loop-less
     loop-again)

@@ -8,35 +8,14 @@ use borrow.Author.Needs.{needs}
 use Rattle.tables.proofs.writing.write_table.Statement.{statement}
 use Rattle.tables.proofs.writing.write_table.Tie as tie
 
-accept-requires : tie.Need-accept-requires
-accept-requires c κs = search needs
-
-enum-known-answer : tie.Need-enum-known-answer
-enum-known-answer c = search needs
-
-enum-told : tie.Need-enum-told
-enum-told c = search needs
-
-sub-write-sets : tie.Need-sub-write-sets
-sub-write-sets c = search needs
-
-part-write-sets-start : tie.Need-part-write-sets-start
-part-write-sets-start c = search needs
-
 part-write-sets-end : tie.Need-part-write-sets-end
 part-write-sets-end c =
     let t = c .before .before .before .before .before .accept in
     let long : length (t .result .table .sets) ≡ 128 = search needs in
     omega (arith, t .ensures .1 .sets)
 
-write-sets-requires : tie.Need-write-sets-requires
-write-sets-requires c κs = search needs
-
 returns : tie.Need-returns
 returns c = let a = c .before .before .before .before .before .before .before .before .args in writes-refused (a .n) (a .sets .now) (a .start) (a .buf .now) (c .before .before .before .before .before .accept .result) (c .before .before .before .before .before .accept .ensures .0) _ (c .before .answer .given .1)
-
-same-length : tie.Need-same-length
-same-length c = search needs
 
 returns-2 : tie.Need-returns-2
 returns-2 c = let a = c .before .before .before .before .before .before .before .before .before .before .before .before .before .args in let t = c .before .before .before .before .before .before .before .before .before .before .accept in writes-table (a .n) (a .sets .now) (a .start) (a .buf .now) (t .result) (t .ensures .0) _ _ _ (c .before .before .before .before .before .before .enum-told .given .1) (first-taken (t .result .table)) (c .before .before .write-sets .ensures)
@@ -45,13 +24,5 @@ pub write-table-spec : {M : Type 1} → statement M
 write-table-spec =
     tie.close
     (tie.spec
-    accept-requires
-    enum-known-answer
-    enum-told
-    sub-write-sets
-    part-write-sets-start
-    part-write-sets-end
-    write-sets-requires
-    returns
-    same-length
-    returns-2)
+    (λ c κs. search needs) (λ c. search needs) (λ c. search needs) (λ c. search needs) (λ c. search needs) part-write-sets-end (λ c κs. search needs)
+    returns (λ c. search needs) returns-2)

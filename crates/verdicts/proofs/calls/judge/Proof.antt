@@ -9,35 +9,11 @@ use borrow.Author.Needs.{needs}
 use Rattle.verdicts.proofs.calls.judge.Statement.{statement}
 use Rattle.verdicts.proofs.calls.judge.Tie as tie
 
-is-block-count-requires : tie.Need-is-block-count-requires
-is-block-count-requires c κs = search needs
-
-refused-requires : tie.Need-refused-requires
-refused-requires c κs = search needs
-
 returns : tie.Need-returns
 returns c =
     let a = c .before .before .before .before .args in
     let is = judged-outside (a .k) (a .n) (a .sets .now) _ (c .before .before .is-block-count .ensures) (c .before .if1 .taken) in
     (c .refused .ensures .0 (a .k) ∙ is, c .refused .ensures .1 ∙ ap heldIn is)
-
-accept-requires : tie.Need-accept-requires
-accept-requires c κs = search needs
-
-enum-known-answer : tie.Need-enum-known-answer
-enum-known-answer c = search needs
-
-refused-requires-2 : tie.Need-refused-requires-2
-refused-requires-2 c κs = search needs
-
-enum-told : tie.Need-enum-told
-enum-told c = search needs
-
-sub-on-normal : tie.Need-sub-on-normal
-sub-on-normal c = search needs
-
-part-on-normal-start : tie.Need-part-on-normal-start
-part-on-normal-start c = search needs
 
 part-on-normal-end : tie.Need-part-on-normal-end
 part-on-normal-end c =
@@ -66,16 +42,5 @@ pub judge-spec : {M : Type 1} → statement M
 judge-spec =
     tie.close
     (tie.spec
-    is-block-count-requires
-    refused-requires
-    returns
-    accept-requires
-    enum-known-answer
-    refused-requires-2
-    enum-told
-    sub-on-normal
-    part-on-normal-start
-    part-on-normal-end
-    on-normal-requires
-    returns-2
-    returns-3)
+    (λ c κs. search needs) (λ c κs. search needs) returns (λ c κs. search needs) (λ c. search needs) (λ c κs. search needs) (λ c. search needs)
+    (λ c. search needs) (λ c. search needs) part-on-normal-end on-normal-requires returns-2 returns-3)
