@@ -7,9 +7,11 @@ use Prim.Native.Nat.{ℕ}
 use Rattle.drive_sets.specs.Lists.{keep, elem}
 use Rattle.drive_sets.specs.Refusals.{result}
 use Rattle.runs.specs.World.{World}
-use Rattle.runs.specs.Scenario.{Scenario, frame, reach}
-use Rattle.runs.specs.Runs.{pending, wrote, Book, sendingOf, sender, closer}
-use Rattle.runs.specs.Canonical.{room}
+use Rattle.runs.specs.Scenario.{Scenario, frame}
+use Rattle.agreement.specs.Sends.{reach}
+use Rattle.runs.specs.Runs.{pending, wrote, Book, sender, closer}
+use Rattle.agreement.specs.Document01.{sendingOf}
+use Rattle.agreement.specs.Canonical.{room}
 pub mod Except
 pub mod Openings
 pub mod Sends

@@ -1,9 +1,12 @@
--- That the instance of a valid scenario is lawful, and a scenario that needs round f + 1; the states of a run as functions of the rounds, and that
--- every run follows them; the canonical order of calls; the theorems of demand 3; and the simulated exchange.
+-- The four calls of document 01 and to whom a message goes, as a protocol; the simulated exchange; and the proof of demand 3: the states of a
+-- run as functions of the abstract rounds, that every run follows them, the canonical order of calls, and a scenario that needs round f + 1.
+pub mod Calls
+pub mod Sends
 pub mod Instance
-pub mod Tight
+pub mod Document01
+pub mod Simulated
+pub mod Canonical
 pub mod States
 pub mod Refinement
 pub mod CanonicalRun
-pub mod Theorems
-pub mod Simulated
+pub mod Tight

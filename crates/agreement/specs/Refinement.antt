@@ -5,13 +5,14 @@ use mathlib.Core.Bool.{Bool, true, false, _||_, cond}
 use mathlib.Core.Logic.{_⊎_}
 use Prim.Native.Nat.{ℕ, suc, _<_}
 use Rattle.drive_sets.specs.Masks.{has, size}
-use Rattle.exchange.specs.Calls.{decisionOn, next}
+use Rattle.agreement.specs.Calls.{decisionOn, next}
 use Rattle.sync_crash.specs.Rounds.{InFrame, reaches, after, decision, halted}
 use Rattle.sync_crash.specs.Rounds.Steps.{Active, Sender, Closer}
-use Rattle.runs.specs.World.{Call, opened, World, refusedIn, active, decisionOf}
+use Rattle.runs.specs.World.{Call, opened, World, active, decisionOf}
+use Rattle.agreement.specs.Document01.{refusedIn, due, noted}
 use Rattle.runs.specs.Scenario.{Scenario, coreOf}
-use Rattle.runs.specs.Runs.{Sent, pending, wrote, Book, isCalled, due, noted}
-use Rattle.runs.specs.Instance.{instanceOf}
+use Rattle.runs.specs.Runs.{Sent, pending, wrote, Book, isCalled}
+use Rattle.agreement.specs.Instance.{instanceOf}
 use Rattle.agreement.specs.States.{stateOf, messageOf}
 pub mod Bounds
 pub mod Opening

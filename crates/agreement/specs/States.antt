@@ -12,12 +12,12 @@ use Rattle.drive_sets.specs.Options.{isSome}
 use Rattle.drive_sets.specs.Lists.{range, any}
 use Rattle.drive_sets.specs.Masks.{size}
 use Rattle.drive_sets.specs.Masks.Tests.{setOf}
-use Rattle.exchange.specs.declared.Exchange.{Exchange}
-use Rattle.exchange.specs.declared.Announcement.{Announcement}
-use Rattle.exchange.specs.declared.Announcement.the-variants.{Absent, By}
-use Rattle.exchange.specs.State.{pattern}
-use Rattle.exchange.specs.Messages.{knownBytes, decideBytes}
-use Rattle.exchange.specs.Calls.{decisionOn}
+use Rattle.drive_states.specs.declared.Exchange.{Exchange}
+use Rattle.drive_states.specs.declared.Announcement.{Announcement}
+use Rattle.drive_states.specs.declared.Announcement.the-variants.{Absent, By}
+use Rattle.drive_states.specs.State.{pattern}
+use Rattle.drive_states.specs.Messages.{knownBytes, decideBytes}
+use Rattle.agreement.specs.Calls.{decisionOn}
 use Rattle.sync_crash.specs.Rounds.{Instance, InFrame, knows, before, decision}
 pub mod Numbers
 pub mod Announcements

@@ -12,7 +12,7 @@ use Rattle.hitting_sets.specs.Order.{normal}
 use Rattle.tables.specs.Tables.{chosen}
 use Rattle.sync_crash.specs.Rounds.{DecidesIn}
 use Rattle.runs.specs.Scenario.{Crash, stays, crashes, Scenario, coreOf}
-use Rattle.runs.specs.Instance.{instanceOf}
+use Rattle.agreement.specs.Instance.{instanceOf}
 use Rattle.runs.specs.Statement.{Valid, Untouched, Up, coreCrashes}
 pub mod Turns
 pub mod Laws

@@ -20,7 +20,7 @@
 ghost use Prim.Native.Nat.{_≤_};
 use drive_sets::Drive;
 use drive_sets::Pattern;
-use exchange::Exchange;
+use drive_states::Exchange;
 use exchange::Reply;
 use libc::STDIN_FILENO;
 use tables::reading::Answer;

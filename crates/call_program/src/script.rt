@@ -2,9 +2,9 @@
 use drive_sets::Drive;
 use drive_sets::Pattern;
 use drive_sets::Round;
-use exchange::Announcement;
-use exchange::Decision;
-use exchange::Exchange;
+use drive_states::Announcement;
+use drive_states::Decision;
+use drive_states::Exchange;
 
 pub fn byte(s: &[u8], at: usize) -> u8 {
     (records::field(s, at, 1) % 256) as u8

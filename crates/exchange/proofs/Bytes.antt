@@ -7,7 +7,7 @@ use lib.ListN.{getD, take, drop, length-take}
 use lib.Seq.{getD-drop}
 use Rattle.records.proofs.Loops.{bytes-take}
 use Rattle.records.specs.Fields.Laws.{fromBytes-lt}
-use Rattle.exchange.specs.Messages.{fieldAt}
+use Rattle.drive_states.specs.Messages.{fieldAt}
 
 pub field-lt : (s : List ℕ) (place width : ℕ) → ((i : ℕ) → getD s i 0 < 256) → fieldAt place width s < 256 ^ width
 unfolding fieldAt

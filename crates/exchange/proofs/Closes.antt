@@ -17,14 +17,14 @@ use Rattle.drive_sets.specs.Masks.Sizes.{size-le}
 use Rattle.tables.specs.declared.reading.Answer.the-variants as answers
 use Rattle.tables.specs.Tables.{isFrame, isSet}
 use Rattle.exchange.proofs.Rules.{round-broken}
-use Rattle.exchange.specs.declared.Exchange.{Exchange}
+use Rattle.drive_states.specs.declared.Exchange.{Exchange}
 use Rattle.exchange.specs.declared.Reply.{Reply}
-use Rattle.exchange.specs.declared.Announcement.{Announcement}
-use Rattle.exchange.specs.declared.Announcement.the-variants.{Absent, By}
-use Rattle.exchange.specs.declared.Decision.{Decision}
-use Rattle.exchange.specs.declared.Decision.the-variants.{Undecided, Decided}
-use Rattle.exchange.specs.State.{isDrive, inCore, numberIn, numberOf, isDecided, broken}
-use Rattle.exchange.specs.Calls.{heardAtClose, quiet, decisionOn, quietDecision, decide, decisionAfter, halts, next, closing}
+use Rattle.drive_states.specs.declared.Announcement.{Announcement}
+use Rattle.drive_states.specs.declared.Announcement.the-variants.{Absent, By}
+use Rattle.drive_states.specs.declared.Decision.{Decision}
+use Rattle.drive_states.specs.declared.Decision.the-variants.{Undecided, Decided}
+use Rattle.drive_states.specs.State.{isDrive, inCore, numberIn, numberOf, isDecided, broken}
+use Rattle.agreement.specs.Calls.{heardAtClose, quiet, decisionOn, quietDecision, decide, decisionAfter, halts, next, closing}
 use Rattle.exchange.specs.Replies.{replyOf, stateAfter, Replied}
 
 module _ (x : Exchange) where

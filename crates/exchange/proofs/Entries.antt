@@ -13,10 +13,10 @@ use Rattle.drive_sets.specs.Masks.{has, single, minus, size, lowest, drives}
 use Rattle.drive_sets.specs.Masks.Laws.{minus-lt}
 use Rattle.drive_sets.specs.Masks.Sizes.{size-le, drives-lowest, drives-none}
 use Rattle.exchange.proofs.Least.{lowest-bounds, removed-less}
-use Rattle.exchange.specs.declared.Exchange.{Exchange}
-use Rattle.exchange.specs.State.{pattern, numberIn, numberOf}
-use Rattle.exchange.specs.Messages.{fieldAt, Entry, entriesFrom}
-use Rattle.exchange.specs.Calls.{anyDiffers, stored}
+use Rattle.drive_states.specs.declared.Exchange.{Exchange}
+use Rattle.drive_states.specs.State.{pattern, numberIn, numberOf}
+use Rattle.drive_states.specs.Messages.{fieldAt, Entry, entriesFrom}
+use Rattle.agreement.specs.Calls.{anyDiffers, stored}
 
 -- the drives of m are left, and their numbers stand from a place on
 pub record Walk (m place : ℕ) : Type 0 where

@@ -8,8 +8,8 @@ use Rattle.drive_sets.specs.Lists.{smaller, smallest}
 use Rattle.drive_sets.specs.Masks.{single, minus, size, lowest, drives}
 use Rattle.drive_sets.specs.Masks.Laws.{has-bounds, minus-lt}
 use Rattle.drive_sets.specs.Masks.Sizes.{lowest-has, drives-lowest, lowest-removed, drives-none}
-use Rattle.exchange.specs.declared.Decision.the-variants.{Undecided, Decided}
-use Rattle.exchange.specs.Calls.{decisionOn}
+use Rattle.drive_states.specs.declared.Decision.the-variants.{Undecided, Decided}
+use Rattle.agreement.specs.Calls.{decisionOn}
 
 pub lowest-bounds : (m d : ℕ) → m < 2 ^ 64 → (m ≡ 0 → ⊥) → d ≡ lowest m → (1 ≤ d) × (d ≤ 64)
 lowest-bounds m d h ne e = subst (λ (x : ℕ). (1 ≤ x) × (x ≤ 64)) (sym e) (has-bounds 64 (lowest m) m h (lowest-has m h ne))

@@ -17,11 +17,11 @@ use Rattle.records.specs.declared.Head.the-variants as heads
 use Rattle.records.specs.declared.Kind.{Kind}
 use Rattle.records.specs.Marks.{headOf}
 use Rattle.tables.specs.Files.{atRecord}
-use Rattle.exchange.specs.declared.Exchange.{Exchange}
+use Rattle.drive_states.specs.declared.Exchange.{Exchange}
 use Rattle.exchange.specs.declared.Reply.{Reply}
-use Rattle.exchange.specs.State.{isDrive, broken}
-use Rattle.exchange.specs.Messages.{senderOf, roundOf, lengthOf}
-use Rattle.exchange.specs.Calls.{wrongMask, outsideCore, differs, accept, admitting, receivingOf, receiving}
+use Rattle.drive_states.specs.State.{isDrive, broken}
+use Rattle.drive_states.specs.Messages.{senderOf, roundOf, lengthOf}
+use Rattle.agreement.specs.Calls.{wrongMask, outsideCore, differs, accept, admitting, receivingOf, receiving}
 use Rattle.exchange.specs.Replies.{stateAfter, Replied}
 
 -- a reply to one thing is one to what equals it

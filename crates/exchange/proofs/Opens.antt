@@ -16,11 +16,11 @@ use Rattle.tables.specs.declared.calls.Chosen.{Chosen}
 use Rattle.tables.specs.declared.calls.Chosen.the-variants as chosens
 use Rattle.tables.specs.Tables.{chosen, normalTable, chosenCore}
 use Rattle.tables.specs.Answers.{chosenOutcome}
-use Rattle.exchange.specs.declared.Exchange.{Exchange}
-use Rattle.exchange.specs.declared.Announcement.the-variants.{Absent}
-use Rattle.exchange.specs.declared.Decision.the-variants.{Undecided}
-use Rattle.exchange.specs.State.{isDrive, pattern}
-use Rattle.exchange.specs.Calls.{initial, opening}
+use Rattle.drive_states.specs.declared.Exchange.{Exchange}
+use Rattle.drive_states.specs.declared.Announcement.the-variants.{Absent}
+use Rattle.drive_states.specs.declared.Decision.the-variants.{Undecided}
+use Rattle.drive_states.specs.State.{isDrive, pattern}
+use Rattle.agreement.specs.Calls.{initial, opening}
 
 module _ {A B C : Type 0} where
   then-then : (o : Outcome A) (f : A → B) (g : B → Outcome C) → andThen (andThen o (λ a. result (f a))) g ≡ andThen o (λ a. g (f a))

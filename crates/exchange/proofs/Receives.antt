@@ -12,11 +12,11 @@ use Rattle.drive_sets.specs.declared.Pattern.{Pattern}
 use Rattle.drive_sets.specs.Bools.{cond-true, cond-false, and-second, and-fails-left, or-left, or-right, or-second, or-neither}
 use Rattle.drive_sets.specs.Masks.{has, single, full, union, subset, size, drives}
 use Rattle.records.specs.declared.Kind.{Kind}
-use Rattle.exchange.specs.declared.Exchange.{Exchange}
-use Rattle.exchange.specs.declared.Announcement.{Announcement}
-use Rattle.exchange.specs.declared.Announcement.the-variants.{Absent, By}
-use Rattle.exchange.specs.Messages.{isKnown, senderOf, maskOf, patternOf, entriesFrom, entries, lengthOf}
-use Rattle.exchange.specs.Calls.{wrongMask, outsideCore, anyDiffers, differs, stored, acceptKnown, lower, acceptDecide, accept}
+use Rattle.drive_states.specs.declared.Exchange.{Exchange}
+use Rattle.drive_states.specs.declared.Announcement.{Announcement}
+use Rattle.drive_states.specs.declared.Announcement.the-variants.{Absent, By}
+use Rattle.drive_states.specs.Messages.{isKnown, senderOf, maskOf, patternOf, entriesFrom, entries, lengthOf}
+use Rattle.agreement.specs.Calls.{wrongMask, outsideCore, anyDiffers, differs, stored, acceptKnown, lower, acceptDecide, accept}
 use Rattle.exchange.proofs.Rules.{not-asked, second-fails, third-asked}
 
 module _ (kind : Kind) (s : List ℕ) (k : Bool) (e : k ≡ isKnown kind) where

@@ -18,12 +18,12 @@ use Rattle.records.specs.Fields.{written}
 use Rattle.records.proofs.Parts.{part-written}
 use Rattle.tables.specs.declared.writing.Writing.{Writing}
 use Rattle.tables.specs.declared.writing.Writing.the-variants as writings
-use Rattle.exchange.specs.declared.Exchange.{Exchange}
-use Rattle.exchange.specs.declared.Decision.the-variants.{Undecided, Decided}
-use Rattle.exchange.specs.State.{inCore, numberIn, numberOf, broken}
-use Rattle.exchange.specs.Messages.{knownBytes, decideBytes}
-use Rattle.exchange.specs.Messages.Laws.{length-known, length-decide}
-use Rattle.exchange.specs.Calls.{outgoing, sending, bufferAfter}
+use Rattle.drive_states.specs.declared.Exchange.{Exchange}
+use Rattle.drive_states.specs.declared.Decision.the-variants.{Undecided, Decided}
+use Rattle.drive_states.specs.State.{inCore, numberIn, numberOf, broken}
+use Rattle.drive_states.specs.Messages.{knownBytes, decideBytes}
+use Rattle.drive_states.specs.Messages.Laws.{length-known, length-decide}
+use Rattle.agreement.specs.Calls.{outgoing, sending, bufferAfter}
 use Rattle.exchange.specs.Replies.{sizeSent, Sent}
 
 module _ (x : Exchange) where

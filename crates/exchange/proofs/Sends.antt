@@ -15,8 +15,8 @@ use Rattle.records.specs.Marks.{mark, recordBytes}
 use Rattle.records.specs.Marks.Laws.{length-record}
 use Rattle.records.proofs.Parts.{part-written, part-then}
 use Rattle.exchange.proofs.Least.{lowest-first}
-use Rattle.exchange.specs.Messages.{numberBytes, knownBytes, decideBytes}
-use Rattle.exchange.specs.Messages.Laws.{length-numbers, length-known, length-decide}
+use Rattle.drive_states.specs.Messages.{numberBytes, knownBytes, decideBytes}
+use Rattle.drive_states.specs.Messages.Laws.{length-numbers, length-known, length-decide}
 
 -- ---- the pattern numbers
 

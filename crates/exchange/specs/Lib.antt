@@ -1,6 +1,2 @@
--- The state of a drive, its messages, and the four calls.
-pub mod State
-pub mod Messages
-pub mod Calls
+-- What the answers of the calls say.
 pub mod Replies
-pub mod Samples

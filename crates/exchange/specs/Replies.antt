@@ -10,10 +10,10 @@ use Rattle.tables.specs.declared.writing.Writing.{Writing}
 use Rattle.tables.specs.Answers.{writingOutcome}
 use Rattle.tables.specs.Reading.{outcomeOf}
 use Rattle.tables.specs.Tables.{isFrame}
-use Rattle.exchange.specs.declared.Exchange.{Exchange}
+use Rattle.drive_states.specs.declared.Exchange.{Exchange}
 use Rattle.exchange.specs.declared.Reply.{Reply}
-use Rattle.exchange.specs.State.{broken}
-use Rattle.exchange.specs.Calls.{initial, bufferAfter}
+use Rattle.drive_states.specs.State.{broken}
+use Rattle.agreement.specs.Calls.{initial, bufferAfter}
 
 unfoldable pub replyOf : Reply → Outcome Exchange
 replyOf r = outcomeOf (r .answer) (r .state)

@@ -4,18 +4,18 @@ ghost use mathlib.Core.Bool.{not, _&&_, cond};
 ghost use Prim.Native.Nat.{_≤_, _+_};
 ghost use Rattle.drive_sets.specs.Lists.{smallest};
 ghost use Rattle.drive_sets.specs.Masks.{drives};
-ghost use Rattle.exchange.specs.State.{inCore, numberIn, isDecided};
-ghost use Rattle.exchange.specs.Calls.{heardAtClose, decisionOn, quietDecision, decisionAfter, halts, next, closing};
+ghost use Rattle.drive_states.specs.State.{inCore, numberIn, isDecided};
+ghost use Rattle.agreement.specs.Calls.{heardAtClose, decisionOn, quietDecision, decisionAfter, halts, next, closing};
 ghost use Rattle.exchange.specs.Replies.{Replied};
-use crate::Announcement;
-use crate::Decision;
-use crate::Exchange;
 use crate::Reply;
 use crate::is_broken;
 use crate::number_at;
 use drive_sets::Pattern;
 use drive_sets::Refusal;
 use drive_sets::Round;
+use drive_states::Announcement;
+use drive_states::Decision;
+use drive_states::Exchange;
 use tables::reading::Answer;
 
 // Heard at a close: the senders accepted, and oneself if in the core.

@@ -5,12 +5,12 @@ ghost use mathlib.Core.Bool.{not, _&&_};
 ghost use lib.Dec.{eqb};
 ghost use lib.ListN.{drop};
 ghost use Rattle.drive_sets.specs.Masks.{has, drives};
-ghost use Rattle.exchange.specs.Messages.{isKnown, fieldAt, senderOf, roundOf, maskOf, patternOf, entriesFrom};
-ghost use Rattle.exchange.specs.Calls.{anyDiffers, stored};
-use crate::Exchange;
+ghost use Rattle.drive_states.specs.Messages.{isKnown, fieldAt, senderOf, roundOf, maskOf, patternOf, entriesFrom};
+ghost use Rattle.agreement.specs.Calls.{anyDiffers, stored};
 use drive_sets::Drive;
 use drive_sets::Pattern;
 use drive_sets::Round;
+use drive_states::Exchange;
 use records::Kind;
 
 // A record of this kind is a KN.

@@ -1,14 +1,15 @@
-// One drive's part in an exchange, which is one instance of consensus by SyncCrash: the state that a drive keeps from call to call, the rules
-// that it keeps, and its calls.
+// One drive's part in an exchange, which is one instance of consensus by SyncCrash: the rules that its state keeps, and its four calls. What
+// each call gives is defined, and shown to reach agreement, in the crate `agreement`.
 ghost use mathlib.Core.Path.{_≡_};
 ghost use mathlib.Core.Bool.{not, _&&_};
 ghost use Prim.Native.Nat.{_≤_};
 ghost use lib.Dec.{leb};
 ghost use Rattle.drive_sets.specs.Masks.{has, subset, size};
-ghost use Rattle.exchange.specs.State.{isDrive, numberIn, broken};
+ghost use Rattle.drive_states.specs.State.{isDrive, numberIn, broken};
 use drive_sets::Drive;
 use drive_sets::Pattern;
 use drive_sets::Round;
+use drive_states::Exchange;
 use tables::reading::Answer;
 
 pub mod closing;
@@ -16,46 +17,6 @@ mod fields;
 pub mod opening;
 pub mod receiving;
 pub mod sending;
-
-// What a drive has decided on.
-pub enum Decision {
-    Undecided,
-    Decided(Pattern),
-}
-
-// The decision that the lowest-numbered DC sender of this round announced: the sender and its decision.
-pub enum Announcement {
-    Absent,
-    By(Drive, Pattern),
-}
-
-// The state of one drive.
-pub struct Exchange {
-    // The drives of the frame.
-    pub n: u8,
-    // The drive whose state this is.
-    pub own: Drive,
-    // The chosen core: its drives talk, the others listen.
-    pub core: u64,
-    // The round that the drive is in; the last one after it has halted.
-    pub round: Round,
-    // The drives heard in the round before, oneself among them if in the core; at first the core.
-    pub before: u64,
-    // The senders accepted in this round.
-    pub heard: u64,
-    // The drives whose pattern numbers are known now.
-    pub known: u64,
-    // The drives whose pattern numbers were known when the round began: what is sent.
-    pub start: u64,
-    // The pattern numbers, drive 1 first; one counts where its drive is known.
-    pub numbers: [Pattern; 64],
-    // The decision announced in this round.
-    pub announced: Announcement,
-    // The drive's own decision.
-    pub decision: Decision,
-    // The drive has ended its part: every further call is refused.
-    pub halted: bool,
-}
 
 // What a call that is handed a state gives: the new state where it is accepted, and where it is refused the state as it was handed.
 pub struct Reply {

@@ -1,16 +1,16 @@
 // The message call: its refusals in document 01's order, then the state with what the message says.
 ghost use mathlib.Core.Path.{_≡_};
 ghost use Rattle.drive_sets.specs.Refusals.{refused};
-ghost use Rattle.exchange.specs.Messages.{lengthOf};
-ghost use Rattle.exchange.specs.Calls.{wrongMask, outsideCore, differs, acceptKnown, lower, acceptDecide, accept, admitting, receivingOf, receiving};
+ghost use Rattle.drive_states.specs.Messages.{lengthOf};
+ghost use Rattle.agreement.specs.Calls.{wrongMask, outsideCore, differs, acceptKnown, lower, acceptDecide, accept, admitting, receivingOf, receiving};
 ghost use Rattle.exchange.specs.Replies.{Replied};
-use crate::Announcement;
-use crate::Exchange;
 use crate::Reply;
 use crate::fields;
 use drive_sets::Drive;
 use drive_sets::Pattern;
 use drive_sets::Refusal;
+use drive_states::Announcement;
+use drive_states::Exchange;
 use records::Due;
 use records::Head;
 use records::Kind;

@@ -14,9 +14,9 @@ use Rattle.tables.specs.declared.reading.Answer.{Answer}
 use Rattle.tables.specs.declared.writing.Writing.{Writing}
 use Rattle.tables.specs.Answers.{writingOutcome}
 use Rattle.tables.specs.Reading.{outcomeOf}
-use Rattle.exchange.specs.declared.Exchange.{Exchange}
+use Rattle.drive_states.specs.declared.Exchange.{Exchange}
 use Rattle.exchange.specs.declared.Reply.{Reply}
-use Rattle.exchange.specs.Calls.{opening, sending, receiving, closing}
+use Rattle.agreement.specs.Calls.{opening, sending, receiving, closing}
 use Rattle.exchange.specs.Replies.{Replied, Sent, replyOf, stateAfter, sizeSent}
 use Rattle.exports.specs.Deliveries.{oneAccepted, accepted, left, hand, handedOn, messagesAccepted, stateHanded, closesAccepted, sendInto, sentInto, sendsAccepted, bufferSent}
 

@@ -3,8 +3,8 @@ use mathlib.Core.List.{List}
 use Prim.Native.Nat.{ℕ, zero, suc, _+_}
 use lib.ListN.{length, take, drop}
 use Rattle.drive_sets.specs.Refusals.{Outcome, refused, result, andThen}
-use Rattle.exchange.specs.declared.Exchange.{Exchange}
-use Rattle.exchange.specs.Calls.{opening, sending, bufferAfter, receiving, closing}
+use Rattle.drive_states.specs.declared.Exchange.{Exchange}
+use Rattle.agreement.specs.Calls.{opening, sending, bufferAfter, receiving, closing}
 use Rattle.exchange.specs.Replies.{stateAfter}
 
 -- ---- a row of calls

@@ -6,7 +6,7 @@ ghost use Rattle.tables.specs.Answers.{writingOutcome};
 ghost use Rattle.tables.specs.Reading.{outcomeOf};
 ghost use Rattle.exports.specs.Deliveries.{oneAccepted, messagesAccepted, stateHanded, stateClosed, closesAccepted, sendsAccepted, bufferSent};
 use crate::answers;
-use exchange::Exchange;
+use drive_states::Exchange;
 use tables::reading::Answer;
 use tables::writing::Writing;
 

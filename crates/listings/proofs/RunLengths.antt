@@ -12,7 +12,7 @@ use Rattle.tables.specs.Files.{readTable}
 use Rattle.tables.specs.Files.Laws.{table-read}
 use Rattle.runs.specs.Scenario.{Scenario, frame}
 use Rattle.runs.specs.CrashRecords.{scenario}
-use Rattle.runs.specs.Simulated.{Ending, decides, undecided, stopped, endingOf, endings}
+use Rattle.agreement.specs.Simulated.{Ending, decides, undecided, stopped, endingOf, endings}
 use Rattle.run_files.specs.RunFiles.{readRunFile}
 use Rattle.simulation.specs.Simulation.{Simulated}
 use Rattle.simulation.specs.Simulation.Laws.{simulated-gives}

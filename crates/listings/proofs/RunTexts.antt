@@ -11,7 +11,7 @@ use Rattle.drive_sets.specs.Bools.{cond-true, cond-false}
 use Rattle.drive_sets.specs.Lists.{range}
 use Rattle.records.specs.Marks.{ascii}
 use Rattle.simulation.specs.Endings.{endingBy}
-use Rattle.runs.specs.Simulated.{Ending, decides, undecided, stopped}
+use Rattle.agreement.specs.Simulated.{Ending, decides, undecided, stopped}
 use Rattle.listings.specs.Text.{inBase, decimal, hexadecimal}
 use Rattle.listings.specs.TableListing.{fields, line}
 use Rattle.listings.specs.RunListing.{endingText, driveLine, endingLines, coreLine}

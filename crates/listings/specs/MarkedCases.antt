@@ -10,12 +10,13 @@ use Rattle.records.specs.Marks.{ascii}
 use Rattle.tables.specs.Tables.{chosenCore}
 use Rattle.tables.specs.Files.{dueAfter, atEnd, readSets, readListed, accepted, readTable, readWhole}
 use Rattle.verdicts.specs.Verdicts.{firstWith, disjoint, blocksOf, verdictOn}
-use Rattle.exchange.specs.Samples.{evaluated}
+use Rattle.agreement.specs.Calls.Evaluated.{evaluated}
 use Rattle.sync_crash.specs.Rounds.{start, smallestOf, sends, reaches, adds, known, announces, announced, heard, unchanged, quiet, ifQuiet, decides, halts, closes, closed, step, after}
-use Rattle.runs.specs.Scenario.{frame, coreOf, goneBy, hasCrash, listOf, cut, reach}
+use Rattle.runs.specs.Scenario.{frame, coreOf, goneBy, hasCrash}
+use Rattle.agreement.specs.Sends.{listOf, cut, reach}
 use Rattle.runs.specs.CrashRecords.{crashed, isNext, isRound, mostSends, checkedCrash, crashIn, scenario}
 use Rattle.runs.specs.Statement.{coreCrashes}
-use Rattle.runs.specs.Simulated.{endingAfter, endingFrom, endingOf, endings}
+use Rattle.agreement.specs.Simulated.{endingAfter, endingFrom, endingOf, endings}
 use Rattle.run_files.specs.RunFiles as runFiles
 use Rattle.run_files.specs.RunFiles.{readProposals, crashAt, readCrashes, untouchedLeft, readRest, readBehind, readRunFile}
 use Rattle.simulation.specs.Simulation.{checkedCrashes, simulated}

@@ -4,7 +4,7 @@ use Prim.Native.Nat.{ℕ, suc}
 use Rattle.drive_sets.specs.Refusals.{Outcome, refused, result, andThen, number}
 use Rattle.records.specs.Marks.{ascii}
 use Rattle.tables.specs.Files.{ReadTable, readTable}
-use Rattle.runs.specs.Simulated.{Ending, decides, undecided, stopped}
+use Rattle.agreement.specs.Simulated.{Ending, decides, undecided, stopped}
 use Rattle.run_files.specs.RunFiles.{RunFile, readRunFile}
 use Rattle.simulation.specs.Simulation.{Simulated, simulated}
 use Rattle.listings.specs.Text.{decimal, hexadecimal}

@@ -5,7 +5,7 @@ use Prim.Native.Nat.{ℕ}
 use Rattle.drive_sets.specs.declared.Pattern.{Pattern}
 use Rattle.drive_sets.specs.declared.Round.{Round}
 use Rattle.drive_sets.specs.Masks.{has}
-use Rattle.runs.specs.Simulated.{Ending, stopped}
+use Rattle.agreement.specs.Simulated.{Ending, stopped}
 use Rattle.run_files.specs.Reading.{roundAt}
 use Rattle.simulation.specs.States.{numberAt}
 use Rattle.simulation.specs.Endings.{endingBy}

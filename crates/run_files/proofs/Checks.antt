@@ -9,7 +9,7 @@ use Rattle.drive_sets.specs.Bools.{by-test, and-intro, and-second, and-fails-le
 use Rattle.drive_sets.specs.Masks.{has}
 use Rattle.drive_sets.specs.declared.Refusal.the-variants.{DriveNumber, CrashRound, CrashSends}
 use Rattle.drive_sets.specs.Refusals.{refused, result}
-use Rattle.exchange.specs.State.{isDrive}
+use Rattle.drive_states.specs.State.{isDrive}
 use Rattle.runs.specs.CrashRecords.{CrashRecord, isNext, isRound, mostSends, checkedCrash}
 
 -- ---- a drive of the frame, above the last

@@ -1,4 +1,3 @@
 -- Run files, reading as the code does it, and samples.
 pub mod RunFiles
 pub mod Reading
-pub mod Samples

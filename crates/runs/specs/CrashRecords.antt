@@ -7,7 +7,7 @@ use lib.ListN.{getD}
 use Rattle.drive_sets.specs.declared.Refusal.the-variants.{DriveNumber, CrashRound, CrashSends}
 use Rattle.drive_sets.specs.Masks.{has, size, ofDrives}
 use Rattle.drive_sets.specs.Refusals.{Outcome, result, refuseIf}
-use Rattle.exchange.specs.State.{isDrive}
+use Rattle.drive_states.specs.State.{isDrive}
 use Rattle.runs.specs.Scenario.{Crash, stays, crashes, Scenario}
 
 -- a CR record: drive, round, sends

@@ -1,10 +1,7 @@
--- Calls and worlds, scenarios, also from lists, runs, scenarios as instances of the rounds, the statements about runs, the simulated exchange,
--- and the canonical order of calls.
-pub mod World
+-- Protocols, worlds, runs of a scenario, CR records, and the statements of demand 3.
 pub mod Scenario
 pub mod CrashRecords
+pub mod Protocol
+pub mod World
 pub mod Runs
-pub mod Instance
 pub mod Statement
-pub mod Simulated
-pub mod Canonical

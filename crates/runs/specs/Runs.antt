@@ -11,10 +11,10 @@ use Rattle.drive_sets.specs.declared.Refusal.the-variants.{NoRoom}
 use Rattle.drive_sets.specs.Lists.{keep, all, any, elem}
 use Rattle.drive_sets.specs.Masks.{has, size}
 use Rattle.drive_sets.specs.Refusals.{Outcome, refused, result, number}
-use Rattle.exchange.specs.State.{isDrive}
-use Rattle.exchange.specs.Calls.{sending}
+use Rattle.drive_states.specs.State.{isDrive}
+use Rattle.runs.specs.Protocol.{Protocol}
 use Rattle.runs.specs.World.{Call, opens, sends, delivers, closes, driveOf, Slot, unopened, opened, World, nothingOpen, apply, applyAll, refusedIn, active}
-use Rattle.runs.specs.Scenario.{Scenario, frame, coreOf, goneBefore, goneBy, sendsNone, reach}
+use Rattle.runs.specs.Scenario.{Scenario, frame, coreOf, goneBefore, goneBy, sendsNone}
 pub mod Laws
 pub mod Books
 
@@ -35,12 +35,13 @@ dueOpening s done (sends d room start) = false
 dueOpening s done (delivers d bytes) = false
 dueOpening s done (closes d) = false
 
--- each call is due or refused, and in the end every drive was opened
-unfoldable pub openingPart : Scenario → (ℕ → Bool) → World → List Call → Bool
-openingPart s done w [] = all done (frame s)
-openingPart s done w (c ∷ cs) =
-    (dueOpening s done c || refusedIn w c)
-    && openingPart s (λ d. (dueOpening s done c && eqb d (driveOf c)) || done d) (apply w c) cs
+module _ (P : Protocol) where
+  -- each call is due or refused, and in the end every drive was opened
+  unfoldable pub openingPart : Scenario → (ℕ → Bool) → World → List Call → Bool
+  openingPart s done w [] = all done (frame s)
+  openingPart s done w (c ∷ cs) =
+      (dueOpening s done c || refusedIn P w c)
+      && openingPart s (λ d. (dueOpening s done c && eqb d (driveOf c)) || done d) (apply P w c) cs
 
 -- ---- the bookkeeping of a round
 
@@ -75,10 +76,11 @@ settled pending delivered = false
 settled failed delivered = true
 settled (wrote bytes) delivered = delivered
 
--- what a send gives in the state that is there; a drive that is not open is never due to send
-unfoldable pub sendingOf : Slot → ℕ → ℕ → Outcome (List ℕ)
-sendingOf unopened room start = refused NoRoom
-sendingOf (opened x) room start = sending x room start
+module _ (P : Protocol) where
+  -- what a send gives in the state that is there; a drive that is not open is never due to send
+  unfoldable pub sendingOf : Slot → ℕ → ℕ → Outcome (List ℕ)
+  sendingOf unopened room start = refused NoRoom
+  sendingOf (opened x) room start = P .sending x room start
 
 unfoldable pub sentBy : Outcome (List ℕ) → Sent
 sentBy (refused r) = failed
@@ -99,19 +101,27 @@ unfoldable pub closer : Scenario → ℕ → World → ℕ → Bool
 closer s r w₀ d = isDrive (s .n) d && active (w₀ d) && not (goneBy (s .crash d) r)
 
 module _ (s : Scenario) (r : ℕ) (w₀ : World) where
+  -- in the end every sender was called, unless it has a CR for this round with no sends, and every closer closed; messages to a drive
+  -- that does not close, having halted or having a CR up to this round, may be missing
+  unfoldable pub complete : Book → Bool
+  complete b =
+      all (λ d. not (sender s r w₀ d) || isCalled (b .sent d) || sendsNone (s .crash d) r) (frame s)
+      && all (λ e. not (closer s r w₀ e) || b .closed e) (frame s)
+
+module _ (P : Protocol) (s : Scenario) (r : ℕ) (w₀ : World) where
   -- d wrote these bytes, e is on its list, and they have not been delivered to e
   unfoldable pub owes : Book → ℕ → List ℕ → ℕ → Bool
-  owes b e bytes d = wroteJust (b .sent d) bytes && elem e (reach s r d) && not (b .delivered d e)
+  owes b e bytes d = wroteJust (b .sent d) bytes && elem e (P .reach s r d) && not (b .delivered d e)
 
   -- what d sends to e in this round, if anything, has been delivered
   unfoldable pub arrived : Book → ℕ → ℕ → Bool
-  arrived b e d = not (sender s r w₀ d && elem e (reach s r d)) || settled (b .sent d) (b .delivered d e)
+  arrived b e d = not (sender s r w₀ d && elem e (P .reach s r d)) || settled (b .sent d) (b .delivered d e)
 
   -- A send is due once, into a buffer with room; the bytes written, by one message call each, to the drives of the list; a close once,
   -- after the drive's own send and the messages to it.
   unfoldable pub due : Book → World → Call → Bool
   due b w (opens d n sets own number) = false
-  due b w (sends d room start) = sender s r w₀ d && not (isCalled (b .sent d)) && not (lacksRoom (sendingOf (w d) room start))
+  due b w (sends d room start) = sender s r w₀ d && not (isCalled (b .sent d)) && not (lacksRoom (sendingOf P (w d) room start))
   due b w (delivers e bytes) = any (owes b e bytes) (frame s)
   due b w (closes e) =
       closer s r w₀ e && not (b .closed e) && (not (sender s r w₀ e) || isCalled (b .sent e)) && all (arrived b e) (frame s)
@@ -120,7 +130,7 @@ module _ (s : Scenario) (r : ℕ) (w₀ : World) where
   unfoldable pub noted : Book → World → Call → Book
   noted b w (opens d n sets own number) = b
   noted b w (sends d room start) = record {
-    sent = λ x. cond (eqb x d) (sentBy (sendingOf (w d) room start)) (b .sent x);
+    sent = λ x. cond (eqb x d) (sentBy (sendingOf P (w d) room start)) (b .sent x);
     delivered = b .delivered;
     closed = b .closed;
   }
@@ -129,34 +139,28 @@ module _ (s : Scenario) (r : ℕ) (w₀ : World) where
       record { sent = b .sent; delivered = λ x y. (eqb x d && eqb y e) || b .delivered x y; closed = b .closed }
   noted b w (closes e) = record { sent = b .sent; delivered = b .delivered; closed = λ x. eqb x e || b .closed x }
 
-  -- in the end every sender was called, unless it has a CR for this round with no sends, and every closer closed; messages to a drive
-  -- that does not close, having halted or having a CR up to this round, may be missing
-  unfoldable pub complete : Book → Bool
-  complete b =
-      all (λ d. not (sender s r w₀ d) || isCalled (b .sent d) || sendsNone (s .crash d) r) (frame s)
-      && all (λ e. not (closer s r w₀ e) || b .closed e) (frame s)
-
   -- each call is due or refused
   unfoldable pub roundPart : Book → World → List Call → Bool
-  roundPart b w [] = complete b
-  roundPart b w (c ∷ cs) = (due b w c || refusedIn w c) && roundPart (cond (due b w c) (noted b w c) b) (apply w c) cs
+  roundPart b w [] = complete s r w₀ b
+  roundPart b w (c ∷ cs) = (due b w c || refusedIn P w c) && roundPart (cond (due b w c) (noted b w c) b) (apply P w c) cs
 
 -- ---- the whole list
 
--- the parts of the rounds r, r + 1, ..
-unfoldable pub roundParts : Scenario → ℕ → World → List (List Call) → Bool
-roundParts s r w [] = true
-roundParts s r w (p ∷ ps) = roundPart s r w emptyBook w p && roundParts s (suc r) (applyAll w p) ps
+module _ (P : Protocol) where
+  -- the parts of the rounds r, r + 1, ..
+  unfoldable pub roundParts : Scenario → ℕ → World → List (List Call) → Bool
+  roundParts s r w [] = true
+  roundParts s r w (p ∷ ps) = roundPart P s r w emptyBook w p && roundParts s (suc r) (applyAll P w p) ps
 
 unfoldable pub joined : List (List Call) → List Call
 joined [] = []
 joined (p ∷ ps) = p ++ joined ps
 
 -- the list is an opening part, and then a part for each of the rounds 1 to the core's size
-pub record Run (s : Scenario) (calls : List Call) : Type 0 where
+pub record Run (P : Protocol) (s : Scenario) (calls : List Call) : Type 0 where
   pub first : List Call
   pub rounds : List (List Call)
   pub whole : calls ≡ first ++ joined rounds
   pub many : length rounds ≡ size (coreOf s)
-  pub opensAll : openingPart s (λ d. false) nothingOpen first ≡ true
-  pub keepsRounds : roundParts s 1 (applyAll nothingOpen first) rounds ≡ true
+  pub opensAll : openingPart P s (λ d. false) nothingOpen first ≡ true
+  pub keepsRounds : roundParts P s 1 (applyAll P nothingOpen first) rounds ≡ true

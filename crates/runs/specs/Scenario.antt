@@ -1,11 +1,9 @@
--- A scenario: a frame, what its drives propose, and which of them crash; the list of a sender, and how far it gets.
-use mathlib.Core.Bool.{Bool, true, false, not, _&&_, cond}
-use mathlib.Core.List.{List, _++_}
+-- A scenario: a frame, what its drives propose, and which of them crash.
+use mathlib.Core.Bool.{Bool, true, false, _&&_}
+use mathlib.Core.List.{List}
 use Prim.Native.Nat.{ℕ}
 use lib.Dec.{eqb, leb, ltb}
-use lib.ListN.{take}
-use Rattle.drive_sets.specs.Lists.{range, keep}
-use Rattle.drive_sets.specs.Masks.{has}
+use Rattle.drive_sets.specs.Lists.{range}
 use Rattle.hitting_sets.specs.Order.{normal}
 use Rattle.tables.specs.Tables.{chosen}
 pub mod Laws
@@ -48,17 +46,3 @@ sendsNone (crashes q sends) r = eqb q r && eqb sends 0
 unfoldable pub hasCrash : Crash → Bool
 hasCrash stays = false
 hasCrash (crashes q sends) = true
-
--- a sender sends to the other core drives, rising, then to the listeners, rising
-unfoldable pub listOf : Scenario → ℕ → List ℕ
-listOf s d =
-    keep (λ e. has e (coreOf s) && not (eqb e d)) (frame s) ++ keep (λ e. not (has e (coreOf s))) (frame s)
-
--- with a CR for this round, the first so many of them
-unfoldable pub cut : Crash → ℕ → List ℕ → List ℕ
-cut stays r l = l
-cut (crashes q sends) r l = cond (eqb q r) (take sends l) l
-
--- the drives that a sender's message goes to in round r
-unfoldable pub reach : Scenario → ℕ → ℕ → List ℕ
-reach s r d = cut (s .crash d) r (listOf s d)

@@ -1,8 +1,7 @@
--- Demand 3: what is to be proved of every run, as types. One statement speaks of the whole list of calls.
+-- Demand 3: what is to be proved of every run, as types, for the drives of any protocol. One statement speaks of the whole list of calls.
 use mathlib.Core.Path.{_≡_}
 use mathlib.Core.Bool.{Bool, true, false, not, _&&_, _||_}
 use mathlib.Core.List.{List, [], _∷_, _++_}
-use mathlib.Core.Logic.{_↔_}
 use Prim.Native.Nat.{ℕ, zero, suc, _-_, _≤_, _<_}
 use lib.Dec.{eqb}
 use lib.ListN.{length, take, getD}
@@ -11,14 +10,12 @@ use Rattle.drive_sets.specs.Masks.{has, size, drives}
 use Rattle.drive_sets.specs.Refusals.{result}
 use Rattle.hitting_sets.specs.Order.{normal}
 use Rattle.tables.specs.Tables.{chosen, normalTable}
-use Rattle.exchange.specs.declared.Decision.the-variants.{Decided}
-use Rattle.exchange.specs.State.{isDrive, isDecided}
-use Rattle.sync_crash.specs.Rounds.{DecidesIn}
+use Rattle.drive_states.specs.declared.Decision.the-variants.{Decided}
+use Rattle.drive_states.specs.State.{isDrive, isDecided}
+use Rattle.runs.specs.Protocol.{Protocol}
 use Rattle.runs.specs.World.{Call, opens, sends, delivers, closes, World, nothingOpen, apply, applyAll, decisionOf, roundIn}
 use Rattle.runs.specs.Scenario.{Scenario, stays, crashes, coreOf, hasCrash}
 use Rattle.runs.specs.Runs.{Run, joined}
-use Rattle.runs.specs.Instance.{instanceOf}
-pub mod Laws
 
 -- ---- scenarios
 
@@ -57,6 +54,10 @@ pub record Proposed (s : Scenario) (v : ℕ) : Type 0 where
 unfoldable pub coreCrashes : Scenario → ℕ
 coreCrashes s = length (keep (λ d. hasCrash (s .crash d)) (drives (coreOf s)))
 
+-- the round by whose close every drive that stays up decides, and which is reached: f + 1
+abbrev pub lastRound : Scenario → ℕ
+lastRound s = suc (coreCrashes s)
+
 -- ---- decisions
 
 unfoldable pub isCloseOf : ℕ → Call → Bool
@@ -65,13 +66,14 @@ isCloseOf d (sends e room start) = false
 isCloseOf d (delivers e bytes) = false
 isCloseOf d (closes e) = eqb d e
 
--- the closes of d among the calls leave it undecided
-unfoldable pub leaveUndecided : ℕ → World → List Call → Bool
-leaveUndecided d w [] = true
-leaveUndecided d w (c ∷ cs) =
-    (not (isCloseOf d c) || not (isDecided (decisionOf (apply w c d)))) && leaveUndecided d (apply w c) cs
+module _ (P : Protocol) where
+  -- the closes of d among the calls leave it undecided
+  unfoldable pub leaveUndecided : ℕ → World → List Call → Bool
+  leaveUndecided d w [] = true
+  leaveUndecided d w (c ∷ cs) =
+      (not (isCloseOf d c) || not (isDecided (decisionOf (apply P w c d)))) && leaveUndecided d (apply P w c) cs
 
-module _ {s : Scenario} {calls : List Call} (run : Run s calls) where
+module _ {P : Protocol} {s : Scenario} {calls : List Call} (run : Run P s calls) where
   -- the calls of round k + 1, and those before that round
   unfoldable pub partAt : ℕ → List Call
   partAt k = getD (run .rounds) k []
@@ -85,9 +87,9 @@ module _ {s : Scenario} {calls : List Call} (run : Run s calls) where
     pub earlier : List Call
     pub later : List Call
     pub among : partAt k ≡ earlier ++ (closes d ∷ later)
-    pub inRound : roundIn (applyAll nothingOpen (callsBefore k ++ earlier) d) ≡ suc k
-    pub undecided : leaveUndecided d nothingOpen (callsBefore k ++ earlier) ≡ true
-    pub decided : decisionOf (applyAll nothingOpen (callsBefore k ++ earlier ++ (closes d ∷ [])) d) ≡ Decided (record { 0 = v })
+    pub inRound : roundIn (applyAll P nothingOpen (callsBefore k ++ earlier) d) ≡ suc k
+    pub undecided : leaveUndecided P d nothingOpen (callsBefore k ++ earlier) ≡ true
+    pub decided : decisionOf (applyAll P nothingOpen (callsBefore k ++ earlier ++ (closes d ∷ [])) d) ≡ Decided (record { 0 = v })
 
   -- in round r, from 1
   abbrev pub Decides : ℕ → ℕ → ℕ → Type 0
@@ -98,7 +100,7 @@ module _ {s : Scenario} {calls : List Call} (run : Run s calls) where
 
   pub record DecidesSoon (d v : ℕ) : Type 0 where
     pub round : ℕ
-    pub upTo : round ≤ suc (coreCrashes s)
+    pub upTo : round ≤ lastRound s
     pub decides : Decides d v round
 
   -- there is one number, proposed by a core drive, on which every drive that stays up decides in a round up to f + 1; none of them decides
@@ -108,15 +110,15 @@ module _ {s : Scenario} {calls : List Call} (run : Run s calls) where
     pub proposed : Proposed s value
     pub all : (d : ℕ) → Up s d → DecidesSoon d value
     pub only : (d v r : ℕ) → Up s d → Decides d v r → v ≡ value
-    pub final : (d : ℕ) → Up s d → decisionOf (applyAll nothingOpen calls d) ≡ Decided (record { 0 = value })
+    pub final : (d : ℕ) → Up s d → decisionOf (applyAll P nothingOpen calls d) ≡ Decided (record { 0 = value })
 
-unfoldable pub Agreement : Type 0
-Agreement = (s : Scenario) → Valid s → Untouched s → (calls : List Call) (run : Run s calls) → Agreed run
+unfoldable pub Agreement : Protocol → Type 0
+Agreement P = (s : Scenario) → Valid s → Untouched s → (calls : List Call) (run : Run P s calls) → Agreed run
 
 -- ---- the bound is reached: for every f below the core's size, in some run with f core drives crashing and some survivor set untouched, a
 -- drive that stays up decides in round f + 1, whatever is proposed
 
-pub record TightAt (n : ℕ) (sets : List ℕ) (proposal : ℕ → ℕ) (f : ℕ) : Type 0 where
+pub record TightAt (P : Protocol) (n : ℕ) (sets : List ℕ) (proposal : ℕ → ℕ) (f : ℕ) : Type 0 where
   pub scenario : Scenario
   pub frameIs : scenario .n ≡ n
   pub setsAre : scenario .sets ≡ sets
@@ -125,32 +127,26 @@ pub record TightAt (n : ℕ) (sets : List ℕ) (proposal : ℕ → ℕ) (f : ℕ
   pub untouched : Untouched scenario
   pub many : coreCrashes scenario ≡ f
   pub calls : List Call
-  pub run : Run scenario calls
+  pub run : Run P scenario calls
   pub drive : ℕ
   pub up : Up scenario drive
   pub value : ℕ
-  pub decides : Decides run drive value (suc f)
+  pub decides : Decides run drive value (lastRound scenario)
 
-unfoldable pub Tight : Type 0
-Tight = (n : ℕ) (sets : List ℕ) → normalTable n sets ≡ result (normal sets) → (proposal : ℕ → ℕ) → ((d : ℕ) → isDrive n d ≡ true → proposal d < 65536)
-    → (f : ℕ) → f < size (chosen (normal sets)) → TightAt n sets proposal f
+unfoldable pub Tight : Protocol → Type 0
+Tight P = (n : ℕ) (sets : List ℕ) → normalTable n sets ≡ result (normal sets) → (proposal : ℕ → ℕ) → ((d : ℕ) → isDrive n d ≡ true → proposal d < 65536)
+    → (f : ℕ) → f < size (chosen (normal sets)) → TightAt P n sets proposal f
 
 -- ---- every scenario has a run
 
-unfoldable pub RunsExist : Type 0
-RunsExist = (s : Scenario) → Valid s → (calls : List Call) × Run s calls
-
--- ---- a drive, crashing later or not, decides in a round exactly when the rules of document 01 give it: when the rounds do
-
-unfoldable pub ByRules : Type 0
-ByRules = (s : Scenario) → Valid s → (calls : List Call) (run : Run s calls) → (d v k : ℕ)
-    → DecidesAfter run d v k ↔ ((k < size (coreOf s)) × DecidesIn (instanceOf s) d v k)
+unfoldable pub RunsExist : Protocol → Type 0
+RunsExist P = (s : Scenario) → Valid s → (calls : List Call) × Run P s calls
 
 -- ---- so in two runs of one scenario every drive decides on the same numbers in the same rounds, and those that stay up end the same
 
-pub record Same {s : Scenario} {calls calls′ : List Call} (run : Run s calls) (run′ : Run s calls′) : Type 0 where
+pub record Same {P : Protocol} {s : Scenario} {calls calls′ : List Call} (run : Run P s calls) (run′ : Run P s calls′) : Type 0 where
   pub decides : (d v r : ℕ) → Decides run d v r → Decides run′ d v r
-  pub final : (d : ℕ) → Up s d → decisionOf (applyAll nothingOpen calls d) ≡ decisionOf (applyAll nothingOpen calls′ d)
+  pub final : (d : ℕ) → Up s d → decisionOf (applyAll P nothingOpen calls d) ≡ decisionOf (applyAll P nothingOpen calls′ d)
 
-unfoldable pub SameResult : Type 0
-SameResult = (s : Scenario) → Valid s → (calls calls′ : List Call) (run : Run s calls) (run′ : Run s calls′) → Same run run′
+unfoldable pub SameResult : Protocol → Type 0
+SameResult P = (s : Scenario) → Valid s → (calls calls′ : List Call) (run : Run P s calls) (run′ : Run P s calls′) → Same run run′

@@ -5,10 +5,10 @@ use mathlib.Core.List.{List, [], _∷_}
 use Prim.Native.Nat.{ℕ}
 use lib.Dec.{eqb}
 use Rattle.drive_sets.specs.Refusals.{Outcome, refused, result}
-use Rattle.exchange.specs.declared.Exchange.{Exchange}
-use Rattle.exchange.specs.declared.Decision.{Decision}
-use Rattle.exchange.specs.declared.Decision.the-variants.{Undecided}
-use Rattle.exchange.specs.Calls.{opening, sending, receiving, closing}
+use Rattle.drive_states.specs.declared.Exchange.{Exchange}
+use Rattle.drive_states.specs.declared.Decision.{Decision}
+use Rattle.drive_states.specs.declared.Decision.the-variants.{Undecided}
+use Rattle.runs.specs.Protocol.{Protocol}
 pub mod Laws
 
 -- a call, the drive that it names first
@@ -49,16 +49,17 @@ unfoldable pub onState : (Exchange → Outcome Exchange) → Slot → Slot
 onState call unopened = unopened
 onState call (opened x) = afterCall (opened x) (call x)
 
--- the world after a call; a send changes no state
-unfoldable pub apply : World → Call → World
-apply w (opens d n sets own number) = put w d (afterCall (w d) (opening n sets own number))
-apply w (sends d room start) = w
-apply w (delivers d bytes) = put w d (onState (λ x. receiving x bytes) (w d))
-apply w (closes d) = put w d (onState closing (w d))
+module _ (P : Protocol) where
+  -- the world after a call; a send changes no state
+  unfoldable pub apply : World → Call → World
+  apply w (opens d n sets own number) = put w d (afterCall (w d) (P .opening n sets own number))
+  apply w (sends d room start) = w
+  apply w (delivers d bytes) = put w d (onState (λ x. P .receiving x bytes) (w d))
+  apply w (closes d) = put w d (onState (P .closing) (w d))
 
-unfoldable pub applyAll : World → List Call → World
-applyAll w [] = w
-applyAll w (c ∷ cs) = applyAll (apply w c) cs
+  unfoldable pub applyAll : World → List Call → World
+  applyAll w [] = w
+  applyAll w (c ∷ cs) = applyAll (apply w c) cs
 
 -- ---- refused calls
 
@@ -67,18 +68,19 @@ module _ {A : Type 0} where
   isRefused (refused r) = true
   isRefused (result a) = false
 
--- the call is refused in the state that is there; of a drive that is not open only openings are
-unfoldable pub refusedBy : Slot → Call → Bool
-refusedBy slot (opens d n sets own number) = isRefused (opening n sets own number)
-refusedBy unopened (sends d room start) = false
-refusedBy (opened x) (sends d room start) = isRefused (sending x room start)
-refusedBy unopened (delivers d bytes) = false
-refusedBy (opened x) (delivers d bytes) = isRefused (receiving x bytes)
-refusedBy unopened (closes d) = false
-refusedBy (opened x) (closes d) = isRefused (closing x)
+module _ (P : Protocol) where
+  -- the call is refused in the state that is there; of a drive that is not open only openings are
+  unfoldable pub refusedBy : Slot → Call → Bool
+  refusedBy slot (opens d n sets own number) = isRefused (P .opening n sets own number)
+  refusedBy unopened (sends d room start) = false
+  refusedBy (opened x) (sends d room start) = isRefused (P .sending x room start)
+  refusedBy unopened (delivers d bytes) = false
+  refusedBy (opened x) (delivers d bytes) = isRefused (P .receiving x bytes)
+  refusedBy unopened (closes d) = false
+  refusedBy (opened x) (closes d) = isRefused (P .closing x)
 
-unfoldable pub refusedIn : World → Call → Bool
-refusedIn w c = refusedBy (w (driveOf c)) c
+  unfoldable pub refusedIn : World → Call → Bool
+  refusedIn w c = refusedBy (w (driveOf c)) c
 
 -- ---- what is seen of a drive
 

@@ -6,14 +6,15 @@ use Prim.Native.Nat.{ℕ, suc, _+_, _-_, _≤_, _<_}
 use native.Mathlib.Numerals.{add-one}
 use native.Mathlib.Omega.{arith}
 use Rattle.drive_sets.specs.Masks.{size}
-use Rattle.exchange.specs.declared.Exchange.{Exchange}
-use Rattle.exchange.specs.declared.Decision.{Decision}
-use Rattle.exchange.specs.declared.Decision.the-variants.{Undecided, Decided}
-use Rattle.exchange.specs.State.{isDrive}
-use Rattle.runs.specs.World.{World, nothingOpen, applyAll, decisionOf}
+use Rattle.drive_states.specs.declared.Exchange.{Exchange}
+use Rattle.drive_states.specs.declared.Decision.{Decision}
+use Rattle.drive_states.specs.declared.Decision.the-variants.{Undecided, Decided}
+use Rattle.drive_states.specs.State.{isDrive}
+use Rattle.runs.specs.World.{World, nothingOpen, decisionOf}
+use Rattle.agreement.specs.Document01.{applyAll}
 use Rattle.runs.specs.Scenario.{Scenario, coreOf}
-use Rattle.runs.specs.Simulated.{Ending, decides, undecided, stopped}
-use Rattle.runs.specs.Canonical.{openingCalls, roundCalls, roundsFrom, canonicalRounds, endingOn, firstDecision, canonicalEnding}
+use Rattle.agreement.specs.Simulated.{Ending, decides, undecided, stopped}
+use Rattle.agreement.specs.Canonical.{openingCalls, roundCalls, roundsFrom, canonicalRounds, endingOn, firstDecision, canonicalEnding}
 use Rattle.run_files.specs.declared.crashes.Crashes.{Crashes}
 use Rattle.simulation.specs.declared.simulating.Found.{Found}
 use Rattle.simulation.specs.States.{stateAt, worldOf, Says}

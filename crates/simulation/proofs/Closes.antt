@@ -9,10 +9,12 @@ use lib.Seq.{set-getD}
 use borrow.Author.Tests.{not-true, not-false}
 use Rattle.drive_sets.specs.Bools.{by-test, cond-true, cond-false}
 use Rattle.drive_sets.specs.Lists.{range, keep}
-use Rattle.exchange.specs.declared.Exchange.{Exchange}
-use Rattle.exchange.specs.Calls.{closing}
+use Rattle.drive_states.specs.declared.Exchange.{Exchange}
+use Rattle.agreement.specs.Calls.{closing}
 use Rattle.exchange.specs.Replies.{stateAfter}
-use Rattle.runs.specs.World.{Call, opened, closes, active, applyAll}
+use Rattle.runs.specs.World.{Call, opened, closes, active}
+use Rattle.agreement.specs.Document01.{applyAll}
+use Rattle.runs.specs.World as worlds
 use Rattle.runs.specs.Scenario.{goneBy}
 use Rattle.run_files.specs.declared.crashes.Crashes.{Crashes}
 use Rattle.simulation.specs.States.{crashAt, blank, stateAt, worldOf, closers}
@@ -44,7 +46,7 @@ module _ (n : ℕ) (c : Crashes) (r : ℕ) (began states : List Exchange) where
   pub close-turn : (all : List Exchange) (i : ℕ) (y : Exchange) → Closing n c r began states all i → i < n → n ≤ 64
       → y ≡ cond (active (opened (getD began i blank)) && not (goneBy (crashAt c (i + 1)) r)) (stateAfter (getD all i blank) (closing (getD all i blank))) (getD all i blank)
       → Closing n c r began states (set all i y) (i + 1)
-  unfolding applyAll
+  unfolding worlds.applyAll
   close-turn all i y g h few e =
       walk-turn n (closeCalls c r began) states all (set all i y) i g h (length-set all i y ∙ g .long) (by-test (closesNow c r began (i + 1)) closing-now keeping)
     where

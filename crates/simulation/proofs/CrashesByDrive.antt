@@ -9,7 +9,8 @@ use lib.Seq.{take-all}
 use borrow.Author.Tests.{eq-eqb, ne-eqb, not-true, not-false}
 use Rattle.drive_sets.specs.Bools.{cond-true, cond-false}
 use Rattle.drive_sets.specs.Masks.{has}
-use Rattle.runs.specs.Scenario.{stays, crashes, goneBefore, goneBy, cut}
+use Rattle.runs.specs.Scenario.{stays, crashes, goneBefore, goneBy}
+use Rattle.agreement.specs.Sends.{cut}
 use Rattle.run_files.specs.declared.crashes.Crashes.{Crashes}
 use Rattle.run_files.specs.Reading.{roundAt}
 use Rattle.simulation.specs.States.{crashAt}

@@ -8,12 +8,14 @@ use Rattle.drive_sets.specs.Masks.{single, minus, outside, size, lowest, drives
 use Rattle.drive_sets.specs.Masks.Laws.{has-bounds, minus-lt}
 use Rattle.drive_sets.specs.Masks.Outside.{outside-lt}
 use Rattle.drive_sets.specs.Masks.Sizes.{lowest-has, length-drives, drives-none}
-use Rattle.exchange.specs.declared.Exchange.{Exchange}
-use Rattle.exchange.specs.State.Laws.{is-drive}
-use Rattle.exchange.specs.Calls.{receiving}
+use Rattle.drive_states.specs.declared.Exchange.{Exchange}
+use Rattle.drive_states.specs.State.Laws.{is-drive}
+use Rattle.agreement.specs.Calls.{receiving}
 use Rattle.exchange.specs.Replies.{stateAfter}
 use Rattle.exchange.proofs.Least.{lowest-first}
-use Rattle.runs.specs.World.{Call, delivers, World, apply, applyAll}
+use Rattle.runs.specs.World.{Call, delivers, World}
+use Rattle.agreement.specs.Document01.{document01, apply, applyAll}
+use Rattle.runs.specs.World as worlds
 use Rattle.runs.specs.World.Laws.{applyAll-append}
 use Rattle.simulation.specs.States.{blank, stateAt, worldOf, listFor}
 use Rattle.simulation.proofs.Worlds.{world-deliver}
@@ -41,7 +43,7 @@ module _ (bytes : List ℕ) (m sends : ℕ) (states : List Exchange) where
   pub deliver-turn : (all : List Exchange) (rest left : ℕ) (d : ℕ) (y : Exchange) (rest' : ℕ) → Delivering bytes m sends states all rest left
       → (rest ≡ 0 → ⊥) → (left ≡ 0 → ⊥) → d ≡ lowest rest → y ≡ stateAfter (getD all (d - 1) blank) (receiving (getD all (d - 1) blank) bytes)
       → rest' ≡ minus rest (single d) → Delivering bytes m sends states (set all (d - 1) y) rest' (left - 1)
-  unfolding applyAll stateAt
+  unfolding worlds.applyAll stateAt
   deliver-turn all rest left d y rest' g some more e f k = record {
     word = subst (λ (x : ℕ). x < 2 ^ 64) (sym k) (minus-lt 64 rest (single d) (g .word));
     long = length-set all (d - 1) y ∙ g .long;
@@ -68,13 +70,13 @@ module _ (bytes : List ℕ) (m sends : ℕ) (states : List Exchange) where
 
   pub deliver-none : (all : List Exchange) (rest left : ℕ) → Delivering bytes m sends states all rest left → left ≡ 0
       → (n : ℕ) → n ≤ 64 → m < 2 ^ n → worldOf n all ≡ applyAll (worldOf n states) (messages bytes (take sends (drives m)))
-  unfolding applyAll
+  unfolding worlds.applyAll
   deliver-none all rest left g e n h l =
       ap (λ (k : ℕ). applyAll (worldOf n all) (messages bytes (take k (drives rest)))) (sym e) ∙ g .same n h l
 
   pub deliver-end : (all : List Exchange) (rest left : ℕ) → Delivering bytes m sends states all rest left → rest ≡ 0
       → (n : ℕ) → n ≤ 64 → m < 2 ^ n → worldOf n all ≡ applyAll (worldOf n states) (messages bytes (take sends (drives m)))
-  unfolding applyAll
+  unfolding worlds.applyAll
   deliver-end all rest left g e n h l =
       ap (λ (es : List ℕ). applyAll (worldOf n all) (messages bytes es)) (sym (ap (take left) (ap drives e ∙ drives-none) ∙ take-none left))
       ∙ g .same n h l
@@ -105,7 +107,7 @@ module _ (n core own sends : ℕ) (bytes : List ℕ) (states : List Exchange) wh
       ∙ sym (take-both sends (drives others) (drives listeners)) in
       h n few (subst (λ (x : ℕ). x < 2 ^ n) (sym k) (outside-lt n core))
       ∙ (ap (λ (w : World). applyAll w (messages bytes last)) (f n few (subst (λ (x : ℕ). x < 2 ^ n) (sym e) (minus-lt n core (single own) within)))
-      ∙ (sym (applyAll-append (worldOf n states) (messages bytes first) (messages bytes last))
+      ∙ (sym (applyAll-append document01 (worldOf n states) (messages bytes first) (messages bytes last))
       ∙ (ap (applyAll (worldOf n states)) (sym (map-append (λ x. delivers x bytes) first last))
       ∙ (ap (λ (es : List ℕ). applyAll (worldOf n states) (messages bytes es)) both
       ∙ ap₂ (λ (a b : ℕ). applyAll (worldOf n states) (messages bytes (take sends (drives a ++ drives b)))) e k))))

@@ -11,13 +11,13 @@ use borrow.Author.Tests.{eqb-true, eqb-false, ne-eqb}
 use Rattle.drive_sets.specs.Bools.{by-test, cond-false}
 use Rattle.drive_sets.specs.declared.Pattern.{Pattern}
 use Rattle.drive_sets.specs.declared.Round.{Round}
-use Rattle.exchange.specs.declared.Exchange.{Exchange}
-use Rattle.exchange.specs.declared.Decision.{Decision}
-use Rattle.exchange.specs.declared.Decision.the-variants.{Undecided, Decided}
-use Rattle.exchange.specs.State.{isDrive}
-use Rattle.exchange.specs.State.Laws.{drive-bounds}
-use Rattle.runs.specs.Simulated.{Ending, decides, undecided}
-use Rattle.runs.specs.Canonical.{endingOn}
+use Rattle.drive_states.specs.declared.Exchange.{Exchange}
+use Rattle.drive_states.specs.declared.Decision.{Decision}
+use Rattle.drive_states.specs.declared.Decision.the-variants.{Undecided, Decided}
+use Rattle.drive_states.specs.State.{isDrive}
+use Rattle.drive_states.specs.State.Laws.{drive-bounds}
+use Rattle.agreement.specs.Simulated.{Ending, decides, undecided}
+use Rattle.agreement.specs.Canonical.{endingOn}
 use Rattle.run_files.specs.Reading.{noRound, roundAt}
 use Rattle.simulation.specs.States.{noPattern, numberAt, blank, stateAt}
 use Rattle.simulation.specs.Endings.{endingBy, orLater}

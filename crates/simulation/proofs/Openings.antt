@@ -14,16 +14,18 @@ use Rattle.drive_sets.specs.Lists.{elem, range}
 use Rattle.drive_sets.specs.Lists.Laws.{elem-none, elem-head, elem-tail, elem-cases}
 use Rattle.drive_sets.specs.Refusals.{result}
 use Rattle.drive_sets.specs.Bools.{clash, by-test, false-of, cond-true, cond-false}
-use Rattle.exchange.specs.declared.Exchange.{Exchange}
-use Rattle.exchange.specs.State.{isDrive}
-use Rattle.exchange.specs.State.Laws.{drive-bounds, isDrive-range}
+use Rattle.drive_states.specs.declared.Exchange.{Exchange}
+use Rattle.drive_states.specs.State.{isDrive}
+use Rattle.drive_states.specs.State.Laws.{drive-bounds, isDrive-range}
 use Rattle.hitting_sets.specs.Order.{normal}
-use Rattle.exchange.specs.Calls.{initial, opening}
-use Rattle.exchange.specs.Calls.Laws.{opening-accepted}
-use Rattle.runs.specs.World.{opens, Slot, opened, World, nothingOpen, put, afterCall, apply, applyAll}
+use Rattle.agreement.specs.Calls.{initial, opening}
+use Rattle.agreement.specs.Calls.Laws.{opening-accepted}
+use Rattle.runs.specs.World.{opens, Slot, opened, World, nothingOpen, put, afterCall}
+use Rattle.agreement.specs.Document01.{apply, applyAll}
+use Rattle.runs.specs.World as worlds
 use Rattle.runs.specs.World.Laws.{put-same, put-other}
 use Rattle.runs.specs.Scenario.{Scenario, frame, coreOf}
-use Rattle.runs.specs.Canonical.{openingCalls}
+use Rattle.agreement.specs.Canonical.{openingCalls}
 use Rattle.run_files.specs.declared.crashes.Crashes.{Crashes}
 use Rattle.simulation.specs.States.{noPattern, numberAt, blank, stateAt, worldOf, Told}
 
@@ -82,7 +84,7 @@ module _ (n core : ℕ) (numbers : List Pattern) (c : Crashes) (s : Scenario) (g
 
   openings-of : (ds : List ℕ) (w : World) → ((d : ℕ) → elem d ds ≡ true → isDrive n d ≡ true) → (e : ℕ)
       → after-openings ds w e ≡ cond (elem e ds) (opened (first e)) (w e)
-  unfolding after-openings applyAll apply afterCall
+  unfolding after-openings worlds.applyAll worlds.apply afterCall
   openings-of [] w h e = sym (cond-false _ _ (elem-none e))
   openings-of (d ∷ ds) w h e =
       let rest = openings-of ds (put w d slot) (λ x i. h x (elem-tail x d ds i)) e in

@@ -24,13 +24,13 @@ use Rattle.hitting_sets.specs.Hitting.{hits}
 use Rattle.hitting_sets.specs.Order.{normal}
 use Rattle.tables.specs.Tables.{chosen, normalTable, chosenCore}
 use Rattle.tables.specs.Tables.Laws.{Accepted, accepted-table, core-given, chosen-core}
-use Rattle.exchange.specs.State.{isDrive}
-use Rattle.exchange.specs.State.Laws.{drive-bounds, isDrive-range}
+use Rattle.drive_states.specs.State.{isDrive}
+use Rattle.drive_states.specs.State.Laws.{drive-bounds, isDrive-range}
 use Rattle.runs.specs.Scenario.{Crash, stays, crashes, Scenario, frame, coreOf, hasCrash}
 use Rattle.runs.specs.CrashRecords.{CrashRecord, crashed, crashIn, scenario}
 use Rattle.runs.specs.Statement.{Valid, Up, coreCrashes}
-use Rattle.runs.specs.Simulated.{Ending, stopped, endingOf, endings}
-use Rattle.runs.specs.Canonical.{canonicalEnding, CanonicalGives}
+use Rattle.agreement.specs.Simulated.{Ending, stopped, endingOf, endings}
+use Rattle.agreement.specs.Canonical.{canonicalEnding, CanonicalGives}
 use Rattle.agreement.specs.Refinement.Endings.{canonical-gives}
 use Rattle.run_files.specs.declared.crashes.Crashes.{Crashes}
 use Rattle.run_files.specs.Reading as files

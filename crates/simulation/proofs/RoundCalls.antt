@@ -13,22 +13,26 @@ use Rattle.drive_sets.specs.Masks.{has, single, minus, outside, drives}
 use Rattle.drive_sets.specs.Masks.Laws.{has-minus, has-single, full-has, minus-lt}
 use Rattle.drive_sets.specs.Masks.Outside.{outside-lt, has-outside}
 use Rattle.drive_sets.specs.Masks.Frames.{drives-frame}
-use Rattle.exchange.specs.declared.Exchange.{Exchange}
-use Rattle.exchange.specs.State.{isDrive}
-use Rattle.exchange.specs.State.Laws.{drive-bounds, isDrive-range}
-use Rattle.exchange.specs.Calls.{sending}
-use Rattle.runs.specs.World.{Call, sends, closes, Slot, opened, World, apply, applyAll, active}
+use Rattle.drive_states.specs.declared.Exchange.{Exchange}
+use Rattle.drive_states.specs.State.{isDrive}
+use Rattle.drive_states.specs.State.Laws.{drive-bounds, isDrive-range}
+use Rattle.agreement.specs.Calls.{sending}
+use Rattle.runs.specs.World.{Call, sends, closes, Slot, opened, World, active}
+use Rattle.agreement.specs.Document01.{document01, apply, applyAll, sendingOf}
+use Rattle.runs.specs.World as worlds
 use Rattle.runs.specs.World.Laws.{applyAll-append}
-use Rattle.runs.specs.Scenario.{Crash, Scenario, frame, goneBefore, goneBy, listOf, cut, reach}
-use Rattle.runs.specs.Runs.{sendingOf, sender, closer, joined}
-use Rattle.runs.specs.Canonical.{room, deliveries, messageCalls, roundCalls}
+use Rattle.runs.specs.Scenario.{Crash, Scenario, frame, goneBefore, goneBy}
+use Rattle.agreement.specs.Sends.{listOf, cut, reach}
+use Rattle.runs.specs.Runs.{sender, closer, joined}
+use Rattle.runs.specs.Runs as anyRuns
+use Rattle.agreement.specs.Canonical.{room, deliveries, messageCalls, roundCalls}
 use Rattle.run_files.specs.declared.crashes.Crashes.{Crashes}
 use Rattle.simulation.specs.States.{crashAt, stateAt, worldOf, closers, listFor, sendsNow, messagesBy, messagesOf, Says}
 use Rattle.simulation.proofs.Worlds.{world-at}
 
 -- a send changes no state
 sends-nothing : (w : World) (ds : List ℕ) → applyAll w (map (λ d. sends d room 0) ds) ≡ w
-unfolding applyAll apply
+unfolding worlds.applyAll worlds.apply
 sends-nothing w [] = refl
 sends-nothing w (d ∷ ds) = sends-nothing w ds
 
@@ -72,7 +76,7 @@ module _ (n core : ℕ) (c : Crashes) (s : Scenario) (few : n ≤ 64) (within : 
 
     same-messages : (d : ℕ) → isDrive n d ≡ true
         → deliveries (sendingOf (world d) room 0) (reach s r d) ≡ deliveries (sending (stateAt states d) room 0) (cut (crashAt c d) r (listFor n core d))
-    unfolding reach sendingOf
+    unfolding reach anyRuns.sendingOf
     same-messages d h =
         ap₂ deliveries (ap (λ (slot : Slot). sendingOf slot room 0) (world-at n states d h))
         (ap₂ (λ (q : Crash) (l : List ℕ). cut q r l) (g .crash-is d) (list-for d h))
@@ -110,9 +114,9 @@ module _ (n core : ℕ) (c : Crashes) (s : Scenario) (few : n ≤ 64) (within : 
     round-made =
         let told = messageCalls s r world (keep (sender s r world) (range 1 (s .n))) in
         let closed = map closes (keep (closer s r world) (frame s)) in
-        applyAll-append world (map (λ d. sends d room 0) (keep (sender s r world) (range 1 (s .n)))) (told ++ closed)
+        applyAll-append document01 world (map (λ d. sends d room 0) (keep (sender s r world) (range 1 (s .n)))) (told ++ closed)
         ∙ (ap (λ (w : World). applyAll w (told ++ closed)) (sends-nothing world (keep (sender s r world) (range 1 (s .n))))
-        ∙ (applyAll-append world told closed
+        ∙ (applyAll-append document01 world told closed
         ∙ ap₂ (λ (a : List Call) (l : List ℕ). applyAll (applyAll world a) (map closes l))
         (ap (λ (m : ℕ). messageCalls s r world (keep (sender s r world) (range 1 m))) (g .frame-is) ∙ messages-of (range 1 n) (λ d i. isDrive-range n d ∙ i))
         same-closers))

@@ -10,11 +10,14 @@ use Rattle.drive_sets.specs.Bools.{cond-true, cond-false}
 use Rattle.drive_sets.specs.Masks.{has, single, full, minus, outside, size, drives}
 use Rattle.drive_sets.specs.Masks.Laws.{subset-full}
 use Rattle.drive_sets.specs.Masks.Sizes.{size-minus, size-full, common-subset, length-drives}
-use Rattle.exchange.specs.declared.Exchange.{Exchange}
-use Rattle.exchange.specs.Calls.{sending}
-use Rattle.runs.specs.World.{Call, World, opened, active, applyAll}
-use Rattle.runs.specs.Scenario.{goneBefore, cut}
-use Rattle.runs.specs.Canonical.{deliveries}
+use Rattle.drive_states.specs.declared.Exchange.{Exchange}
+use Rattle.agreement.specs.Calls.{sending}
+use Rattle.runs.specs.World.{Call, World, opened, active}
+use Rattle.agreement.specs.Document01.{applyAll}
+use Rattle.runs.specs.World as worlds
+use Rattle.runs.specs.Scenario.{goneBefore}
+use Rattle.agreement.specs.Sends.{cut}
+use Rattle.agreement.specs.Canonical.{deliveries}
 use Rattle.run_files.specs.declared.crashes.Crashes.{Crashes}
 use Rattle.simulation.specs.States.{crashAt, blank, worldOf, listFor, sendsNow, messagesBy, messagesOf}
 use Rattle.simulation.proofs.Worlds.{state-place}
@@ -35,7 +38,7 @@ module _ (b p halted gone : Bool) (e : b ≡ p) where
 
 module _ (w : World) {b p : Bool} (e : b ≡ p) (calls : List Call) where
   pub not-sent : b ≡ false → w ≡ applyAll w (cond p calls [])
-  unfolding applyAll
+  unfolding worlds.applyAll
   not-sent h = ap (applyAll w) (sym (cond-false _ _ (sym e ∙ h)))
 
   pub sent-all : b ≡ true → applyAll w calls ≡ applyAll w (cond p calls [])

@@ -17,12 +17,14 @@ use Rattle.records.specs.Fields.{written, writtenAt}
 use Rattle.tables.specs.declared.writing.Writing.{Writing}
 use Rattle.tables.specs.declared.writing.Writing.the-variants as writings
 use Rattle.tables.specs.Answers.{writingOutcome}
-use Rattle.exchange.specs.declared.Exchange.{Exchange}
-use Rattle.exchange.specs.State.{inCore, broken}
-use Rattle.exchange.specs.Calls.{outgoing, sending, bufferAfter}
+use Rattle.drive_states.specs.declared.Exchange.{Exchange}
+use Rattle.drive_states.specs.State.{inCore, broken}
+use Rattle.agreement.specs.Calls.{outgoing, sending, bufferAfter}
 use Rattle.exchange.specs.Replies.{sizeSent, Sent}
-use Rattle.runs.specs.World.{delivers, World, applyAll}
-use Rattle.runs.specs.Canonical.{deliveries}
+use Rattle.runs.specs.World.{delivers, World}
+use Rattle.agreement.specs.Document01.{applyAll}
+use Rattle.runs.specs.World as worlds
+use Rattle.agreement.specs.Canonical.{deliveries}
 
 -- the bytes that a send wrote
 pub record Wrote (x : Exchange) (room size : ℕ) (new : List ℕ) : Type 0 where
@@ -69,7 +71,7 @@ module _ (x : Exchange) (old new : List ℕ) (r : Writing) (sent : Sent (sending
 
 -- none where it was refused
 pub world-unsent : (w : World) (due : Outcome (List ℕ)) (es : List ℕ) → deliveries due es ≡ [] → w ≡ applyAll w (deliveries due es)
-unfolding applyAll
+unfolding worlds.applyAll
 world-unsent w due es e = ap (applyAll w) (sym e)
 
 -- the bytes read back from the buffer, to each drive of the list

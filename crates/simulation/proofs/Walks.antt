@@ -8,8 +8,10 @@ use native.Mathlib.Omega.{arith}
 use lib.ListN.{length}
 use Rattle.drive_sets.specs.Bools.{by-test}
 use Rattle.drive_sets.specs.Lists.{range, keep}
-use Rattle.exchange.specs.declared.Exchange.{Exchange}
-use Rattle.runs.specs.World.{Call, World, applyAll}
+use Rattle.drive_states.specs.declared.Exchange.{Exchange}
+use Rattle.runs.specs.World.{Call, World}
+use Rattle.agreement.specs.Document01.{document01, applyAll}
+use Rattle.runs.specs.World as worlds
 use Rattle.runs.specs.World.Laws.{applyAll-append}
 use Rattle.runs.specs.Runs.{joined}
 use Rattle.simulation.specs.States.{worldOf}
@@ -42,12 +44,12 @@ module _ (n : ℕ) (calls : ℕ → List Call) (states : List Exchange) where
     upTo = omega (arith, h);
     long = long;
     rest = ap (λ (w : World). applyAll w (callsOf calls (range (suc (suc i)) (n - suc i)))) (e ∙ ap (λ (d : ℕ). applyAll (worldOf n all) (calls d)) (add-one i))
-        ∙ (sym (applyAll-append (worldOf n all) (calls (suc i)) (callsOf calls (range (suc (suc i)) (n - suc i))))
+        ∙ (sym (applyAll-append document01 (worldOf n all) (calls (suc i)) (callsOf calls (range (suc (suc i)) (n - suc i))))
         ∙ (ap (λ (l : List ℕ). applyAll (worldOf n all) (callsOf calls l)) (sym (range-step i h)) ∙ g .rest));
   })
 
   pub walk-end : (all : List Exchange) (i : ℕ) → Walking n calls states all i → n ≤ i → worldOf n all ≡ applyAll (worldOf n states) (callsOf calls (range 1 n))
-  unfolding joined range applyAll
+  unfolding joined range worlds.applyAll
   walk-end all i g h =
       ap (λ (k : ℕ). applyAll (worldOf n all) (callsOf calls (range (suc i) k))) (the (0 ≡ n - i) (omega arith)) ∙ g .rest
     where

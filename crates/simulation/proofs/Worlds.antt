@@ -10,12 +10,14 @@ use lib.Seq.{getD-set-same, getD-set-other}
 use borrow.Author.Tests.{eqb-true, eqb-false}
 use Rattle.drive_sets.specs.Bools.{by-test, cond-true, cond-false}
 use Rattle.drive_sets.specs.Refusals.{Outcome, refused, result}
-use Rattle.exchange.specs.declared.Exchange.{Exchange}
-use Rattle.exchange.specs.State.{isDrive}
-use Rattle.exchange.specs.State.Laws.{drive-bounds, is-drive}
-use Rattle.exchange.specs.Calls.{receiving, closing}
+use Rattle.drive_states.specs.declared.Exchange.{Exchange}
+use Rattle.drive_states.specs.State.{isDrive}
+use Rattle.drive_states.specs.State.Laws.{drive-bounds, is-drive}
+use Rattle.agreement.specs.Calls.{receiving, closing}
 use Rattle.exchange.specs.Replies.{stateAfter}
-use Rattle.runs.specs.World.{opened, put, afterCall, onState, apply, delivers, closes}
+use Rattle.runs.specs.World.{opened, put, afterCall, onState, delivers, closes}
+use Rattle.agreement.specs.Document01.{apply}
+use Rattle.runs.specs.World as worlds
 use Rattle.runs.specs.World.Laws.{put-same, put-other}
 use Rattle.simulation.specs.States.{blank, stateAt, worldOf}
 
@@ -60,12 +62,12 @@ module _ (n : ℕ) (states : List Exchange) (d : ℕ) (g : isDrive n d ≡ true)
         ∙ ap (put (worldOf n states) d) (sym (ap (onState call) world-at ∙ after-call (stateAt states d) (call (stateAt states d))))
 
     pub world-close : worldOf n (set states (d - 1) (stateAfter (stateAt states d) (closing (stateAt states d)))) ≡ apply (worldOf n states) (closes d)
-    unfolding apply
+    unfolding worlds.apply
     world-close = by-call closing
 
     pub world-deliver : (bytes : List ℕ)
         → worldOf n (set states (d - 1) (stateAfter (stateAt states d) (receiving (stateAt states d) bytes))) ≡ apply (worldOf n states) (delivers d bytes)
-    unfolding apply
+    unfolding worlds.apply
     world-deliver bytes = by-call (λ y. receiving y bytes)
 
 -- ---- the drive whose state is at place i

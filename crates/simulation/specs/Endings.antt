@@ -7,7 +7,7 @@ use Rattle.drive_sets.specs.Lists.{range}
 use Rattle.drive_sets.specs.Masks.{has}
 use Rattle.drive_sets.specs.Refusals.{Outcome}
 use Rattle.tables.specs.Reading.{outcomeOf}
-use Rattle.runs.specs.Simulated.{Ending, decides, undecided, stopped}
+use Rattle.agreement.specs.Simulated.{Ending, decides, undecided, stopped}
 use Rattle.run_files.specs.Reading.{roundAt}
 use Rattle.simulation.specs.declared.simulating.Found.{Found}
 use Rattle.simulation.specs.declared.simulating.Simulated as answers

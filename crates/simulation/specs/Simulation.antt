@@ -9,7 +9,7 @@ use Rattle.tables.specs.Tables.{chosen, normalTable}
 use Rattle.runs.specs.Scenario.{Scenario, coreOf}
 use Rattle.runs.specs.CrashRecords.{CrashRecord, crashed, checkedCrash, scenario}
 use Rattle.runs.specs.Statement.{coreCrashes}
-use Rattle.runs.specs.Simulated.{Ending, endings}
+use Rattle.agreement.specs.Simulated.{Ending, endings}
 pub mod Laws
 
 -- ---- the CR records: 8, 9, 10 of each

@@ -7,16 +7,17 @@ use lib.ListN.{getD}
 use Rattle.drive_sets.specs.declared.Pattern.{Pattern}
 use Rattle.drive_sets.specs.Lists.{range, keep}
 use Rattle.drive_sets.specs.Masks.{has, single, minus, outside, drives}
-use Rattle.exchange.specs.declared.Exchange.{Exchange}
-use Rattle.exchange.specs.declared.Announcement.the-variants.{Absent}
-use Rattle.exchange.specs.declared.Decision.the-variants.{Undecided}
-use Rattle.exchange.specs.State.{isDrive}
-use Rattle.exchange.specs.Calls.{sending}
+use Rattle.drive_states.specs.declared.Exchange.{Exchange}
+use Rattle.drive_states.specs.declared.Announcement.the-variants.{Absent}
+use Rattle.drive_states.specs.declared.Decision.the-variants.{Undecided}
+use Rattle.drive_states.specs.State.{isDrive}
+use Rattle.agreement.specs.Calls.{sending}
 use Rattle.runs.specs.World.{Call, World, unopened, opened, active}
-use Rattle.runs.specs.Scenario.{Crash, stays, crashes, Scenario, coreOf, goneBefore, goneBy, cut}
+use Rattle.runs.specs.Scenario.{Crash, stays, crashes, Scenario, coreOf, goneBefore, goneBy}
+use Rattle.agreement.specs.Sends.{cut}
 use Rattle.runs.specs.Runs.{joined}
 use Rattle.runs.specs.Statement.{Valid}
-use Rattle.runs.specs.Canonical.{room, deliveries}
+use Rattle.agreement.specs.Canonical.{room, deliveries}
 use Rattle.run_files.specs.declared.crashes.Crashes.{Crashes}
 use Rattle.run_files.specs.Reading.{roundAt}
 

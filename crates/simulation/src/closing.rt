@@ -3,15 +3,16 @@ ghost use mathlib.Core.Path.{_≡_};
 ghost use mathlib.Core.Bool.{not, _&&_, cond};
 ghost use mathlib.Core.List.{map};
 ghost use Prim.Native.Nat.{_≤_};
-ghost use Rattle.exchange.specs.Calls.{closing};
+ghost use Rattle.agreement.specs.Calls.{closing};
 ghost use Rattle.exchange.specs.Replies.{stateAfter};
-ghost use Rattle.runs.specs.World.{opened, closes, active, applyAll};
+ghost use Rattle.runs.specs.World.{opened, closes, active};
+ghost use Rattle.agreement.specs.Document01.{applyAll};
 ghost use Rattle.runs.specs.Scenario.{goneBy};
 ghost use Rattle.simulation.specs.States.{crashAt, worldOf, closers};
 use crate::crashes;
 use drive_sets::Drive;
 use drive_sets::Round;
-use exchange::Exchange;
+use drive_states::Exchange;
 use run_files::crashes::Crashes;
 
 // The drive that was in this state when the round began closes it.

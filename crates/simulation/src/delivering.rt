@@ -4,12 +4,13 @@ ghost use mathlib.Core.List.{map};
 ghost use Prim.Native.Nat.{ℕ, _-_, _^_, _≤_, _<_};
 ghost use lib.ListN.{take};
 ghost use Rattle.drive_sets.specs.Masks.{size, drives};
-ghost use Rattle.exchange.specs.Calls.{sending};
-ghost use Rattle.runs.specs.World.{delivers, applyAll};
-ghost use Rattle.runs.specs.Canonical.{deliveries};
+ghost use Rattle.agreement.specs.Calls.{sending};
+ghost use Rattle.runs.specs.World.{delivers};
+ghost use Rattle.agreement.specs.Document01.{applyAll};
+ghost use Rattle.agreement.specs.Canonical.{deliveries};
 ghost use Rattle.simulation.specs.States.{worldOf, listFor};
 use drive_sets::Drive;
-use exchange::Exchange;
+use drive_states::Exchange;
 use tables::writing::Writing;
 
 // Room for the longest message: 12 bytes and 64 numbers.

@@ -2,16 +2,16 @@
 ghost use mathlib.Core.Path.{_≡_};
 ghost use mathlib.Core.Bool.{true};
 ghost use Prim.Native.Nat.{ℕ, _≤_};
-ghost use Rattle.exchange.specs.State.{isDrive};
-ghost use Rattle.runs.specs.Simulated.{undecided};
-ghost use Rattle.runs.specs.Canonical.{endingOn};
+ghost use Rattle.drive_states.specs.State.{isDrive};
+ghost use Rattle.agreement.specs.Simulated.{undecided};
+ghost use Rattle.agreement.specs.Canonical.{endingOn};
 ghost use Rattle.simulation.specs.States.{stateAt};
 ghost use Rattle.simulation.specs.Endings.{endingBy, foundOf, orLater};
 use crate::simulating::Found;
 use drive_sets::Pattern;
 use drive_sets::Round;
-use exchange::Decision;
-use exchange::Exchange;
+use drive_states::Decision;
+use drive_states::Exchange;
 
 // The round in which one drive decided, 0 where it has not, and the pattern number.
 struct First {

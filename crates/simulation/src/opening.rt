@@ -2,12 +2,12 @@
 ghost use mathlib.Core.Path.{_≡_};
 ghost use mathlib.Core.Bool.{true};
 ghost use Prim.Native.Nat.{ℕ, _≤_};
-ghost use Rattle.exchange.specs.State.{isDrive};
-ghost use Rattle.exchange.specs.Calls.{initial};
+ghost use Rattle.drive_states.specs.State.{isDrive};
+ghost use Rattle.agreement.specs.Calls.{initial};
 ghost use Rattle.simulation.specs.States.{numberAt, stateAt};
 use drive_sets::Drive;
 use drive_sets::Pattern;
-use exchange::Exchange;
+use drive_states::Exchange;
 
 // The states of the drives 1 to n at opening, where the table has this chosen core.
 pub fn open_all(n: u8, core: u64, numbers: [Pattern; 64]) -> [Exchange; 64]

@@ -3,17 +3,19 @@ ghost use mathlib.Core.Path.{_≡_};
 ghost use mathlib.Core.Bool.{not, _&&_};
 ghost use Prim.Native.Nat.{_^_, _≤_, _<_};
 ghost use Rattle.drive_sets.specs.Masks.{has};
-ghost use Rattle.exchange.specs.Calls.{sending};
-ghost use Rattle.runs.specs.World.{opened, active, applyAll};
-ghost use Rattle.runs.specs.Scenario.{Scenario, goneBefore, cut};
-ghost use Rattle.runs.specs.Canonical.{deliveries, roundCalls};
+ghost use Rattle.agreement.specs.Calls.{sending};
+ghost use Rattle.runs.specs.World.{opened, active};
+ghost use Rattle.agreement.specs.Document01.{applyAll};
+ghost use Rattle.runs.specs.Scenario.{Scenario, goneBefore};
+ghost use Rattle.agreement.specs.Sends.{cut};
+ghost use Rattle.agreement.specs.Canonical.{deliveries, roundCalls};
 ghost use Rattle.simulation.specs.States.{crashAt, worldOf, listFor, messagesOf, Says};
 use crate::closing;
 use crate::crashes;
 use crate::delivering;
 use drive_sets::Drive;
 use drive_sets::Round;
-use exchange::Exchange;
+use drive_states::Exchange;
 use run_files::crashes::Crashes;
 
 // A core drive neither halted nor gone when the round begins, where x is its state then.

@@ -2,9 +2,9 @@
 ghost use mathlib.Core.Path.{_≡_};
 ghost use mathlib.Core.Bool.{true};
 ghost use Prim.Native.Nat.{ℕ, _^_, _≤_, _<_};
-ghost use Rattle.exchange.specs.State.{isDrive};
+ghost use Rattle.drive_states.specs.State.{isDrive};
 ghost use Rattle.runs.specs.Scenario.{Scenario};
-ghost use Rattle.runs.specs.Canonical.{canonicalEnding};
+ghost use Rattle.agreement.specs.Canonical.{canonicalEnding};
 ghost use Rattle.simulation.specs.States.{Told};
 ghost use Rattle.simulation.specs.Endings.{foundOf};
 use crate::noting;

@@ -9,11 +9,14 @@ use Rattle.drive_sets.specs.Bools.{unless, and-intro, and-left, and-right, or-l
 use Rattle.drive_sets.specs.Lists.{elem, distinct}
 use Rattle.drive_sets.specs.Lists.Laws.{elem-head, elem-tail, elem-keep, all-intro, ordered-keep}
 use Rattle.drive_sets.specs.Lists.Distinct.{distinct-head, distinct-tail}
-use Rattle.runs.specs.World.{closes, World, apply}
-use Rattle.runs.specs.Scenario.{Scenario, frame, sendsNone, reach}
+use Rattle.runs.specs.World.{closes, World}
+use Rattle.agreement.specs.Document01.{apply, arrived, due, noted, roundPart}
+use Rattle.runs.specs.Scenario.{Scenario, frame, sendsNone}
+use Rattle.agreement.specs.Sends.{reach}
 use Rattle.runs.specs.Scenario.Laws.{frame-rising, kept-distinct}
-use Rattle.runs.specs.Runs.{pending, wrote, Book, emptyBook, isCalled, settled, sender, closer, arrived, due, noted, complete, roundPart}
-use Rattle.runs.specs.Canonical.{messageCalls, roundCalls}
+use Rattle.runs.specs.Runs.{pending, wrote, Book, emptyBook, isCalled, settled, sender, closer, complete}
+use Rattle.runs.specs.Runs as anyRuns
+use Rattle.agreement.specs.Canonical.{messageCalls, roundCalls}
 use Rattle.agreement.specs.CanonicalRun.{except, senders, closers, Writes, book, deliveredExcept}
 use Rattle.agreement.specs.CanonicalRun.Except.{except-start, except-end, except-head, except-next}
 use Rattle.agreement.specs.CanonicalRun.Sends.{part-due, sends-sender, sends-part}
@@ -44,7 +47,7 @@ module _ (s : Scenario) (r : ℕ) (w₀ : World) (k : Writes s r w₀) where
     is-called d i h = ap isCalled (called d i h)
 
     has-arrived : (e d : ℕ) → elem d (frame s) ≡ true → arrived s r w₀ (bookWith closed) e d ≡ true
-    unfolding arrived settled
+    unfolding anyRuns.arrived settled
     has-arrived e d i =
         unless (sender s r w₀ d && elem e (reach s r d)) (λ h.
         let sends = and-left (sender s r w₀ d) _ h in
@@ -56,7 +59,7 @@ module _ (s : Scenario) (r : ℕ) (w₀ : World) (k : Writes s r w₀) where
     now = bookWith (except all-closers (a ∷ rest))
 
     close-due : (w : World) → due s r w₀ now w (closes a) ≡ true
-    unfolding due
+    unfolding anyRuns.due
     close-due w =
         and-intro (and-intro (and-intro
         (closer-closes a here)
@@ -65,7 +68,7 @@ module _ (s : Scenario) (r : ℕ) (w₀ : World) (k : Writes s r w₀) where
         (all-intro (arrived s r w₀ now a) (frame s) (has-arrived (except all-closers (a ∷ rest)) a))
 
     close-noted : (w : World) → noted s r w₀ now w (closes a) ≡ bookWith (except all-closers rest)
-    unfolding noted
+    unfolding anyRuns.noted
     close-noted w = ap bookWith (fun-ext (except-next all-closers a rest here once))
 
   all-complete : complete s r w₀ (bookWith (except all-closers [])) ≡ true
@@ -77,7 +80,7 @@ module _ (s : Scenario) (r : ℕ) (w₀ : World) (k : Writes s r w₀) where
 
   closes-part : (rest : List ℕ) → ((x : ℕ) → elem x rest ≡ true → elem x all-closers ≡ true) → distinct rest ≡ true
       → (w : World) → roundPart s r w₀ (bookWith (except all-closers rest)) w (map closes rest) ≡ true
-  unfolding roundPart
+  unfolding anyRuns.roundPart
   closes-part [] i o w = all-complete
   closes-part (a ∷ rest) i o w =
       let here = i a (elem-head a rest) in

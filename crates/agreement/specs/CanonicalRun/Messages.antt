@@ -15,12 +15,16 @@ use Rattle.drive_sets.specs.Lists.Laws.{elem-head, elem-tail, elem-cases, all-e
 use Rattle.drive_sets.specs.Lists.Takes.{first-kept-is}
 use Rattle.drive_sets.specs.Lists.Distinct.{distinct-head, distinct-tail}
 use Rattle.drive_sets.specs.Refusals.{result}
-use Rattle.runs.specs.World.{Call, delivers, World, apply}
-use Rattle.runs.specs.Scenario.{Scenario, frame, reach}
-use Rattle.runs.specs.Scenario.Laws.{frame-rising, reach-distinct}
-use Rattle.runs.specs.Runs.{pending, wrote, Book, wroteJust, sendingOf, owes, due, noted, roundPart}
+use Rattle.runs.specs.World.{Call, delivers, World}
+use Rattle.agreement.specs.Document01.{apply, sendingOf, owes, due, noted, roundPart}
+use Rattle.runs.specs.Scenario.{Scenario, frame}
+use Rattle.agreement.specs.Sends.{reach}
+use Rattle.runs.specs.Scenario.Laws.{frame-rising}
+use Rattle.agreement.specs.Sends.Laws.{reach-distinct}
+use Rattle.runs.specs.Runs.{pending, wrote, Book, wroteJust}
+use Rattle.runs.specs.Runs as anyRuns
 use Rattle.runs.specs.Runs.Books.{sameList-refl}
-use Rattle.runs.specs.Canonical.{room, deliveries, messageCalls}
+use Rattle.agreement.specs.Canonical.{room, deliveries, messageCalls}
 use Rattle.agreement.specs.CanonicalRun.{except, senders, Writes, book, deliveredExcept}
 use Rattle.agreement.specs.CanonicalRun.Except.{except-start, except-end, except-head, except-next}
 use Rattle.agreement.specs.CanonicalRun.Sends.{part-due, sender-frame, sender-sends}
@@ -52,7 +56,7 @@ module _ (s : Scenario) (r : ℕ) (w₀ : World) (k : Writes s r w₀) (closed :
           (ap (λ (t : Bool). eqb a a && t) (except-head (reach s r a) e rest) ∙ and-false (eqb a a))
 
       owes-it : owes s r w₀ now e (k .written a) a ≡ true
-      unfolding owes wroteJust
+      unfolding anyRuns.owes wroteJust
       owes-it =
           and-intro (and-intro
           (ap (λ (t : Bool). wroteJust (cond t (wrote (k .written a)) pending) (k .written a)) here ∙ sameList-refl (k .written a))
@@ -67,7 +71,7 @@ module _ (s : Scenario) (r : ℕ) (w₀ : World) (k : Writes s r w₀) (closed :
           (elem-cases x a l h))))) g)
 
       earlier-owes-not : (x : ℕ) → x < a → owes s r w₀ now e (k .written a) x ≡ false
-      unfolding owes wroteJust
+      unfolding anyRuns.owes wroteJust
       earlier-owes-not x lt =
           by-test (elem x all-senders)
           (λ i. false-of _ (λ h. clash (earlier-delivered x lt i (search (and-left, and-right))) (search (and-right, not-true))))
@@ -79,7 +83,7 @@ module _ (s : Scenario) (r : ℕ) (w₀ : World) (k : Writes s r w₀) (closed :
           (λ x i lt. earlier-owes-not x lt)
 
       message-due : (w : World) → due s r w₀ now w (delivers e (k .written a)) ≡ true
-      unfolding due
+      unfolding anyRuns.due
       message-due w = any-intro (owes s r w₀ now e (k .written a)) (frame s) a (sender-frame s r w₀ a here) owes-it
 
       delivered-now : (x y : ℕ) → ((eqb x a && eqb y e) || delivered (e ∷ rest) x y) ≡ delivered rest x y
@@ -90,7 +94,7 @@ module _ (s : Scenario) (r : ℕ) (w₀ : World) (k : Writes s r w₀) (closed :
           ∙ ap (λ (t : Bool). eqb x a && t) (except-next (reach s r a) e rest to once y))
 
       message-noted : (w : World) → noted s r w₀ now w (delivers e (k .written a)) ≡ bookWith (delivered rest)
-      unfolding noted
+      unfolding anyRuns.noted
       message-noted w =
           ap (λ (d : ℕ). bookWith (λ x y. (eqb x d && eqb y e) || delivered (e ∷ rest) x y)) whose
           ∙ ap bookWith (fun-ext (λ x. fun-ext (λ y. delivered-now x y)))

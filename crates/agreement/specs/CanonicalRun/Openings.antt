@@ -9,13 +9,15 @@ use Rattle.drive_sets.specs.Bools.{and-intro, or-left}
 use Rattle.drive_sets.specs.Lists.{elem, distinct}
 use Rattle.drive_sets.specs.Lists.Laws.{elem-head, elem-tail, all-intro}
 use Rattle.drive_sets.specs.Lists.Distinct.{distinct-head, distinct-tail}
-use Rattle.exchange.specs.State.Laws.{isDrive-range}
-use Rattle.runs.specs.World.{Call, opens, driveOf, World, nothingOpen, apply, refusedIn}
+use Rattle.drive_states.specs.State.Laws.{isDrive-range}
+use Rattle.runs.specs.World.{Call, opens, driveOf, World, nothingOpen}
+use Rattle.agreement.specs.Document01.{apply, refusedIn, openingPart}
 use Rattle.runs.specs.Scenario.{Scenario, frame}
 use Rattle.runs.specs.Scenario.Laws.{frame-distinct}
-use Rattle.runs.specs.Runs.{dueOpening, openingPart}
+use Rattle.runs.specs.Runs.{dueOpening}
+use Rattle.runs.specs.Runs as anyRuns
 use Rattle.runs.specs.Runs.Books.{sameList-refl}
-use Rattle.runs.specs.Canonical.{openingCalls}
+use Rattle.agreement.specs.Canonical.{openingCalls}
 use Rattle.agreement.specs.CanonicalRun.{except}
 use Rattle.agreement.specs.CanonicalRun.Except.{except-start, except-end, except-head, except-next}
 
@@ -36,7 +38,7 @@ module _ (s : Scenario) where
 
   openings-part : (rest : List ℕ) (w : World) → ((x : ℕ) → elem x rest ≡ true → elem x (frame s) ≡ true) → distinct rest ≡ true
       → openingPart s (except (frame s) rest) w (map openingOf rest) ≡ true
-  unfolding openingPart driveOf
+  unfolding anyRuns.openingPart driveOf
   openings-part [] w i o = all-intro (except (frame s) []) (frame s) (λ x h. except-end (frame s) x ∙ h)
   openings-part (a ∷ rest) w i o =
       let now = opening-due a rest (i a (elem-head a rest)) in

@@ -8,10 +8,12 @@ use native.Mathlib.Omega.{arith}
 use lib.ListN.{length}
 use Rattle.drive_sets.specs.Bools.{and-intro}
 use Rattle.drive_sets.specs.Masks.{size}
-use Rattle.runs.specs.World.{Call, World, nothingOpen, applyAll}
+use Rattle.runs.specs.World.{Call, World, nothingOpen}
+use Rattle.agreement.specs.Document01.{applyAll, roundPart, roundParts, openingPart, Run}
 use Rattle.runs.specs.Scenario.{Scenario, coreOf}
-use Rattle.runs.specs.Runs.{emptyBook, roundPart, roundParts, openingPart, Run}
-use Rattle.runs.specs.Canonical.{openingCalls, roundCalls, roundsFrom, canonicalRounds, canonical}
+use Rattle.runs.specs.Runs.{emptyBook}
+use Rattle.runs.specs.Runs as anyRuns
+use Rattle.agreement.specs.Canonical.{openingCalls, roundCalls, roundsFrom, canonicalRounds, canonical}
 use Rattle.agreement.specs.CanonicalRun.{Writes}
 use Rattle.agreement.specs.CanonicalRun.Openings.{openings-canonical}
 use Rattle.agreement.specs.CanonicalRun.Closes.{round-canonical}
@@ -24,7 +26,7 @@ pub record Kept (s : Scenario) (P : ℕ → World → Type 0) : Type 0 where
 
 module _ (s : Scenario) (P : ℕ → World → Type 0) (kept : Kept s P) where
   rounds-canonical : (m k : ℕ) (w : World) → k + m ≡ size (coreOf s) → P k w → roundParts s (suc k) w (roundsFrom s m (suc k) w) ≡ true
-  unfolding roundParts roundsFrom
+  unfolding anyRuns.roundParts roundsFrom
   rounds-canonical zero k w e p = refl
   rounds-canonical (suc m) k w e p =
       let part = round-canonical s (suc k) w (kept .writes k w (omega arith) p) in

@@ -10,10 +10,13 @@ use Rattle.drive_sets.specs.Lists.{elem, distinct}
 use Rattle.drive_sets.specs.Lists.Laws.{elem-head, elem-tail, elem-keep}
 use Rattle.drive_sets.specs.Lists.Distinct.{distinct-head, distinct-tail}
 use Rattle.drive_sets.specs.Refusals.{result}
-use Rattle.runs.specs.World.{Call, sends, World, apply, refusedIn}
+use Rattle.runs.specs.World.{Call, sends, World}
+use Rattle.agreement.specs.Document01.{apply, refusedIn, sendingOf, due, noted, roundPart}
+use Rattle.runs.specs.World as worlds
 use Rattle.runs.specs.Scenario.{Scenario, frame}
-use Rattle.runs.specs.Runs.{pending, wrote, Book, isCalled, sendingOf, sentBy, lacksRoom, sender, due, noted, roundPart}
-use Rattle.runs.specs.Canonical.{room}
+use Rattle.runs.specs.Runs.{pending, wrote, Book, isCalled, sentBy, lacksRoom, sender}
+use Rattle.runs.specs.Runs as anyRuns
+use Rattle.agreement.specs.Canonical.{room}
 use Rattle.agreement.specs.CanonicalRun.{except, senders, Writes, book}
 use Rattle.agreement.specs.CanonicalRun.Except.{except-end, except-head, except-next}
 
@@ -21,7 +24,7 @@ module _ (s : Scenario) (r : ℕ) (w₀ : World) where
   -- a due call is noted
   pub part-due : (b : Book) (w : World) (c : Call) (cs : List Call) → due s r w₀ b w c ≡ true
       → roundPart s r w₀ b w (c ∷ cs) ≡ roundPart s r w₀ (noted s r w₀ b w c) (apply w c) cs
-  unfolding roundPart
+  unfolding anyRuns.roundPart
   part-due b w c cs h =
       ap (λ (t : Bool). (t || refusedIn w c) && roundPart s r w₀ (cond t (noted s r w₀ b w c) b) (apply w c) cs) h
 
@@ -47,7 +50,7 @@ module _ (s : Scenario) (r : ℕ) (w₀ : World) where
       writes-a = k .writes a (sender-sends a here)
 
       send-due : due s r w₀ now w₀ (sends a room 0) ≡ true
-      unfolding due isCalled lacksRoom
+      unfolding anyRuns.due isCalled lacksRoom
       send-due =
           and-intro (and-intro (sender-sends a here)
           (ap (λ (t : Bool). not (isCalled (cond t (wrote (k .written a)) pending))) (except-head (senders s r w₀) a rest)))
@@ -66,13 +69,13 @@ module _ (s : Scenario) (r : ℕ) (w₀ : World) where
           step x = except-next (senders s r w₀) a rest here once x
 
       send-noted : noted s r w₀ now w₀ (sends a room 0) ≡ bookWith (except (senders s r w₀) rest)
-      unfolding noted
+      unfolding anyRuns.noted
       send-noted = λ j. record { sent = fun-ext sent-now j; delivered = delivered; closed = closed }
 
     pub sends-part : (rest : List ℕ) (cs : List Call) → ((x : ℕ) → elem x rest ≡ true → elem x (senders s r w₀) ≡ true) → distinct rest ≡ true
         → roundPart s r w₀ (bookWith (λ x. elem x (senders s r w₀))) w₀ cs ≡ true
         → roundPart s r w₀ (bookWith (except (senders s r w₀) rest)) w₀ (map (λ d. sends d room 0) rest ++ cs) ≡ true
-    unfolding apply
+    unfolding worlds.apply
     sends-part [] cs i o h = ap (λ (p : ℕ → Bool). roundPart s r w₀ (bookWith p) w₀ cs) (fun-ext (except-end (senders s r w₀))) ∙ h
     sends-part (a ∷ rest) cs i o h =
         let here = i a (elem-head a rest) in

@@ -6,15 +6,15 @@ use native.Mathlib.Nat.{lt-of-lt-of-le}
 use lib.Pow.{pow-mono}
 use Rattle.drive_sets.specs.Masks.{has, size}
 use Rattle.drive_sets.specs.Masks.Tests.{setOf, setOf-drives}
-use Rattle.exchange.specs.State.Laws.{isDrive-range}
+use Rattle.drive_states.specs.State.Laws.{isDrive-range}
 use Rattle.sync_crash.specs.Rounds.{InFrame}
 use Rattle.sync_crash.specs.Rounds.Steps.{reaches-true}
 use Rattle.runs.specs.World.{World}
 use Rattle.runs.specs.Runs.{Book}
 use Rattle.runs.specs.Scenario.{Scenario, coreOf}
-use Rattle.runs.specs.Instance.{instanceOf}
+use Rattle.agreement.specs.Instance.{instanceOf}
 use Rattle.runs.specs.Statement.{Valid}
-use Rattle.agreement.specs.Instance.{lawful, valid-accepted, valid-core, some-core-drive}
+use Rattle.agreement.specs.Instance.Laws.{lawful, valid-accepted, valid-core, some-core-drive}
 use Rattle.agreement.specs.States.{Bounded, InRound}
 use Rattle.agreement.specs.Refinement.{Follows}
 

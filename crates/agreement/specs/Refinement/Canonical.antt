@@ -9,11 +9,13 @@ use Rattle.drive_sets.specs.Refusals.{result}
 use Rattle.sync_crash.specs.Rounds.Steps.{sender-active}
 use Rattle.runs.specs.World.{World}
 use Rattle.runs.specs.Scenario.{Scenario, coreOf}
-use Rattle.runs.specs.Runs.{sendingOf, sender, Run}
-use Rattle.runs.specs.Instance.{instanceOf}
-use Rattle.runs.specs.Canonical.{room, canonical}
+use Rattle.agreement.specs.Document01.{sendingOf, Run}
+use Rattle.runs.specs.Runs.{sender}
+use Rattle.runs.specs.Runs as anyRuns
+use Rattle.agreement.specs.Instance.{instanceOf}
+use Rattle.agreement.specs.Canonical.{room, canonical}
 use Rattle.runs.specs.Statement.{Valid}
-use Rattle.agreement.specs.Instance.{lawful}
+use Rattle.agreement.specs.Instance.Laws.{lawful}
 use Rattle.agreement.specs.States.{InRound, messageOf}
 use Rattle.agreement.specs.States.Sending.{length-message, sending-state}
 use Rattle.agreement.specs.Refinement.{Begins}
@@ -27,7 +29,7 @@ use Rattle.agreement.specs.CanonicalRun.Runs.{Kept}
 module _ {s : Scenario} (ok : Valid s) where
   writes-message : {k : ℕ} {w : World} → k < size (coreOf s) → Begins s k w → (d : ℕ) → sender s (suc k) w d ≡ true
       → sendingOf (w d) room 0 ≡ result (messageOf (instanceOf s) k d)
-  unfolding sendingOf
+  unfolding anyRuns.sendingOf
   writes-message {k} {w} round begins d t =
       let by = true-sender ok round begins d t in
       let at-start : InRound (instanceOf s) k d (λ y. false) =

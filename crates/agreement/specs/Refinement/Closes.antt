@@ -10,16 +10,19 @@ use Rattle.drive_sets.specs.Bools.{clash, by-test, and-intro, and-left, and-rig
 use Rattle.drive_sets.specs.Lists.{elem}
 use Rattle.drive_sets.specs.Lists.Laws.{all-elem}
 use Rattle.drive_sets.specs.Masks.{has, size}
-use Rattle.exchange.specs.Calls.{next, closing}
+use Rattle.agreement.specs.Calls.{next, closing}
 use Rattle.sync_crash.specs.Rounds.{halted}
 use Rattle.sync_crash.specs.Rounds.Steps.{Closer, reaches-true, closer-active, active-sends}
 use Rattle.runs.specs.World.{Slot, closes, opened, World, put, afterCall, onState}
 use Rattle.runs.specs.World.Laws.{put-same, put-other}
-use Rattle.runs.specs.Scenario.{Scenario, coreOf, frame, reach}
-use Rattle.runs.specs.Runs.{Book, isCalled, settled, sender, closer, arrived, due}
-use Rattle.runs.specs.Instance.{instanceOf}
+use Rattle.runs.specs.Scenario.{Scenario, coreOf, frame}
+use Rattle.agreement.specs.Sends.{reach}
+use Rattle.runs.specs.Runs.{Book, isCalled, settled, sender, closer}
+use Rattle.agreement.specs.Document01.{arrived, due}
+use Rattle.runs.specs.Runs as anyRuns
+use Rattle.agreement.specs.Instance.{instanceOf}
 use Rattle.runs.specs.Statement.{Valid}
-use Rattle.agreement.specs.Instance.{lawful}
+use Rattle.agreement.specs.Instance.Laws.{lawful}
 use Rattle.agreement.specs.States.{stateOf}
 use Rattle.agreement.specs.States.Closing.{closing-state}
 use Rattle.agreement.specs.Refinement.{reachesIn, Begins, HasClosed, Follows}
@@ -35,7 +38,7 @@ module _ {s : Scenario} (ok : Valid s) {k : ℕ} (round : k < size (coreOf s)) {
   has-sent = not (sender s (suc k) w₀ e) || isCalled (b .sent e)
 
   first-three : (may-close && has-sent) ≡ true
-  unfolding due
+  unfolding anyRuns.due
   first-three = and-left (may-close && has-sent) _ t
 
   pub close-closer : Closer (instanceOf s) k e
@@ -61,7 +64,7 @@ module _ {s : Scenario} (ok : Valid s) {k : ℕ} (round : k < size (coreOf s)) {
       (g .sent d)
 
   all-came : (d : ℕ) → reachesIn s k d e ≡ true → b .delivered d e ≡ true
-  unfolding due arrived frame
+  unfolding anyRuns.due anyRuns.arrived frame
   all-came d h =
       let r = reaches-true (lawful ok) k d e h in
       ⊎-elim

@@ -6,19 +6,22 @@ use mathlib.Core.List.{List, [], _∷_, _++_}
 use Prim.Native.Nat.{ℕ, suc, _<_}
 use Rattle.drive_sets.specs.Bools.{clash, by-test, and-left, and-right, or-second, cond-true, cond-false}
 use Rattle.drive_sets.specs.Masks.{size}
-use Rattle.exchange.specs.declared.Decision.the-variants.{Undecided, Decided}
-use Rattle.exchange.specs.Calls.{decisionOn}
-use Rattle.exchange.specs.Calls.Results.{undecided-none, decided-some, undecided-decided}
+use Rattle.drive_states.specs.declared.Decision.the-variants.{Undecided, Decided}
+use Rattle.agreement.specs.Calls.{decisionOn}
+use Rattle.agreement.specs.Calls.Results.{undecided-none, decided-some, undecided-decided}
 use Rattle.sync_crash.specs.Rounds.{DecidesIn, decision}
 use Rattle.sync_crash.specs.Rounds.Steps.{Closer, closer-active}
-use Rattle.runs.specs.World.{Call, closes, World, apply, applyAll, decisionOf, roundIn}
+use Rattle.runs.specs.World.{Call, closes, World, decisionOf, roundIn}
+use Rattle.agreement.specs.Document01.{document01, apply, applyAll, due, roundPart}
+use Rattle.runs.specs.World as worlds
 use Rattle.runs.specs.World.Laws.{put-same, refused-keeps}
 use Rattle.runs.specs.Scenario.{Scenario, coreOf}
-use Rattle.runs.specs.Runs.{Book, emptyBook, due, roundPart}
+use Rattle.runs.specs.Runs.{Book, emptyBook}
+use Rattle.runs.specs.Runs as anyRuns
 use Rattle.runs.specs.Runs.Books.{closed-by}
-use Rattle.runs.specs.Instance.{instanceOf}
+use Rattle.agreement.specs.Instance.{instanceOf}
 use Rattle.runs.specs.Statement.{Valid}
-use Rattle.agreement.specs.Instance.{lawful}
+use Rattle.agreement.specs.Instance.Laws.{lawful}
 use Rattle.agreement.specs.States.{stateOf}
 use Rattle.agreement.specs.States.Closing.{next-decision}
 use Rattle.agreement.specs.Refinement.{Begins, Follows, bookAfter, allowed}
@@ -42,12 +45,12 @@ module _ {s : Scenario} (ok : Valid s) {k : ℕ} (round : k < size (coreOf s)) {
   call-closes : (b : Book) (w : World) (c : Call) (d : ℕ) → b .closed d ≡ false → bookAfter s k w₀ b w c .closed d ≡ true → c ≡ closes d
   call-closes b w c d o h =
       by-test (due s (suc k) w₀ b w c)
-      (λ t. closed-by s (suc k) w₀ b w c d o (sym (ap (λ (book : Book). book .closed d) (cond-true _ _ t)) ∙ h))
+      (λ t. closed-by document01 s (suc k) w₀ b w c d o (sym (ap (λ (book : Book). book .closed d) (cond-true _ _ t)) ∙ h))
       (λ t. absurd (clash (sym (ap (λ (book : Book). book .closed d) (cond-false _ _ t)) ∙ h) o))
 
   close-found : (b : Book) (w : World) (calls : List Call) (d : ℕ) → Closer (instanceOf s) k d → b .closed d ≡ false → Follows s k w₀ b w
       → roundPart s (suc k) w₀ b w calls ≡ true → ClosesIn s k w calls d
-  unfolding roundPart applyAll decisionOf roundIn stateOf
+  unfolding anyRuns.roundPart worlds.applyAll decisionOf roundIn stateOf
   close-found b w [] d c o g t = absurd (clash (closer-closed ok round begins b t c) o)
   close-found b w (x ∷ calls) d c o g t =
       let b′ = bookAfter s k w₀ b w x in
@@ -80,7 +83,7 @@ module _ {s : Scenario} (ok : Valid s) {k : ℕ} (round : k < size (coreOf s)) {
 
   call-at : (b : Book) (w : World) (earlier : List Call) (c : Call) (later : List Call) → Follows s k w₀ b w
       → roundPart s (suc k) w₀ b w (earlier ++ (c ∷ later)) ≡ true → Before (applyAll w earlier) c
-  unfolding roundPart applyAll
+  unfolding anyRuns.roundPart worlds.applyAll
   call-at b w [] c later g t = record { book = b; follows = g; may-stand = and-left (allowed s k w₀ b w c) _ t }
   call-at b w (x ∷ earlier) c later g t =
       call-at (bookAfter s k w₀ b w x) (apply w x) earlier c later
@@ -88,7 +91,7 @@ module _ {s : Scenario} (ok : Valid s) {k : ℕ} (round : k < size (coreOf s)) {
 
   close-decides : {w : World} {d v : ℕ} → Before w (closes d) → decisionOf (w d) ≡ Undecided → decisionOf (apply w (closes d) d) ≡ Decided (record { 0 = v })
       → DecidesIn (instanceOf s) d v k
-  unfolding apply decisionOf stateOf
+  unfolding worlds.apply decisionOf stateOf
   close-decides {w} {d} z o m =
       by-test (due s (suc k) w₀ (z .book) w (closes d))
       (λ t. let c = close-closer ok round begins (z .follows) d t in
@@ -97,7 +100,7 @@ module _ {s : Scenario} (ok : Valid s) {k : ℕ} (round : k < size (coreOf s)) {
         decided = decided-some (sym (ap decisionOf (put-same w d _ ∙ closed-state ok round begins (z .follows) d t)
             ∙ next-decision (lawful ok) (bounded ok) (core-round ok round) c) ∙ m);
       })
-      (λ t. absurd (undecided-decided (sym o ∙ (sym (ap decisionOf (refused-keeps w (closes d) (or-second _ _ t ∙ z .may-stand) d)) ∙ m))))
+      (λ t. absurd (undecided-decided (sym o ∙ (sym (ap decisionOf (refused-keeps document01 w (closes d) (or-second _ _ t ∙ z .may-stand) d)) ∙ m))))
 
   pub deciding-close : (calls earlier later : List Call) (d v : ℕ) → roundPart s (suc k) w₀ emptyBook w₀ calls ≡ true → calls ≡ earlier ++ (closes d ∷ later)
       → decisionOf (applyAll w₀ earlier d) ≡ Undecided → decisionOf (apply (applyAll w₀ earlier) (closes d) d) ≡ Decided (record { 0 = v })

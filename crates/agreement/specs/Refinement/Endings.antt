@@ -12,17 +12,19 @@ use borrow.Author.Tests.{ltb-true, ltb-false}
 use Rattle.drive_sets.specs.Bools.{by-test, and-left, and-right}
 use Rattle.drive_sets.specs.Options.{by-option, none-some, same-some}
 use Rattle.drive_sets.specs.Masks.{size}
-use Rattle.exchange.specs.Calls.{decisionOn}
+use Rattle.agreement.specs.Calls.{decisionOn}
 use Rattle.sync_crash.specs.Rounds.{Instance, Lawful, DecidesIn, start, after, decision}
 use Rattle.sync_crash.specs.Rounds.Decisions.{decision-later}
-use Rattle.runs.specs.World.{Call, World, nothingOpen, applyAll}
+use Rattle.runs.specs.World.{Call, World, nothingOpen}
+use Rattle.agreement.specs.Document01.{applyAll, roundPart, roundParts}
 use Rattle.runs.specs.Scenario.{Scenario, coreOf}
-use Rattle.runs.specs.Runs.{emptyBook, roundPart, roundParts}
-use Rattle.runs.specs.Instance.{instanceOf}
+use Rattle.runs.specs.Runs.{emptyBook}
+use Rattle.runs.specs.Runs as anyRuns
+use Rattle.agreement.specs.Instance.{instanceOf}
 use Rattle.runs.specs.Statement.{Valid, Up}
-use Rattle.runs.specs.Simulated.{Ending, decides, undecided, stopped, endingAfter, endingFrom, endingOf}
-use Rattle.runs.specs.Canonical.{openingCalls, canonicalRounds, endingOn, firstDecision, canonicalEnding, CanonicalGives}
-use Rattle.agreement.specs.Instance.{lawful, correct-staysUp, up-inFrame, up-correct}
+use Rattle.agreement.specs.Simulated.{Ending, decides, undecided, stopped, endingAfter, endingFrom, endingOf}
+use Rattle.agreement.specs.Canonical.{openingCalls, canonicalRounds, endingOn, firstDecision, canonicalEnding, CanonicalGives}
+use Rattle.agreement.specs.Instance.Laws.{lawful, correct-staysUp, up-inFrame, up-correct}
 use Rattle.agreement.specs.CanonicalRun.Openings.{openings-canonical}
 use Rattle.agreement.specs.CanonicalRun.Runs.{canonical-many, canonical-parts}
 use Rattle.agreement.specs.Refinement.{Begins}
@@ -135,7 +137,7 @@ module _ {s : Scenario} (ok : Valid s) {d : ℕ} (u : Up s d) where
     keep : roundParts s (suc k) w ps ≡ true
 
   tail : {k : ℕ} {w : World} (p : List Call) (ps : List (List Call)) → Parts k w (p ∷ ps) → Parts (suc k) (applyAll w p) ps
-  unfolding roundParts
+  unfolding anyRuns.roundParts
   tail {k} {w} p ps g = record {
     begins = part-begins ok (omega (arith, g .few)) (g .begins) p (and-left (roundPart s (suc k) w emptyBook w p) _ (g .keep));
     few = omega (arith, g .few);

@@ -10,19 +10,23 @@ use borrow.Author.Tests.{eqb-true, eq-eqb, not-true}
 use Rattle.drive_sets.specs.Bools.{clash, by-test, and-left, and-right, or-right, or-cases}
 use Rattle.drive_sets.specs.Lists.{elem}
 use Rattle.drive_sets.specs.Masks.{size}
-use Rattle.exchange.specs.Calls.{receiving}
+use Rattle.agreement.specs.Calls.{receiving}
 use Rattle.sync_crash.specs.Rounds.{InFrame}
 use Rattle.sync_crash.specs.Rounds.Steps.{Active, true-reaches}
 use Rattle.sync_crash.specs.Rounds.HeardSets.{sender-was-heard}
 use Rattle.runs.specs.World.{Slot, opened, World, put, afterCall, onState, active}
-use Rattle.runs.specs.World.Laws.{put-same, put-other, idle-message}
-use Rattle.runs.specs.Scenario.{Scenario, coreOf, frame, reach}
-use Rattle.runs.specs.Scenario.Laws.{reach-frame, reach-other}
-use Rattle.runs.specs.Runs.{Book, wroteJust, owes}
+use Rattle.runs.specs.World.Laws.{put-same, put-other}
+use Rattle.agreement.specs.Calls.Idle.{idle-message}
+use Rattle.runs.specs.Scenario.{Scenario, coreOf, frame}
+use Rattle.agreement.specs.Sends.{reach}
+use Rattle.agreement.specs.Sends.Laws.{reach-frame, reach-other}
+use Rattle.runs.specs.Runs.{Book, wroteJust}
+use Rattle.agreement.specs.Document01.{owes}
+use Rattle.runs.specs.Runs as anyRuns
 use Rattle.runs.specs.Runs.Books.{sameList-true}
-use Rattle.runs.specs.Instance.{instanceOf}
+use Rattle.agreement.specs.Instance.{instanceOf}
 use Rattle.runs.specs.Statement.{Valid}
-use Rattle.agreement.specs.Instance.{lawful}
+use Rattle.agreement.specs.Instance.Laws.{lawful}
 use Rattle.agreement.specs.States.{stateOf, messageOf}
 use Rattle.agreement.specs.States.Receiving.{receiving-state}
 use Rattle.agreement.specs.Refinement.{reachesIn, Begins, HasSent, Follows}
@@ -42,16 +46,16 @@ module _ {s : Scenario} (ok : Valid s) {k : ℕ} (round : k < size (coreOf s)) {
   -- d owes e these bytes
   module _ (e : ℕ) (bytes : List ℕ) (d : ℕ) (t : owes s (suc k) w₀ b e bytes d ≡ true) where
     pub message-sent : HasSent s k (b .sent) d × (messageOf (instanceOf s) k d ≡ bytes)
-    unfolding owes
+    unfolding anyRuns.owes
     message-sent =
         wrote-message d bytes (and-left (wroteJust (b .sent d) bytes) _ (and-left (wroteJust (b .sent d) bytes && elem e (reach s (suc k) d)) _ t))
 
     on-list : elem e (reach s (suc k) d) ≡ true
-    unfolding owes
+    unfolding anyRuns.owes
     on-list = and-right (wroteJust (b .sent d) bytes) _ (and-left (wroteJust (b .sent d) bytes && elem e (reach s (suc k) d)) _ t)
 
     not-delivered : b .delivered d e ≡ false
-    unfolding owes
+    unfolding anyRuns.owes
     not-delivered = not-true _ (and-right (wroteJust (b .sent d) bytes && elem e (reach s (suc k) d)) _ t)
 
     d-reaches : reachesIn s k d e ≡ true

@@ -14,20 +14,23 @@ use Rattle.drive_sets.specs.Masks.{has, single}
 use Rattle.drive_sets.specs.Masks.Tests.{setOf, setOf-none, setOf-single}
 use Rattle.drive_sets.specs.Refusals.{result}
 use Rattle.hitting_sets.specs.Order.{normal}
-use Rattle.exchange.specs.declared.Decision.the-variants.{Undecided}
-use Rattle.exchange.specs.State.{isDrive, pattern}
-use Rattle.exchange.specs.State.Laws.{isDrive-range}
-use Rattle.exchange.specs.Calls.{initial, opening, decisionOn}
-use Rattle.exchange.specs.Calls.Laws.{opening-accepted}
+use Rattle.drive_states.specs.declared.Decision.the-variants.{Undecided}
+use Rattle.drive_states.specs.State.{isDrive, pattern}
+use Rattle.drive_states.specs.State.Laws.{isDrive-range}
+use Rattle.agreement.specs.Calls.{initial, opening, decisionOn}
+use Rattle.agreement.specs.Calls.Laws.{opening-accepted}
 use Rattle.sync_crash.specs.Rounds.{InFrame, start, after, decision}
-use Rattle.runs.specs.World.{Call, opens, sends, delivers, closes, driveOf, Slot, opened, World, nothingOpen, put, afterCall, apply, applyAll, refusedIn, decisionOf}
+use Rattle.runs.specs.World.{Call, opens, sends, delivers, closes, driveOf, Slot, opened, World, nothingOpen, put, afterCall, decisionOf}
+use Rattle.agreement.specs.Document01.{document01, apply, applyAll, refusedIn, openingPart}
+use Rattle.runs.specs.World as worlds
 use Rattle.runs.specs.World.Laws.{put-same, put-other, refused-keeps}
 use Rattle.runs.specs.Scenario.{Scenario, coreOf, frame}
-use Rattle.runs.specs.Runs.{sameList, dueOpening, openingPart}
+use Rattle.runs.specs.Runs.{sameList, dueOpening}
+use Rattle.runs.specs.Runs as anyRuns
 use Rattle.runs.specs.Runs.Books.{sameList-true}
-use Rattle.runs.specs.Instance.{instanceOf}
+use Rattle.agreement.specs.Instance.{instanceOf}
 use Rattle.runs.specs.Statement.{Valid}
-use Rattle.agreement.specs.Instance.{lawful}
+use Rattle.agreement.specs.Instance.Laws.{lawful}
 use Rattle.agreement.specs.States.{numbersOf, knownFrom, announcedFrom, stateOf}
 use Rattle.agreement.specs.States.Numbers.{store-one, numbers-none}
 use Rattle.agreement.specs.States.Announcements.{none-announced}
@@ -110,7 +113,7 @@ module _ {s : Scenario} (ok : Valid s) where
       ap (afterCall slot) (ap₂ (λ x y. opening x y own number) a b ∙ (ap₂ (opening (s .n) (s .sets)) c e ∙ opening-state d f))
 
   due-opens : (done : ℕ → Bool) (w : World) (c : Call) → AreOpen done w → dueOpening s done c ≡ true → AreOpen (doneAfter done c) (apply w c)
-  unfolding dueOpening apply driveOf
+  unfolding dueOpening worlds.apply driveOf
   due-opens done w (opens d n sets own number) g t y f h =
       by-test (eqb y d)
       (λ p. let is = eqb-true y d p in
@@ -142,11 +145,11 @@ module _ {s : Scenario} (ok : Valid s) where
   call-opens : (done : ℕ → Bool) (w : World) (c : Call) → AreOpen done w → (dueOpening s done c || refusedIn w c) ≡ true → AreOpen (doneAfter done c) (apply w c)
   call-opens done w c g t =
       by-test (dueOpening s done c) (due-opens done w c g)
-      (λ h y f r. refused-keeps w c (or-second _ _ h ∙ t) y ∙ g y f (or-second _ _ (and-fails-left _ h) ∙ r))
+      (λ h y f r. refused-keeps document01 w c (or-second _ _ h ∙ t) y ∙ g y f (or-second _ _ (and-fails-left _ h) ∙ r))
 
   all-open : (done : ℕ → Bool) (w : World) (calls : List Call) → AreOpen done w → openingPart s done w calls ≡ true → (d : ℕ) → InFrame (instanceOf s) d
       → applyAll w calls d ≡ opened (stateOf (instanceOf s) 0 d (λ x. false))
-  unfolding openingPart applyAll frame
+  unfolding anyRuns.openingPart worlds.applyAll frame
   all-open done w [] g t d f = g d f (all-elem done (frame s) d t f)
   all-open done w (c ∷ calls) g t d f =
       let now = dueOpening s done c || refusedIn w c in

@@ -5,17 +5,17 @@ use mathlib.Core.Bool.{true, false, not, _&&_}
 use Prim.Native.Nat.{ℕ, suc, _<_}
 use Rattle.drive_sets.specs.Bools.{clash, false-of, and-intro, and-left, and-right}
 use Rattle.drive_sets.specs.Masks.{has, size}
-use Rattle.exchange.specs.State.{isDrive}
-use Rattle.exchange.specs.State.Laws.{isDrive-range}
+use Rattle.drive_states.specs.State.{isDrive}
+use Rattle.drive_states.specs.State.Laws.{isDrive-range}
 use Rattle.sync_crash.specs.Rounds.{InFrame, halted}
 use Rattle.sync_crash.specs.Rounds.Steps.{Active, Sender, Closer, sender-active, closer-active}
 use Rattle.runs.specs.World.{World, active}
 use Rattle.runs.specs.Scenario.{Scenario, coreOf}
 use Rattle.runs.specs.Scenario.Laws.{gone-before}
 use Rattle.runs.specs.Runs.{sender, closer}
-use Rattle.runs.specs.Instance.{instanceOf}
+use Rattle.agreement.specs.Instance.{instanceOf}
 use Rattle.runs.specs.Statement.{Valid}
-use Rattle.agreement.specs.Instance.{lawful}
+use Rattle.agreement.specs.Instance.Laws.{lawful}
 use Rattle.agreement.specs.States.{stateOf}
 use Rattle.agreement.specs.Refinement.{IsUp, Begins}
 

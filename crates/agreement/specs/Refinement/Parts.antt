@@ -11,16 +11,19 @@ use Rattle.drive_sets.specs.Bools.{clash, by-test, and-left, and-right, or-left
 use Rattle.drive_sets.specs.Lists.{keep, all}
 use Rattle.drive_sets.specs.Lists.Laws.{first-kept, all-elem}
 use Rattle.drive_sets.specs.Masks.{size}
-use Rattle.exchange.specs.Calls.{decisionOn, next}
+use Rattle.agreement.specs.Calls.{decisionOn, next}
 use Rattle.sync_crash.specs.Rounds.{InFrame, halted}
 use Rattle.sync_crash.specs.Rounds.Steps.{Closer, halted-view, active-closed}
-use Rattle.runs.specs.World.{Call, opens, sends, delivers, closes, opened, World, apply, applyAll, active, decisionOf}
+use Rattle.runs.specs.World.{Call, opens, sends, delivers, closes, opened, World, active, decisionOf}
+use Rattle.agreement.specs.Document01.{document01, apply, applyAll, owes, due, noted, roundPart}
+use Rattle.runs.specs.World as worlds
 use Rattle.runs.specs.World.Laws.{refused-keeps}
 use Rattle.runs.specs.Scenario.{Scenario, coreOf, frame}
-use Rattle.runs.specs.Runs.{Book, emptyBook, closer, owes, due, noted, complete, roundPart}
-use Rattle.runs.specs.Instance.{instanceOf}
+use Rattle.runs.specs.Runs.{Book, emptyBook, closer, complete}
+use Rattle.runs.specs.Runs as anyRuns
+use Rattle.agreement.specs.Instance.{instanceOf}
 use Rattle.runs.specs.Statement.{Valid}
-use Rattle.agreement.specs.Instance.{lawful}
+use Rattle.agreement.specs.Instance.Laws.{lawful}
 use Rattle.agreement.specs.States.{stateOf}
 use Rattle.agreement.specs.States.Closing.{next-decision, next-halted, next-state}
 use Rattle.agreement.specs.Refinement.{reachesIn, IsUp, Begins, Follows, bookAfter, allowed}
@@ -34,7 +37,7 @@ module _ {s : Scenario} (ok : Valid s) {k : ℕ} (round : k < size (coreOf s)) {
   -- ---- one call
 
   follows-due : (b : Book) (w : World) (c : Call) → Follows s k w₀ b w → due s (suc k) w₀ b w c ≡ true → Follows s k w₀ (noted s (suc k) w₀ b w c) (apply w c)
-  unfolding due noted apply
+  unfolding anyRuns.due anyRuns.noted worlds.apply
   follows-due b w (opens d n sets own number) g t = absurd (clash t refl)
   follows-due b w (sends d room start) g t = follows-sends ok round begins g d room start t
   follows-due b w (delivers e bytes) g t =
@@ -46,7 +49,7 @@ module _ {s : Scenario} (ok : Valid s) {k : ℕ} (round : k < size (coreOf s)) {
       by-test (due s (suc k) w₀ b w c)
       (λ h. subst (λ book. Follows s k w₀ book (apply w c)) (sym (cond-true _ _ h)) (follows-due b w c g h))
       (λ h. subst (λ book. Follows s k w₀ book (apply w c)) (sym (cond-false _ _ h))
-      (subst (Follows s k w₀ b) (sym (fun-ext (refused-keeps w c (or-second _ _ h ∙ t)))) g))
+      (subst (Follows s k w₀ b) (sym (fun-ext (refused-keeps document01 w c (or-second _ _ h ∙ t)))) g))
 
   -- ---- the whole part
 
@@ -78,7 +81,7 @@ module _ {s : Scenario} (ok : Valid s) {k : ℕ} (round : k < size (coreOf s)) {
     is-complete : complete s (suc k) w₀ book ≡ true
 
   part-ended : (b : Book) (w : World) (calls : List Call) → Follows s k w₀ b w → roundPart s (suc k) w₀ b w calls ≡ true → Ended (applyAll w calls)
-  unfolding roundPart applyAll
+  unfolding anyRuns.roundPart worlds.applyAll
   part-ended b w [] g t = record { book = b; follows = g; is-complete = t }
   part-ended b w (c ∷ calls) g t =
       part-ended (bookAfter s k w₀ b w c) (apply w c) calls (follows-call b w c g (and-left (allowed s k w₀ b w c) _ t)) (and-right (allowed s k w₀ b w c) _ t)

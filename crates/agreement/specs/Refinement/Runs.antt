@@ -11,17 +11,20 @@ use lib.Seq.{take-all}
 use borrow.Author.Tests.{ltb-true, ltb-false}
 use Rattle.drive_sets.specs.Bools.{by-test, and-left, and-right}
 use Rattle.drive_sets.specs.Masks.{size}
-use Rattle.exchange.specs.Calls.{decisionOn}
+use Rattle.agreement.specs.Calls.{decisionOn}
 use Rattle.sync_crash.specs.Rounds.{DecidesIn, decision}
 use Rattle.sync_crash.specs.Rounds.Decisions.{decider-closes}
-use Rattle.runs.specs.World.{Call, closes, World, nothingOpen, apply, applyAll, decisionOf, roundIn}
+use Rattle.runs.specs.World.{Call, closes, World, nothingOpen, decisionOf, roundIn}
+use Rattle.agreement.specs.Document01.{document01, apply, applyAll, roundPart, roundParts, Run}
+use Rattle.runs.specs.World as worlds
 use Rattle.runs.specs.World.Laws.{applyAll-append}
 use Rattle.runs.specs.Scenario.{Scenario, coreOf}
-use Rattle.runs.specs.Runs.{emptyBook, roundPart, roundParts, joined, Run}
-use Rattle.runs.specs.Instance.{instanceOf}
+use Rattle.runs.specs.Runs.{emptyBook, joined}
+use Rattle.runs.specs.Runs as anyRuns
+use Rattle.agreement.specs.Instance.{instanceOf}
 use Rattle.runs.specs.Statement.{Valid, Up, partAt, callsBefore, DecidesAfter}
-use Rattle.runs.specs.Statement.Laws.{undecided-so-far, undecided-before}
-use Rattle.agreement.specs.Instance.{lawful, correct-staysUp, up-inFrame, up-correct}
+use Rattle.agreement.specs.Document01.Undecided.{undecided-so-far, undecided-before}
+use Rattle.agreement.specs.Instance.Laws.{lawful, correct-staysUp, up-inFrame, up-correct}
 use Rattle.agreement.specs.Refinement.{Begins}
 use Rattle.agreement.specs.Refinement.Opening.{opening-begins}
 use Rattle.agreement.specs.Refinement.Parts.{part-begins}
@@ -32,24 +35,24 @@ module _ {s : Scenario} (ok : Valid s) where
 
   rounds-begin : (ps : List (List Call)) (k : ℕ) (w : World) → Begins s k w → k + length ps ≤ size (coreOf s) → roundParts s (suc k) w ps ≡ true
       → (j : ℕ) → j ≤ length ps → Begins s (k + j) (applyAll w (joined (take j ps)))
-  unfolding roundParts joined applyAll
+  unfolding anyRuns.roundParts joined worlds.applyAll
   rounds-begin ps k w b h t zero l = subst (λ (z : ℕ). Begins s z w) (omega arith) b
   rounds-begin [] k w b h t (suc j) l = absurd (omega arith)
   rounds-begin (p ∷ ps) k w b h t (suc j) l =
       let now = roundPart s (suc k) w emptyBook w p in
       let next = part-begins ok (omega arith) b p (and-left now _ t) in
-      subst (Begins s (k + suc j)) (sym (applyAll-append w p (joined (take j ps))))
+      subst (Begins s (k + suc j)) (sym (applyAll-append document01 w p (joined (take j ps))))
       (subst (λ (z : ℕ). Begins s z (applyAll (applyAll w p) (joined (take j ps)))) (omega arith)
       (rounds-begin ps (suc k) (applyAll w p) next (omega arith) (and-right now _ t) j (omega arith)))
 
   rounds-part : (ps : List (List Call)) (k : ℕ) (w : World) → roundParts s (suc k) w ps ≡ true → (j : ℕ) → j < length ps
       → roundPart s (suc (k + j)) (applyAll w (joined (take j ps))) emptyBook (applyAll w (joined (take j ps))) (getD ps j []) ≡ true
-  unfolding roundParts joined applyAll
+  unfolding anyRuns.roundParts joined worlds.applyAll
   rounds-part [] k w t j h = absurd (omega arith)
   rounds-part (p ∷ ps) k w t zero h =
       subst (λ (z : ℕ). roundPart s (suc z) w emptyBook w p ≡ true) (omega arith) (and-left (roundPart s (suc k) w emptyBook w p) _ t)
   rounds-part (p ∷ ps) k w t (suc j) h =
-      subst (λ v. roundPart s (suc (k + suc j)) v emptyBook v (getD ps j []) ≡ true) (sym (applyAll-append w p (joined (take j ps))))
+      subst (λ v. roundPart s (suc (k + suc j)) v emptyBook v (getD ps j []) ≡ true) (sym (applyAll-append document01 w p (joined (take j ps))))
       (subst (λ (z : ℕ). roundPart s (suc z) (applyAll (applyAll w p) (joined (take j ps))) emptyBook (applyAll (applyAll w p) (joined (take j ps))) (getD ps j []) ≡ true)
       (omega arith)
       (rounds-part ps (suc k) (applyAll w p) (and-right (roundPart s (suc k) w emptyBook w p) _ t) j (omega arith)))
@@ -63,7 +66,7 @@ module _ {s : Scenario} (ok : Valid s) where
 
     split-world : (k : ℕ) → worldBefore k ≡ applyAll (applyAll nothingOpen (run .first)) (joined (take k (run .rounds)))
     unfolding callsBefore
-    split-world k = applyAll-append nothingOpen (run .first) (joined (take k (run .rounds)))
+    split-world k = applyAll-append document01 nothingOpen (run .first) (joined (take k (run .rounds)))
 
     begins-at : (k : ℕ) → k ≤ size (coreOf s) → Begins s k (worldBefore k)
     begins-at k h =
@@ -99,13 +102,13 @@ module _ {s : Scenario} (ok : Valid s) where
     -- ---- decisions
 
     world-at : (k : ℕ) (earlier : List Call) → applyAll nothingOpen (callsBefore run k ++ earlier) ≡ applyAll (worldBefore k) earlier
-    world-at k earlier = applyAll-append nothingOpen (callsBefore run k) earlier
+    world-at k earlier = applyAll-append document01 nothingOpen (callsBefore run k) earlier
 
     closed-world : (k : ℕ) (earlier : List Call) (d : ℕ)
         → applyAll nothingOpen (callsBefore run k ++ earlier ++ (closes d ∷ [])) ≡ apply (applyAll (worldBefore k) earlier) (closes d)
-    unfolding applyAll
+    unfolding worlds.applyAll
     closed-world k earlier d =
-        applyAll-append nothingOpen (callsBefore run k ++ earlier) (closes d ∷ []) ∙ ap (λ (w : World). apply w (closes d)) (world-at k earlier)
+        applyAll-append document01 nothingOpen (callsBefore run k ++ earlier) (closes d ∷ []) ∙ ap (λ (w : World). apply w (closes d)) (world-at k earlier)
 
     module _ (d v k : ℕ) where
       -- what the rounds say is so in the list

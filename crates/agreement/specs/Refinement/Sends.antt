@@ -13,10 +13,12 @@ use Rattle.drive_sets.specs.Refusals.{result}
 use Rattle.sync_crash.specs.Rounds.Steps.{Sender, sender-active}
 use Rattle.runs.specs.World.{sends, opened, World}
 use Rattle.runs.specs.Scenario.{Scenario, coreOf}
-use Rattle.runs.specs.Runs.{wrote, Book, isCalled, sendingOf, sentBy, lacksRoom, sender, due, noted}
-use Rattle.runs.specs.Instance.{instanceOf}
+use Rattle.runs.specs.Runs.{wrote, Book, isCalled, sentBy, lacksRoom, sender}
+use Rattle.agreement.specs.Document01.{sendingOf, due, noted}
+use Rattle.runs.specs.Runs as anyRuns
+use Rattle.agreement.specs.Instance.{instanceOf}
 use Rattle.runs.specs.Statement.{Valid}
-use Rattle.agreement.specs.Instance.{lawful}
+use Rattle.agreement.specs.Instance.Laws.{lawful}
 use Rattle.agreement.specs.States.{InRound, stateOf, messageOf}
 use Rattle.agreement.specs.States.Sending.{sending-state, sending-no-room}
 use Rattle.agreement.specs.Refinement.{Begins, HasSent, Follows}
@@ -29,15 +31,15 @@ module _ {s : Scenario} (ok : Valid s) {k : ℕ} (round : k < size (coreOf s)) {
     message = messageOf (instanceOf s) k d
 
     by-sender : Sender (instanceOf s) k d
-    unfolding due
+    unfolding anyRuns.due
     by-sender = true-sender ok round begins d (and-left (sender s (suc k) w₀ d) _ (and-left (sender s (suc k) w₀ d && not (isCalled (b .sent d))) _ t))
 
     not-called : isCalled (b .sent d) ≡ false
-    unfolding due
+    unfolding anyRuns.due
     not-called = not-true _ (and-right (sender s (suc k) w₀ d) _ (and-left (sender s (suc k) w₀ d && not (isCalled (b .sent d))) _ t))
 
     has-room : lacksRoom (sendingOf (w d) room start) ≡ false
-    unfolding due
+    unfolding anyRuns.due
     has-room = not-true _ (and-right (sender s (suc k) w₀ d && not (isCalled (b .sent d))) _ t)
 
     not-closed : b .closed d ≡ false
@@ -53,7 +55,7 @@ module _ {s : Scenario} (ok : Valid s) {k : ℕ} (round : k < size (coreOf s)) {
     in-this-round = delivered-round ok round g (lawful ok .in-frame (by-sender .in-core))
 
     gave : sendingOf (w d) room start ≡ result message
-    unfolding sendingOf lacksRoom
+    unfolding anyRuns.sendingOf lacksRoom
     gave =
         ap (λ slot. sendingOf slot room start) state
         ∙ by-test (leb (start + length message) room)
@@ -67,11 +69,11 @@ module _ {s : Scenario} (ok : Valid s) {k : ℕ} (round : k < size (coreOf s)) {
     then = noted s (suc k) w₀ b w (sends d room start)
 
     sent-here : then .sent d ≡ wrote message
-    unfolding noted sentBy
+    unfolding anyRuns.noted sentBy
     sent-here = cond-true _ _ (eq-eqb d d refl) ∙ ap sentBy gave
 
     sent-elsewhere : (y : ℕ) → eqb y d ≡ false → then .sent y ≡ b .sent y
-    unfolding noted
+    unfolding anyRuns.noted
     sent-elsewhere y h = cond-false _ _ h
 
     called-then : (y : ℕ) → isCalled (b .sent y) ≡ true → isCalled (then .sent y) ≡ true
@@ -82,7 +84,7 @@ module _ {s : Scenario} (ok : Valid s) {k : ℕ} (round : k < size (coreOf s)) {
         (λ e. ap isCalled (sent-elsewhere y e) ∙ h)
 
     pub follows-sends : Follows s k w₀ then w
-    unfolding noted
+    unfolding anyRuns.noted
     follows-sends = record {
       sent = λ y. by-test (eqb y d)
           (λ e. inr (subst (HasSent s k (then .sent)) (sym (eqb-true y d e)) (record { sender = by-sender; written = sent-here })))

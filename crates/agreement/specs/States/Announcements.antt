@@ -13,9 +13,9 @@ use Rattle.drive_sets.specs.Bools.{clash, and-left, and-right, cond-true, cond-
 use Rattle.drive_sets.specs.Options.{by-option}
 use Rattle.drive_sets.specs.Lists.{all, elem, ordered, firstSome}
 use Rattle.drive_sets.specs.Lists.Laws.{elem-none, elem-head, elem-tail, elem-cases, all-elem}
-use Rattle.exchange.specs.declared.Announcement.{Announcement}
-use Rattle.exchange.specs.declared.Announcement.the-variants.{Absent, By}
-use Rattle.exchange.specs.Calls.{lower}
+use Rattle.drive_states.specs.declared.Announcement.{Announcement}
+use Rattle.drive_states.specs.declared.Announcement.the-variants.{Absent, By}
+use Rattle.agreement.specs.Calls.{lower}
 use Rattle.agreement.specs.States.{announcementBy, announcementOf}
 
 abbrev pub by : ℕ → ℕ → Announcement

@@ -16,13 +16,13 @@ use Rattle.drive_sets.specs.Masks.{size, drives}
 use Rattle.drive_sets.specs.Masks.Sizes.{elem-drives}
 use Rattle.drive_sets.specs.Masks.Tests.{setOf, setOf-lt, setOf-none, insert-setOf, drives-setOf, setOf-some, setOf-equal}
 use Rattle.drive_sets.specs.Refusals.{result}
-use Rattle.exchange.specs.declared.Exchange.{Exchange}
-use Rattle.exchange.specs.declared.Announcement.the-variants.{Absent}
-use Rattle.exchange.specs.State.{numberOf, isDecided}
-use Rattle.exchange.specs.Calls as calls
-use Rattle.exchange.specs.Calls.{heardAtClose, decisionOn, quietDecision, decide, decisionAfter, next, closing}
-use Rattle.exchange.specs.Calls.Results.{decided-on}
-use Rattle.exchange.specs.Calls.Laws.{closing-accepted}
+use Rattle.drive_states.specs.declared.Exchange.{Exchange}
+use Rattle.drive_states.specs.declared.Announcement.the-variants.{Absent}
+use Rattle.drive_states.specs.State.{numberOf, isDecided}
+use Rattle.agreement.specs.Calls as calls
+use Rattle.agreement.specs.Calls.{heardAtClose, decisionOn, quietDecision, decide, decisionAfter, next, closing}
+use Rattle.agreement.specs.Calls.Results.{decided-on}
+use Rattle.agreement.specs.Calls.Laws.{closing-accepted}
 use Rattle.sync_crash.specs.Rounds as rounds
 use Rattle.sync_crash.specs.Rounds.{Instance, Lawful, smallestOf, reaches, known, announces, announced, heard, unchanged, quiet, ifQuiet, decides, after, knows, before, decision, halted}
 use Rattle.sync_crash.specs.Rounds.Steps.{Closer, reaches-true, knows-now, before-now, decision-now, halted-now}

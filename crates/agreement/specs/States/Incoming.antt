@@ -11,8 +11,8 @@ use Rattle.drive_sets.specs.Bools.{or-neither, or-right, or-false, cond-true, c
 use Rattle.drive_sets.specs.Masks.{has, single, union}
 use Rattle.drive_sets.specs.Masks.Sizes.{size-le}
 use Rattle.drive_sets.specs.Masks.Tests.{setOf, insert-setOf}
-use Rattle.exchange.specs.State.{isDrive}
-use Rattle.exchange.specs.State.Laws.{isDrive-range}
+use Rattle.drive_states.specs.State.{isDrive}
+use Rattle.drive_states.specs.State.Laws.{isDrive-range}
 use Rattle.sync_crash.specs.Rounds.{Instance, InFrame, Lawful, before, decision}
 use Rattle.sync_crash.specs.Rounds.HeardSets.{before-core}
 use Rattle.agreement.specs.States.{Bounded, InRound, announcedFrom}

@@ -12,9 +12,9 @@ use Rattle.drive_sets.specs.declared.Pattern.{Pattern}
 use Rattle.drive_sets.specs.Bools.{by-test, or-right, or-false, cond-true}
 use Rattle.drive_sets.specs.Lists.{range, any, elem}
 use Rattle.drive_sets.specs.Lists.Laws.{elem-head, elem-tail}
-use Rattle.exchange.specs.State.{pattern, numberIn}
-use Rattle.exchange.specs.Messages.Laws.{entryOf}
-use Rattle.exchange.specs.Calls.{stored}
+use Rattle.drive_states.specs.State.{pattern, numberIn}
+use Rattle.drive_states.specs.Messages.Laws.{entryOf}
+use Rattle.agreement.specs.Calls.{stored}
 use Rattle.agreement.specs.States.{numbersOf}
 
 -- ---- entries

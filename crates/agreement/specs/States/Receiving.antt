@@ -7,8 +7,8 @@ use Prim.Native.Nat.{ℕ}
 use lib.Dec.{eqb}
 use Rattle.drive_sets.specs.Options.{by-option}
 use Rattle.drive_sets.specs.Refusals.{Outcome, result}
-use Rattle.exchange.specs.declared.Exchange.{Exchange}
-use Rattle.exchange.specs.Calls.{receiving}
+use Rattle.drive_states.specs.declared.Exchange.{Exchange}
+use Rattle.agreement.specs.Calls.{receiving}
 use Rattle.sync_crash.specs.Rounds.{Instance, Lawful, decision}
 use Rattle.agreement.specs.States.{Bounded, InRound, stateOf, messageBy, messageOf}
 use Rattle.agreement.specs.States.Incoming.{Incoming}

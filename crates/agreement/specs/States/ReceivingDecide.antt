@@ -13,11 +13,11 @@ use Rattle.drive_sets.specs.Lists.Laws.{ordered-range}
 use Rattle.drive_sets.specs.Masks.Tests.{setOf}
 use Rattle.drive_sets.specs.Refusals.{result}
 use Rattle.records.specs.declared.Kind.the-variants.{Decide}
-use Rattle.exchange.specs.declared.Exchange.{Exchange}
-use Rattle.exchange.specs.Messages.{decideBytes, senderOf, patternOf}
-use Rattle.exchange.specs.Messages.Laws.{not-known, decide-head, decide-sender, decide-round, decide-pattern, decide-whole}
-use Rattle.exchange.specs.Calls.{decisionOn, wrongMask, outsideCore, differs, lower, acceptKnown, acceptDecide, accept, receiving}
-use Rattle.exchange.specs.Calls.Laws.{Acceptable, receiving-accepted}
+use Rattle.drive_states.specs.declared.Exchange.{Exchange}
+use Rattle.drive_states.specs.Messages.{decideBytes, senderOf, patternOf}
+use Rattle.drive_states.specs.Messages.Laws.{not-known, decide-head, decide-sender, decide-round, decide-pattern, decide-whole}
+use Rattle.agreement.specs.Calls.{decisionOn, wrongMask, outsideCore, differs, lower, acceptKnown, acceptDecide, accept, receiving}
+use Rattle.agreement.specs.Calls.Laws.{Acceptable, receiving-accepted}
 use Rattle.sync_crash.specs.Rounds.{Instance, Lawful, knows, before, decision}
 use Rattle.sync_crash.specs.Rounds.Validity.{decision-proposed}
 use Rattle.agreement.specs.States.{Bounded, InRound, numbersOf, announcementOf, knownFrom, announcedFrom, stateOf}

@@ -14,12 +14,12 @@ use Rattle.drive_sets.specs.Masks.Sizes.{elem-drives}
 use Rattle.drive_sets.specs.Masks.Tests.{setOf, setOf-lt, union-setOf, subset-setOf}
 use Rattle.drive_sets.specs.Refusals.{result}
 use Rattle.records.specs.declared.Kind.the-variants.{Known}
-use Rattle.exchange.specs.declared.Exchange.{Exchange}
-use Rattle.exchange.specs.State.{numberOf}
-use Rattle.exchange.specs.Messages.{knownBytes, isKnown, senderOf, maskOf, entries}
-use Rattle.exchange.specs.Messages.Laws.{is-known, entryOf, known-head, known-sender, known-round, known-mask, known-entries, known-whole}
-use Rattle.exchange.specs.Calls.{decisionOn, wrongMask, outsideCore, anyDiffers, differs, stored, acceptKnown, acceptDecide, accept, receiving}
-use Rattle.exchange.specs.Calls.Laws.{none-differs, Acceptable, receiving-accepted}
+use Rattle.drive_states.specs.declared.Exchange.{Exchange}
+use Rattle.drive_states.specs.State.{numberOf}
+use Rattle.drive_states.specs.Messages.{knownBytes, isKnown, senderOf, maskOf, entries}
+use Rattle.drive_states.specs.Messages.Laws.{is-known, entryOf, known-head, known-sender, known-round, known-mask, known-entries, known-whole}
+use Rattle.agreement.specs.Calls.{decisionOn, wrongMask, outsideCore, anyDiffers, differs, stored, acceptKnown, acceptDecide, accept, receiving}
+use Rattle.agreement.specs.Calls.Laws.{none-differs, Acceptable, receiving-accepted}
 use Rattle.sync_crash.specs.Rounds.{Instance, Lawful, knows, before, decision}
 use Rattle.sync_crash.specs.Rounds.Validity.{knows-own, knows-core}
 use Rattle.agreement.specs.States.{Bounded, InRound, numbersOf, announcementOf, knownFrom, announcedFrom, stateOf}

@@ -12,8 +12,8 @@ use Rattle.drive_sets.specs.Masks.{has, full, subset}
 use Rattle.drive_sets.specs.Masks.Laws.{subset-full}
 use Rattle.drive_sets.specs.Masks.Tests.{setOf, upTo, has-setOf, setOf-within, setOf-some, subset-setOf}
 use Rattle.tables.specs.Tables.{isFrame, isSet}
-use Rattle.exchange.specs.State.{inCore, numberOf, broken}
-use Rattle.exchange.specs.State.Laws.{isDrive-range, Sound, sound-unbroken}
+use Rattle.drive_states.specs.State.{inCore, numberOf, broken}
+use Rattle.drive_states.specs.State.Laws.{isDrive-range, Sound, sound-unbroken}
 use Rattle.sync_crash.specs.Rounds.{Instance, InFrame, Lawful, knows, before}
 use Rattle.sync_crash.specs.Rounds.Validity.{knows-own, knows-core}
 use Rattle.sync_crash.specs.Rounds.HeardSets.{before-core}

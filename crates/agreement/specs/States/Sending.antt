@@ -10,10 +10,10 @@ use Rattle.drive_sets.specs.declared.Refusal.the-variants.{NoRoom}
 use Rattle.drive_sets.specs.Masks.Sizes.{size-le}
 use Rattle.drive_sets.specs.Masks.Tests.{setOf, setOf-lt}
 use Rattle.drive_sets.specs.Refusals.{refused, result}
-use Rattle.exchange.specs.State.{numberOf}
-use Rattle.exchange.specs.Messages.Laws.{length-known, known-same, length-decide}
-use Rattle.exchange.specs.Calls.{decisionOn, outgoing, sending}
-use Rattle.exchange.specs.Calls.Laws.{sending-accepted, sending-crowded}
+use Rattle.drive_states.specs.State.{numberOf}
+use Rattle.drive_states.specs.Messages.Laws.{length-known, known-same, length-decide}
+use Rattle.agreement.specs.Calls.{decisionOn, outgoing, sending}
+use Rattle.agreement.specs.Calls.Laws.{sending-accepted, sending-crowded}
 use Rattle.sync_crash.specs.Rounds.{Instance, Lawful, knows, decision}
 use Rattle.sync_crash.specs.Rounds.Validity.{knows-core}
 use Rattle.agreement.specs.States.{Bounded, InRound, stateOf, messageBy, messageOf}

@@ -24,16 +24,17 @@ use Rattle.drive_sets.specs.Refusals.{result}
 use Rattle.hitting_sets.specs.Order.{normal}
 use Rattle.tables.specs.Tables.{chosen, normalTable}
 use Rattle.tables.specs.Tables.Laws.{Accepted, ChosenCore, table-accepted, chosen-core}
-use Rattle.exchange.specs.State.{isDrive}
-use Rattle.exchange.specs.State.Laws.{is-drive}
+use Rattle.drive_states.specs.State.{isDrive}
+use Rattle.drive_states.specs.State.Laws.{is-drive}
 use Rattle.sync_crash.specs.Rounds.{StaysUp, decision}
 use Rattle.sync_crash.specs.Rounds.Bound.{undecided-failures}
 use Rattle.sync_crash.specs.Rounds.LowerBound.{LostUnheard, undecided-while-losing}
-use Rattle.runs.specs.Scenario.{Crash, stays, crashes, Scenario, coreOf, goneBy, listOf, cut, reach}
+use Rattle.runs.specs.Scenario.{Crash, stays, crashes, Scenario, coreOf, goneBy}
+use Rattle.agreement.specs.Sends.{listOf, cut, reach}
 use Rattle.runs.specs.Scenario.Laws.{crashes-crash}
-use Rattle.runs.specs.Instance.{instanceOf, correct}
+use Rattle.agreement.specs.Instance.{instanceOf, correct}
 use Rattle.runs.specs.Statement.{Valid, Untouched, Up, coreCrashes}
-use Rattle.agreement.specs.Instance.{lawful, some-core-drive, crashes-failures, up-correct, correct-staysUp, up-inFrame}
+use Rattle.agreement.specs.Instance.Laws.{lawful, some-core-drive, crashes-failures, up-correct, correct-staysUp, up-inFrame}
 use Rattle.agreement.specs.Tight.{others, crashing, losing, TightRounds}
 use Rattle.agreement.specs.Tight.Turns.{turn-stays, turn-crashes, turn-round, turn-at, bounds, others-core, others-not, length-crashing, crashing-rising, crashing-core, not-crashing, keep-crashing}
 

@@ -1,6 +1,6 @@
 -- The rules, one after the other.
 use Rattle.exchange.proofs.Rules.{frame-broken, core-broken, own-broken, drive-broken, round-broken, sets-asked}
-use Rattle.exchange.specs.State.{isDrive, inCore, broken}
+use Rattle.drive_states.specs.State.{isDrive, inCore, broken}
 use Rattle.tables.specs.Tables.{isFrame, isSet}
 use Rattle.drive_sets.specs.Masks.{has, subset, size}
 use mathlib.Core.Path.{ap, _∙_, sym}

@@ -1,6 +1,6 @@
 -- A drive of the frame, two tests.
 use Rattle.drive_sets.specs.Bools.{and-first, and-second}
-use Rattle.exchange.specs.State.{isDrive}
+use Rattle.drive_states.specs.State.{isDrive}
 use lib.Dec.{leb}
 use borrow.Author.Tests.{le-leb, lt-leb}
 use Rattle.exchange.proofs.is_drive.Statement.{statement}

@@ -1,6 +1,6 @@
 -- The entry at the drive's place.
 use borrow.Author.Needs.{needs}
-use Rattle.exchange.specs.State.{numberIn}
+use Rattle.drive_states.specs.State.{numberIn}
 use Rattle.exchange.proofs.number_at.Statement.{statement}
 use Rattle.exchange.proofs.number_at.Tie as tie
 

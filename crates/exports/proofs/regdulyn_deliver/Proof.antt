@@ -2,7 +2,7 @@
 use Rattle.exports.proofs.Handing.{opened-as}
 use Rattle.exports.specs.Codes.{codeOf}
 use Rattle.exports.specs.Deliveries.{messagesAccepted, delivered}
-use Rattle.exchange.specs.declared.Exchange.{Exchange}
+use Rattle.drive_states.specs.declared.Exchange.{Exchange}
 use Prim.Native.Nat.{ℕ}
 use borrow.Author.Needs.{needs}
 use Rattle.exports.proofs.regdulyn_deliver.Statement.{statement}

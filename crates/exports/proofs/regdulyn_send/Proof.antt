@@ -3,7 +3,7 @@ use Rattle.exports.proofs.Handing.{opened-as}
 use Rattle.exports.specs.Codes.{codeOf}
 use Rattle.exports.specs.Deliveries.{stateClosed, sendsAccepted, bufferSent, sent, sentBytes}
 use Rattle.tables.specs.Answers.{bufferAfter}
-use Rattle.exchange.specs.declared.Exchange.{Exchange}
+use Rattle.drive_states.specs.declared.Exchange.{Exchange}
 use Prim.Native.Nat.{ℕ}
 use mathlib.Core.List.{List}
 use mathlib.Core.Path.{refl, ap, _∙_}

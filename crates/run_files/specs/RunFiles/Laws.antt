@@ -22,7 +22,7 @@ use Rattle.records.specs.Fields.Laws.{fromBytes-lt}
 use Rattle.records.specs.Marks.{mark, headOf}
 use Rattle.records.proofs.Loops.{bytes-take}
 use Rattle.tables.specs.Files.{atRecord}
-use Rattle.exchange.specs.State.{isDrive}
+use Rattle.drive_states.specs.State.{isDrive}
 use Rattle.runs.specs.CrashRecords.{CrashRecord, isNext, isRound, mostSends, checkedCrash}
 use Rattle.run_files.specs.RunFiles.{ReadProposals, ReadCrashes, readProposals, crashAt, atEnd, readCrashes}
 

@@ -7,8 +7,9 @@ use Prim.Native.Nat.{ℕ}
 use lib.Dec.{eqb}
 use borrow.Author.Tests.{eqb-true, eq-eqb}
 use Rattle.drive_sets.specs.Bools.{clash, and-intro, and-left, and-right, or-cases}
-use Rattle.runs.specs.World.{Call, opens, sends, delivers, closes, World}
+use Rattle.runs.specs.Protocol.{Protocol}
 use Rattle.runs.specs.Scenario.{Scenario}
+use Rattle.runs.specs.World.{Call, opens, sends, delivers, closes, World}
 use Rattle.runs.specs.Runs.{sameList, Book, noted}
 
 pub sameList-true : (l m : List ℕ) → sameList l m ≡ true → l ≡ m
@@ -25,11 +26,11 @@ sameList-refl [] = refl
 sameList-refl (x ∷ l) = and-intro (eq-eqb x x refl) (sameList-refl l)
 
 -- a call that makes a drive count as closed is a close of it
-pub closed-by : (s : Scenario) (r : ℕ) (w₀ : World) (b : Book) (w : World) (c : Call) (d : ℕ) → b .closed d ≡ false → noted s r w₀ b w c .closed d ≡ true
+pub closed-by : (P : Protocol) (s : Scenario) (r : ℕ) (w₀ : World) (b : Book) (w : World) (c : Call) (d : ℕ) → b .closed d ≡ false → noted P s r w₀ b w c .closed d ≡ true
     → c ≡ closes d
 unfolding noted
-closed-by s r w₀ b w (opens e n sets own number) d o h = absurd (clash h o)
-closed-by s r w₀ b w (sends e room start) d o h = absurd (clash h o)
-closed-by s r w₀ b w (delivers e bytes) d o h = absurd (clash h o)
-closed-by s r w₀ b w (closes e) d o h =
+closed-by P s r w₀ b w (opens e n sets own number) d o h = absurd (clash h o)
+closed-by P s r w₀ b w (sends e room start) d o h = absurd (clash h o)
+closed-by P s r w₀ b w (delivers e bytes) d o h = absurd (clash h o)
+closed-by P s r w₀ b w (closes e) d o h =
     ⊎-elim (λ t. ap closes (sym (eqb-true d e t))) (λ t. absurd (clash t o)) (or-cases (eqb d e) (b .closed d) h)

@@ -22,14 +22,14 @@ use Rattle.hitting_sets.specs.Hitting.{hits}
 use Rattle.hitting_sets.specs.Order.{normal}
 use Rattle.tables.specs.Tables.{chosen, normalTable}
 use Rattle.tables.specs.Tables.Laws.{Accepted, table-accepted}
-use Rattle.exchange.specs.State.{isDrive}
-use Rattle.exchange.specs.State.Laws.{drive-bounds}
+use Rattle.drive_states.specs.State.{isDrive}
+use Rattle.drive_states.specs.State.Laws.{drive-bounds}
 use Rattle.runs.specs.Scenario.{stays, crashes, Scenario, coreOf}
 use Rattle.runs.specs.Scenario.Laws.{stays-crashes}
 use Rattle.runs.specs.CrashRecords.{CrashRecord, crashed, isNext, isRound, mostSends, checkedCrash, crashIn, scenario}
 use Rattle.runs.specs.Statement.{Passes, Valid, Untouched}
-use Rattle.runs.specs.Simulated.{EndsAgreed, SimulatedAgreement}
-use Rattle.agreement.specs.Simulated.{simulated-agreement}
+use Rattle.agreement.specs.Simulated.{EndsAgreed, SimulatedAgreement}
+use Rattle.agreement.specs.Simulated.Laws.{simulated-agreement}
 use Rattle.simulation.specs.Simulation.{checkedCrashes, Simulated, simulatedOf, simulated}
 
 -- ---- what the checks say of the records

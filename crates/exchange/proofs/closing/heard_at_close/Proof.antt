@@ -1,8 +1,8 @@
 -- The senders accepted, and oneself if in the core.
 use mathlib.Core.Path.{sym, _∙_}
 use Rattle.drive_sets.specs.Bools.{cond-true, cond-false}
-use Rattle.exchange.specs.Calls.{heardAtClose}
-use Rattle.exchange.specs.State.{inCore}
+use Rattle.agreement.specs.Calls.{heardAtClose}
+use Rattle.drive_states.specs.State.{inCore}
 use borrow.Author.Needs.{needs}
 use Rattle.exchange.proofs.closing.heard_at_close.Statement.{statement}
 use Rattle.exchange.proofs.closing.heard_at_close.Tie as tie

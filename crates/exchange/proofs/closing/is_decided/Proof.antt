@@ -1,6 +1,6 @@
 -- The two cases of a decision.
 use mathlib.Core.Path.{sym, ap}
-use Rattle.exchange.specs.State.{isDecided}
+use Rattle.drive_states.specs.State.{isDecided}
 use borrow.Author.Needs.{needs}
 use Rattle.exchange.proofs.closing.is_decided.Statement.{statement}
 use Rattle.exchange.proofs.closing.is_decided.Tie as tie

@@ -1,5 +1,5 @@
 -- A core drive does not halt so, and a listener halts on deciding.
-use Rattle.exchange.specs.State.{inCore}
+use Rattle.drive_states.specs.State.{inCore}
 use Rattle.exchange.proofs.Closes.{core-drive, listener}
 use borrow.Author.Needs.{needs}
 use Rattle.exchange.proofs.closing.listener_decides.Statement.{statement}

@@ -2,7 +2,7 @@
 use borrow.Author.Needs.{needs}
 use Rattle.drive_sets.specs.Masks.{size}
 use Rattle.exchange.proofs.Least.{Least, lowest-bounds, removed-less, least-start, least-below, least-keep, least-end, least-none}
-use Rattle.exchange.specs.State.{numberIn}
+use Rattle.drive_states.specs.State.{numberIn}
 use Rattle.exchange.proofs.closing.smallest_known.Statement.{statement}
 use Rattle.exchange.proofs.closing.smallest_known.Tie as tie
 

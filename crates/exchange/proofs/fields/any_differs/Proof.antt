@@ -1,8 +1,8 @@
 -- The entries one after the other: what is left says what the whole says.
 use borrow.Author.Needs.{needs}
 use Rattle.exchange.proofs.Entries.{Walk, left, walk-start, walk-bounds, walk-less, walk-step, differs-end, differs-stop, differs-step}
-use Rattle.exchange.specs.State.{numberIn}
-use Rattle.exchange.specs.Calls.{anyDiffers}
+use Rattle.drive_states.specs.State.{numberIn}
+use Rattle.agreement.specs.Calls.{anyDiffers}
 use Rattle.drive_sets.specs.Masks.{size}
 use native.Mathlib.Omega.{arith}
 use mathlib.Core.Path.{_≡_, refl, sym, _∙_}

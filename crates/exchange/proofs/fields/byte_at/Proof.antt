@@ -1,7 +1,7 @@
 -- A field of one byte.
 use native.Mathlib.Omega.{arith}
 use Rattle.exchange.proofs.Bytes.{field-lt}
-use Rattle.exchange.specs.Messages.{fieldAt}
+use Rattle.drive_states.specs.Messages.{fieldAt}
 use borrow.Author.Needs.{needs}
 use Rattle.exchange.proofs.fields.byte_at.Statement.{statement}
 use Rattle.exchange.proofs.fields.byte_at.Tie as tie

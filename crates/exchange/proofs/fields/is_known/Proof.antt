@@ -2,7 +2,7 @@
 use mathlib.Core.Path.{sym, ap}
 use Rattle.records.specs.Fields.{fromBytes}
 use Rattle.records.specs.Marks.{ascii, markText, mark}
-use Rattle.exchange.specs.Messages.{isKnown}
+use Rattle.drive_states.specs.Messages.{isKnown}
 use borrow.Author.Needs.{needs}
 use Rattle.exchange.proofs.fields.is_known.Statement.{statement}
 use Rattle.exchange.proofs.fields.is_known.Tie as tie

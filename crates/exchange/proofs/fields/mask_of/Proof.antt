@@ -1,5 +1,5 @@
 -- The mask is eight bytes.
-use Rattle.exchange.specs.Messages.{fieldAt, maskOf}
+use Rattle.drive_states.specs.Messages.{fieldAt, maskOf}
 use borrow.Author.Needs.{needs}
 use Rattle.exchange.proofs.fields.mask_of.Statement.{statement}
 use Rattle.exchange.proofs.fields.mask_of.Tie as tie

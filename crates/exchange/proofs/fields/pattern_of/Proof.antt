@@ -1,5 +1,5 @@
 -- The pattern number is two bytes.
-use Rattle.exchange.specs.Messages.{patternOf}
+use Rattle.drive_states.specs.Messages.{patternOf}
 use borrow.Author.Needs.{needs}
 use Rattle.exchange.proofs.fields.pattern_of.Statement.{statement}
 use Rattle.exchange.proofs.fields.pattern_of.Tie as tie

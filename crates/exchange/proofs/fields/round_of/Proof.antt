@@ -1,5 +1,5 @@
 -- The round is one byte.
-use Rattle.exchange.specs.Messages.{roundOf}
+use Rattle.drive_states.specs.Messages.{roundOf}
 use borrow.Author.Needs.{needs}
 use Rattle.exchange.proofs.fields.round_of.Statement.{statement}
 use Rattle.exchange.proofs.fields.round_of.Tie as tie

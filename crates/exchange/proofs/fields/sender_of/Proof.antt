@@ -1,5 +1,5 @@
 -- The sender is one byte.
-use Rattle.exchange.specs.Messages.{senderOf}
+use Rattle.drive_states.specs.Messages.{senderOf}
 use borrow.Author.Needs.{needs}
 use Rattle.exchange.proofs.fields.sender_of.Statement.{statement}
 use Rattle.exchange.proofs.fields.sender_of.Tie as tie

@@ -1,7 +1,7 @@
 -- The entries one after the other: what is left, stored over what is held, gives what the whole gives.
 use borrow.Author.Needs.{needs}
 use Rattle.exchange.proofs.Entries.{Walk, left, walk-start, walk-bounds, walk-less, walk-step, stored-end, stored-step}
-use Rattle.exchange.specs.Calls.{stored}
+use Rattle.agreement.specs.Calls.{stored}
 use Rattle.drive_sets.specs.Masks.{size}
 use native.Mathlib.Omega.{arith}
 use mathlib.Core.Path.{_≡_, refl, sym, _∙_}

@@ -4,7 +4,7 @@ use Rattle.records.specs.Fields.{fromBytes}
 use Rattle.records.specs.Marks.{ascii, markText, mark}
 use Rattle.exchange.proofs.Sends.{known-none, known-written}
 use borrow.Author.Needs.{needs}
-use Rattle.exchange.specs.State.{numberIn}
+use Rattle.drive_states.specs.State.{numberIn}
 use Rattle.exchange.proofs.sending.put_known.Statement.{statement}
 use Rattle.exchange.proofs.sending.put_known.Tie as tie
 

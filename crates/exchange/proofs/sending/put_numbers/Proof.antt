@@ -3,7 +3,7 @@ use borrow.Author.Needs.{needs}
 use Rattle.drive_sets.specs.Masks.{size}
 use Rattle.exchange.proofs.Sends.{Telling, numbers-none, telling-start, telling-turn, telling-end}
 use Rattle.exchange.proofs.Least.{lowest-bounds, removed-less}
-use Rattle.exchange.specs.State.{numberIn}
+use Rattle.drive_states.specs.State.{numberIn}
 use Rattle.exchange.proofs.sending.put_numbers.Statement.{statement}
 use Rattle.exchange.proofs.sending.put_numbers.Tie as tie
 

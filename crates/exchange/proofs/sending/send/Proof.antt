@@ -1,5 +1,5 @@
 -- The refusals in order, then the message.
-use Rattle.exchange.specs.State.{inCore}
+use Rattle.drive_states.specs.State.{inCore}
 use Rattle.exchange.proofs.SendCalls.{sends-broken, sends-halted, sends-listener, sends-message}
 use borrow.Author.Needs.{needs}
 use Rattle.exchange.proofs.sending.send.Statement.{statement}

@@ -1,6 +1,6 @@
 -- The closes are a row of calls; each is handed the state that the one before left.
 use Rattle.exports.proofs.Handing.{Closing, calling-start, closing-turn, closing-end}
-use Rattle.exchange.specs.Calls.{closing}
+use Rattle.agreement.specs.Calls.{closing}
 use Rattle.exchange.specs.Replies.{stateAfter}
 use Prim.Native.Nat.{_-_}
 use native.Mathlib.Omega.{arith}

@@ -1,7 +1,7 @@
 -- The close of the state that the messages left.
 use Rattle.exports.specs.Deliveries.{stateClosed}
-use Rattle.exchange.specs.declared.Exchange.{Exchange}
-use Rattle.exchange.specs.Calls.{closing}
+use Rattle.drive_states.specs.declared.Exchange.{Exchange}
+use Rattle.agreement.specs.Calls.{closing}
 use Rattle.exchange.specs.Replies.{stateAfter}
 use mathlib.Core.Path.{ap, _∙_}
 use borrow.Author.Needs.{needs}

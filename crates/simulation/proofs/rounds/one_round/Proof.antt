@@ -1,7 +1,8 @@
 -- The messages, then the closes.
 use Rattle.simulation.proofs.RoundCalls.{round-made}
 use Rattle.simulation.specs.States.{closers}
-use Rattle.runs.specs.World.{World, closes, applyAll}
+use Rattle.runs.specs.World.{World, closes}
+use Rattle.agreement.specs.Document01.{applyAll}
 use mathlib.Core.List.{map}
 use mathlib.Core.Path.{sym, ap, _∙_}
 use borrow.Author.Needs.{needs}

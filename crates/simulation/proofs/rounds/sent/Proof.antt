@@ -1,9 +1,9 @@
 -- As many sends as the drive makes in this round.
 use Rattle.simulation.proofs.SenderCalls.{length-list}
 use Rattle.simulation.specs.States.{worldOf, listFor}
-use Rattle.runs.specs.World.{applyAll}
-use Rattle.runs.specs.Canonical.{deliveries}
-use Rattle.exchange.specs.Calls.{sending}
+use Rattle.agreement.specs.Document01.{applyAll}
+use Rattle.agreement.specs.Canonical.{deliveries}
+use Rattle.agreement.specs.Calls.{sending}
 use mathlib.Core.List.{List}
 use mathlib.Core.Path.{sym, ap, _∙_}
 use Prim.Native.Nat.{ℕ}
