@@ -13,7 +13,7 @@ ROOT = Path(__file__).resolve().parent.parent
 sys.path[:0] = [str(ROOT / "reference"), str(ROOT / "tests")]
 
 from cases import (calls, definitions, drives, exchanges, files, generated,  # noqa: E402
-                   marked)
+                   marked, samples)
 
 GROUPS = (
     marked.marked_cases, marked.example_cases,
@@ -23,6 +23,7 @@ GROUPS = (
     definitions.large_tables,
     drives.opening_cases, drives.state_refusals, drives.send_cases, drives.message_refusals,
     drives.message_cases, drives.close_cases,
+    samples.call_samples, samples.run_samples,
     exchanges.exchange_definitions,
     generated.generator_cases, generated.script_cases,
 )

@@ -3,13 +3,10 @@ what is expected."""
 
 from typing import Any, Callable
 
+from inputs.samples import A_SETS, PATTERNS  # noqa: F401
 from regdulyn import Refusal
 
 Case = tuple[str, Any, Any]
-
-# Case A's table and case B's pattern numbers.
-A_SETS = [1, 2, 0x3C]
-PATTERNS = [7, 5, 9, 1, 1, 1]
 
 
 def refusal(call: Callable, *arguments: Any) -> int:

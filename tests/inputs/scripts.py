@@ -1,5 +1,5 @@
-"""Seeded scripts for the call program: the limits of the calls given n and sets,
-then operations of every kind at random."""
+"""Seeded scripts for the call program: the samples, the limits of the calls given n
+and sets, then operations of every kind at random."""
 
 from itertools import chain
 from random import Random
@@ -7,6 +7,7 @@ from typing import Iterator
 
 from .calls import MAX_BYTES, Script
 from .exchanges import exchange, handmade, openings
+from .samples import make_samples
 from .set_calls import LIMITS, set_calls
 from .states import broken_states
 
@@ -14,9 +15,9 @@ OPERATIONS = 400
 
 
 def fixed_scripts() -> Iterator[Script]:
-    for limits in LIMITS:
+    for fixed in (make_samples, *LIMITS):
         script = Script()
-        limits(script)
+        fixed(script)
         yield script
 
 

@@ -4,29 +4,22 @@ use mathlib.Core.Bool.{Bool, false, not, _&&_, _||_, cond}
 use mathlib.Core.List.{List, [], _∷_}
 use mathlib.Core.Option.{Option, none, some}
 use Prim.Native.Nat.{ℕ, _+_, _-_}
-use lib.Dec.{leb, ltb, eqb}
-use lib.ListN.{length, set, replicate}
+use lib.Dec.{ltb, eqb}
+use lib.ListN.{set, replicate}
 use Rattle.drive_sets.specs.declared.Pattern.{Pattern}
-use Rattle.drive_sets.specs.declared.Refusal.the-variants.{EndsTooSoon, TrailingBytes, DriveNumber, NoRoom, KnownMask, AlreadyAccepted, OutsideCore, Halted, SenderMissing, PatternDiffers, OtherRound, ListenerSends, BrokenState}
+use Rattle.drive_sets.specs.declared.Refusal.the-variants.{DriveNumber, AlreadyAccepted, OutsideCore, Halted, SenderMissing, PatternDiffers, OtherRound, ListenerSends, BrokenState}
 use Rattle.drive_sets.specs.Lists.{smallest}
-use Rattle.drive_sets.specs.Masks.{has, single, full, union, subset, size, drives}
-use Rattle.drive_sets.specs.Refusals.{Outcome, refused, result, refuseIf, andThen}
-use Rattle.records.specs.declared.Kind.{Kind}
-use Rattle.records.specs.declared.Due.the-variants.{AtMessage}
-use Rattle.records.specs.Fields.{writtenAt}
-use Rattle.records.specs.Marks.{headOf}
+use Rattle.drive_sets.specs.Masks.{has, single, union, subset, size, drives}
+use Rattle.drive_sets.specs.Refusals.{Outcome, result, refuseIf, andThen}
+use Rattle.records.specs.LentBuffers.{fitting}
 use Rattle.tables.specs.Tables.{chosen, normalTable}
-use Rattle.tables.specs.Files.{atRecord}
 use Rattle.drive_states.specs.declared.Exchange.{Exchange}
 use Rattle.drive_states.specs.declared.Announcement.{Announcement}
 use Rattle.drive_states.specs.declared.Announcement.the-variants.{Absent, By}
 use Rattle.drive_states.specs.declared.Decision.{Decision}
 use Rattle.drive_states.specs.declared.Decision.the-variants.{Undecided, Decided}
 use Rattle.drive_states.specs.State.{isDrive, inCore, pattern, numberOf, isDecided, broken}
-use Rattle.drive_states.specs.Messages.{knownBytes, decideBytes, isKnown, senderOf, roundOf, maskOf, patternOf, Entry, entries, lengthOf}
-pub mod Laws
-pub mod Results
-pub mod Idle
+use Rattle.drive_states.specs.Messages.{Entry, Content, known, decided, Message, maskIn, entriesIn, knownOf, messageBytes, readMessage}
 pub mod Evaluated
 
 -- ---- opening: the table's refusals, then 8
@@ -59,119 +52,80 @@ opening n sets own number =
 -- ---- send: 28, 23, 27, 14
 
 -- an undecided core drive sends KN with all it knew when the round began; a decided one sends DC
-unfoldable pub outgoing : Exchange → Decision → List ℕ
-outgoing x Undecided = knownBytes (x .own .0) (x .round .0) (x .start) (numberOf x)
-outgoing x (Decided v) = decideBytes (x .own .0) (x .round .0) (v .0)
+unfoldable pub contentBy : Exchange → Decision → Content
+contentBy x Undecided = knownOf (x .start) (numberOf x)
+contentBy x (Decided v) = decided (v .0)
+
+unfoldable pub outgoing : Exchange → Message
+outgoing x = record { sender = x .own .0; round = x .round .0; content = contentBy x (x .decision) }
 
 -- the bytes that are written into a buffer of the given length from the starting place on
 unfoldable pub sending : Exchange → ℕ → ℕ → Outcome (List ℕ)
 sending x room start =
-    let bytes = outgoing x (x .decision) in
     refuseIf (broken x) BrokenState
     (refuseIf (x .halted) Halted
     (refuseIf (not (inCore x)) ListenerSends
-    (refuseIf (not (leb (start + length bytes) room)) NoRoom
-    (result bytes))))
+    (fitting start room (messageBytes (outgoing x)))))
 
--- the lent buffer afterwards; as it was where the call is refused
-unfoldable pub bufferAfter : Outcome (List ℕ) → ℕ → List ℕ → List ℕ
-bufferAfter (refused r) start buffer = buffer
-bufferAfter (result bytes) start buffer = writtenAt start bytes buffer
-
--- ---- message: 28, 23, then mark cut (1), 2, the rest up to a KN's mask cut (1), 8, 15, values cut (1), 7, then 22, 26, 24, 21, 25
-
--- 15: KN mask lacks the sender or has a bit above n
-unfoldable pub wrongMask : Kind → ℕ → List ℕ → Bool
-wrongMask kind n s = isKnown kind && not (has (senderOf s) (maskOf s) && subset (maskOf s) (full n))
+-- ---- message: 28, 23, those of its bytes, then 22, 26, 24, 21, 25
 
 -- 22: sender is oneself, or sender or a known drive is outside the core
-unfoldable pub outsideCore : Kind → Exchange → List ℕ → Bool
-outsideCore kind x s =
-    eqb (senderOf s) (x .own .0)
-    || not (has (senderOf s) (x .core))
-    || (isKnown kind && not (subset (maskOf s) (x .core)))
+unfoldable pub outsideCore : Exchange → Message → Bool
+outsideCore x m =
+    eqb (m .sender) (x .own .0) || not (has (m .sender) (x .core)) || not (subset (maskIn (m .content)) (x .core))
 
 -- 25: a pattern number differs from the one known for that drive
 unfoldable pub anyDiffers : Exchange → List Entry → Bool
 anyDiffers x [] = false
 anyDiffers x (e ∷ es) = (has (e .drive) (x .known) && not (eqb (numberOf x (e .drive)) (e .number))) || anyDiffers x es
 
-unfoldable pub differs : Kind → Exchange → List ℕ → Bool
-differs kind x s = isKnown kind && anyDiffers x (entries s)
-
 -- the pattern numbers with those of the entries
 unfoldable pub stored : List Pattern → List Entry → List Pattern
 stored numbers [] = numbers
 stored numbers (e ∷ es) = stored (set numbers (e .drive - 1) (pattern (e .number))) es
-
--- an accepted KN adds its drives' numbers
-unfoldable pub acceptKnown : Exchange → List ℕ → Exchange
-acceptKnown x s = record {
-  n = x .n;
-  own = x .own;
-  core = x .core;
-  round = x .round;
-  before = x .before;
-  heard = union (x .heard) (single (senderOf s));
-  known = union (x .known) (maskOf s);
-  start = x .start;
-  numbers = stored (x .numbers) (entries s);
-  announced = x .announced;
-  decision = x .decision;
-  halted = x .halted;
-}
 
 -- the announcement of the lower-numbered sender
 unfoldable pub lower : Announcement → ℕ → ℕ → Announcement
 lower Absent d v = By (record { 0 = d }) (record { 0 = v })
 lower (By e w) d v = cond (ltb d (e .0)) (By (record { 0 = d }) (record { 0 = v })) (By e w)
 
--- an accepted DC announces a decision
-unfoldable pub acceptDecide : Exchange → List ℕ → Exchange
-acceptDecide x s = record {
+unfoldable pub announcing : Announcement → ℕ → Content → Announcement
+announcing announced d (known mask entries) = announced
+announcing announced d (decided v) = lower announced d v
+
+-- the state after an accepted message: every accepted sender counts as heard, a KN adds its drives' numbers, a DC announces a decision
+unfoldable pub accept : Exchange → Message → Exchange
+accept x m = record {
   n = x .n;
   own = x .own;
   core = x .core;
   round = x .round;
   before = x .before;
-  heard = union (x .heard) (single (senderOf s));
-  known = x .known;
+  heard = union (x .heard) (single (m .sender));
+  known = union (x .known) (maskIn (m .content));
   start = x .start;
-  numbers = x .numbers;
-  announced = lower (x .announced) (senderOf s) (patternOf s);
+  numbers = stored (x .numbers) (entriesIn (m .content));
+  announced = announcing (x .announced) (m .sender) (m .content);
   decision = x .decision;
   halted = x .halted;
 }
 
--- the state after an accepted message: every accepted sender counts as heard
-unfoldable pub accept : Kind → Exchange → List ℕ → Exchange
-accept kind x s = cond (isKnown kind) (acceptKnown x s) (acceptDecide x s)
+-- a message that was read: 22, 26, 24, 21, 25
+unfoldable pub admitting : Exchange → Message → Outcome Exchange
+admitting x m =
+    refuseIf (outsideCore x m) OutsideCore
+    (refuseIf (not (eqb (m .round) (x .round .0))) OtherRound
+    (refuseIf (not (has (m .sender) (x .before))) SenderMissing
+    (refuseIf (has (m .sender) (x .heard)) AlreadyAccepted
+    (refuseIf (anyDiffers x (entriesIn (m .content))) PatternDiffers
+    (result (accept x m))))))
 
--- a whole message of this kind: 22, 26, 24, 21, 25
-unfoldable pub admitting : Kind → Exchange → List ℕ → Outcome Exchange
-admitting kind x s =
-    refuseIf (outsideCore kind x s) OutsideCore
-    (refuseIf (not (eqb (roundOf s) (x .round .0))) OtherRound
-    (refuseIf (not (has (senderOf s) (x .before))) SenderMissing
-    (refuseIf (has (senderOf s) (x .heard)) AlreadyAccepted
-    (refuseIf (differs kind x s) PatternDiffers
-    (result (accept kind x s))))))
-
--- a message of this kind, from its sender on: 8, 15, values cut (1), 7, and what follows
-unfoldable pub receivingOf : Kind → Exchange → List ℕ → Outcome Exchange
-receivingOf kind x s =
-    refuseIf (not (isDrive (x .n) (senderOf s))) DriveNumber
-    (refuseIf (wrongMask kind (x .n) s) KnownMask
-    (refuseIf (ltb (length s) (lengthOf kind s)) EndsTooSoon
-    (refuseIf (ltb (lengthOf kind s) (length s)) TrailingBytes
-    (admitting kind x s))))
-
--- 28, 23, then mark cut (1), 2, the rest up to a KN's mask cut (1), and what follows
+-- 28, 23, then what is read, and what follows
 unfoldable pub receiving : Exchange → List ℕ → Outcome Exchange
 receiving x s =
     refuseIf (broken x) BrokenState
     (refuseIf (x .halted) Halted
-    (atRecord (headOf AtMessage s) (λ kind. receivingOf kind x s)))
+    (andThen (readMessage (x .n) s) (admitting x)))
 
 -- ---- close: 28, 23
 

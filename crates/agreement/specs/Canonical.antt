@@ -8,6 +8,7 @@ use Rattle.drive_sets.specs.Masks.{size}
 use Rattle.drive_sets.specs.Refusals.{Outcome, refused, result}
 use Rattle.drive_states.specs.declared.Decision.{Decision}
 use Rattle.drive_states.specs.declared.Decision.the-variants.{Undecided, Decided}
+use Rattle.drive_states.specs.Messages.{longestMessage}
 use Rattle.runs.specs.World.{Call, opens, sends, delivers, closes, World, nothingOpen, decisionOf}
 use Rattle.agreement.specs.Document01.{applyAll, sendingOf}
 use Rattle.runs.specs.Scenario.{Scenario, frame, coreOf}
@@ -16,9 +17,9 @@ use Rattle.runs.specs.Runs.{sender, closer, joined}
 use Rattle.runs.specs.Statement.{Valid, Up}
 use Rattle.agreement.specs.Simulated.{Ending, decides, undecided, endingOf}
 
--- room for the longest message: 12 bytes and 64 numbers
+-- room for the longest message
 abbrev pub room : ℕ
-room = 140
+room = longestMessage
 
 unfoldable pub openingCalls : Scenario → List Call
 openingCalls s = map (λ d. opens d (s .n) (s .sets) d (s .proposal d)) (frame s)

@@ -17,8 +17,6 @@ use Rattle.runs.specs.Statement.{Valid, DecidesAfter}
 use Rattle.agreement.specs.Calls.{opening, sending, receiving, closing}
 use Rattle.agreement.specs.Sends.{reach}
 use Rattle.agreement.specs.Instance.{instanceOf}
-pub mod Undecided
-pub mod Theorems
 
 abbrev pub document01 : Protocol
 document01 = record { opening = opening; sending = sending; receiving = receiving; closing = closing; reach = reach }

@@ -6,7 +6,6 @@ use Rattle.drive_sets.specs.Masks.{has}
 use Rattle.runs.specs.Scenario.{Scenario, coreOf, goneBy, hasCrash}
 use Rattle.agreement.specs.Sends.{reach}
 use Rattle.sync_crash.specs.Rounds.{Instance}
-pub mod Laws
 
 abbrev pub instanceOf : Scenario → Instance
 instanceOf s = record {

@@ -7,7 +7,6 @@ use lib.ListN.{take}
 use Rattle.drive_sets.specs.Lists.{keep}
 use Rattle.drive_sets.specs.Masks.{has}
 use Rattle.runs.specs.Scenario.{Crash, stays, crashes, Scenario, frame, coreOf}
-pub mod Laws
 
 -- a sender sends to the other core drives, rising, then to the listeners, rising
 unfoldable pub listOf : Scenario → ℕ → List ℕ

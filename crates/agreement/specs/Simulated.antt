@@ -12,7 +12,6 @@ use Rattle.runs.specs.Scenario.{Crash, stays, crashes, Scenario, frame, coreOf}
 use Rattle.agreement.specs.Document01.{Run}
 use Rattle.agreement.specs.Instance.{instanceOf}
 use Rattle.runs.specs.Statement.{Valid, Untouched, Up, Proposed, coreCrashes, Decides, Agreed}
-pub mod Laws
 
 -- a drive decides on a pattern number in a round, or not at all; a drive with a CR counts as stopped, even if it decided before
 pub data Ending : Type 0 where

@@ -25,7 +25,7 @@ fn print_found(sets: &[u64]) {
 }
 
 // The sets found.
-pub fn print_list(r: SetList) {
+pub(crate) fn print_list(r: SetList) {
     let answer = r.answer;
     let count = r.count;
     let sets = r.sets;
@@ -62,7 +62,7 @@ fn print_verdict(v: Verdict) {
 }
 
 // Yes or no, and the four places for positions and for blocks.
-pub fn print_judgement(j: Judgement) {
+pub(crate) fn print_judgement(j: Judgement) {
     let answer = j.answer;
     let verdict = j.verdict;
     match answer {
@@ -71,7 +71,7 @@ pub fn print_judgement(j: Judgement) {
     }
 }
 
-pub fn print_meeting(m: Meeting) {
+pub(crate) fn print_meeting(m: Meeting) {
     match m {
         Meeting::Meets => print(b"meets\n"),
         Meeting::Misses => print(b"misses\n"),

@@ -2,21 +2,21 @@
 ghost use Prim.Native.Nat.{_≤_};
 use crate::script;
 
-pub fn count(list: &[u8]) -> usize
+pub(crate) fn count(list: &[u8]) -> usize
     ensures { λ r. ⌜ r ≤ 65535 ⌝ }
 {
     script::short(list, 0) as usize
 }
 
 // How many bytes the list has.
-pub fn width(list: &[u8]) -> usize
+pub(crate) fn width(list: &[u8]) -> usize
     ensures { λ r. ⌜ r ≤ 524282 ⌝ }
 {
     2 + 8 * count(list)
 }
 
 // The masks of the list, and what stands behind them.
-pub fn masks(list: &[u8]) -> [u64; 1026] {
+pub(crate) fn masks(list: &[u8]) -> [u64; 1026] {
     let mut masks = [0u64; 1026];
     let mut i = 0;
     while i < 1026 {
@@ -27,7 +27,7 @@ pub fn masks(list: &[u8]) -> [u64; 1026] {
 }
 
 // The first masks, so many or all there are.
-pub fn first(masks: &[u64], count: usize) -> &[u64] {
+pub(crate) fn first(masks: &[u64], count: usize) -> &[u64] {
     if masks.len() < count {
         return &masks[0..];
     }

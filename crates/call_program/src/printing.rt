@@ -7,31 +7,31 @@ use drive_states::Announcement;
 use drive_states::Decision;
 use drive_states::Exchange;
 use libc::STDOUT_FILENO;
+use records::Writing;
 use tables::reading::Answer;
-use tables::writing::Writing;
 
-pub fn print(text: &[u8]) {
+pub(crate) fn print(text: &[u8]) {
     io::write_all(STDOUT_FILENO, text);
 }
 
 // A word and a number in decimal.
-pub fn print_count(word: &[u8], x: u64) {
+pub(crate) fn print_count(word: &[u8], x: u64) {
     print(word);
     io::print_decimal(STDOUT_FILENO, x);
 }
 
 // A word and a mask in hexadecimal.
-pub fn print_mask(word: &[u8], m: u64) {
+pub(crate) fn print_mask(word: &[u8], m: u64) {
     print(word);
     io::print_hex(STDOUT_FILENO, m, 1);
 }
 
-pub fn print_refused(r: Refusal) {
+pub(crate) fn print_refused(r: Refusal) {
     print_count(b"refused ", r.number() as u64);
     print(b"\n");
 }
 
-pub fn print_answer(a: Answer) {
+pub(crate) fn print_answer(a: Answer) {
     match a {
         Answer::Accepted => print(b"accepted\n"),
         Answer::Refused(r) => print_refused(r),
@@ -43,7 +43,7 @@ fn print_written(size: usize) {
     print(b"\n");
 }
 
-pub fn print_writing(w: Writing) {
+pub(crate) fn print_writing(w: Writing) {
     match w {
         Writing::Wrote(size) => print_written(size),
         Writing::Refused(r) => print_refused(r),
@@ -89,7 +89,7 @@ fn print_digits(s: &[u8]) {
 }
 
 // A line with the bytes of a buffer.
-pub fn print_bytes(s: &[u8]) {
+pub(crate) fn print_bytes(s: &[u8]) {
     print(b"buffer ");
     print_digits(s);
     print(b"\n");
@@ -163,7 +163,7 @@ fn print_place(x: Exchange) {
 }
 
 // A line with every field of the state.
-pub fn print_state(x: Exchange) {
+pub(crate) fn print_state(x: Exchange) {
     let numbers = x.numbers;
     let announced = x.announced;
     let decision = x.decision;

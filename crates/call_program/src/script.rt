@@ -6,20 +6,20 @@ use drive_states::Announcement;
 use drive_states::Decision;
 use drive_states::Exchange;
 
-pub fn byte(s: &[u8], at: usize) -> u8 {
+pub(crate) fn byte(s: &[u8], at: usize) -> u8 {
     (records::field(s, at, 1) % 256) as u8
 }
 
-pub fn short(s: &[u8], at: usize) -> u16 {
+pub(crate) fn short(s: &[u8], at: usize) -> u16 {
     (records::field(s, at, 2) % 65536) as u16
 }
 
-pub fn wide(s: &[u8], at: usize) -> u64 {
+pub(crate) fn wide(s: &[u8], at: usize) -> u64 {
     records::field(s, at, 8)
 }
 
 // The first bytes, so many or all there are.
-pub fn first(s: &[u8], size: usize) -> &[u8] {
+pub(crate) fn first(s: &[u8], size: usize) -> &[u8] {
     if s.len() < size {
         return &s[0..];
     }
@@ -52,7 +52,7 @@ fn decision(s: &[u8]) -> Decision {
 }
 
 // The state that an operation L has.
-pub fn state(s: &[u8]) -> Exchange {
+pub(crate) fn state(s: &[u8]) -> Exchange {
     let n = byte(s, 1);
     let own = Drive(byte(s, 2));
     let core = wide(s, 3);

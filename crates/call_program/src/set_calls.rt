@@ -9,7 +9,7 @@ fn print_back(s: &[u8], groups: &[u64]) {
     answers::print_list(tables::calls::survivor_sets(n, groups));
 }
 
-pub fn back(s: &[u8]) {
+pub(crate) fn back(s: &[u8]) {
     let list = tables::files::rest(s, 2);
     let masks = lists::masks(list);
     print_back(s, lists::first(&masks, lists::count(list)));
@@ -39,7 +39,7 @@ fn write_sets(s: &[u8], sets: &[u64]) {
     write_part(n, sets, &mut buf, size, start);
 }
 
-pub fn write(s: &[u8]) {
+pub(crate) fn write(s: &[u8]) {
     let list = tables::files::rest(s, 12);
     let masks = lists::masks(list);
     write_sets(s, lists::first(&masks, lists::count(list)));
@@ -51,7 +51,7 @@ fn print_verdict(s: &[u8], sets: &[u64]) {
     answers::print_judgement(verdicts::calls::judge(k, n, sets));
 }
 
-pub fn judge(s: &[u8]) {
+pub(crate) fn judge(s: &[u8]) {
     let list = tables::files::rest(s, 3);
     let masks = lists::masks(list);
     print_verdict(s, lists::first(&masks, lists::count(list)));
@@ -63,7 +63,7 @@ fn print_meeting(s: &[u8], sets: &[u64]) {
     answers::print_meeting(tables::calls::meets_every(n, sets, group));
 }
 
-pub fn meet(s: &[u8]) {
+pub(crate) fn meet(s: &[u8]) {
     let list = tables::files::rest(s, 10);
     let masks = lists::masks(list);
     print_meeting(s, lists::first(&masks, lists::count(list)));

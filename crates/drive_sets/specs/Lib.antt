@@ -1,7 +1,8 @@
--- The definitions of sets of drives, of lists and of refusals, and the laws of tests and of optional values.
+-- The definitions of sets of drives, of lists and of refusals, the laws of tests and of optional values, and the laws of loops.
 pub mod Bools
 pub mod Filled
 pub mod Options
 pub mod Lists
+pub mod Loops
 pub mod Masks
 pub mod Refusals

@@ -1,12 +1,13 @@
 -- Sets of drives as masks: bit 0 (value 1) of a 64-bit number is drive 1. All of it computes on numerals.
 -- A drive is a process of the system; its number is 1 to 64, so 0 and 65 are in no set.
-use mathlib.Core.Bool.{Bool, false, not, cond}
+use mathlib.Core.Path.{_≡_}
+use mathlib.Core.Bool.{Bool, true, false, not, cond}
 use mathlib.Core.List.{List, [], _∷_}
-use Prim.Native.Nat.{ℕ, zero, suc, _-_, _/_, _%_, _^_, min}
+use Prim.Native.Nat.{ℕ, zero, suc, _-_, _/_, _%_, _^_, _<_, min}
 use lib.Bits.{bitAnd, bitOr}
 use lib.Count.{onesIn, trailingZeros}
 use lib.Dec.{eqb, ltb}
-use Rattle.drive_sets.specs.Lists.{range, keep}
+use Rattle.drive_sets.specs.Lists.{range, keep, elem}
 pub mod Bits
 pub mod Laws
 pub mod Outside
@@ -51,6 +52,10 @@ meets a b = not (eqb (bitAnd a b) 0)
 -- every drive of a is in b
 unfoldable pub subset : ℕ → ℕ → Bool
 subset a b = eqb (bitAnd a b) a
+
+-- no set of the list has a drive above n
+abbrev pub Below : ℕ → List ℕ → Type 0
+Below n sets = (s : ℕ) → elem s sets ≡ true → s < 2 ^ n
 
 -- how many drives m has: the count of ones
 unfoldable pub size : ℕ → ℕ

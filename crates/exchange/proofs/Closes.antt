@@ -27,6 +27,10 @@ use Rattle.drive_states.specs.State.{isDrive, inCore, numberIn, numberOf, isDec
 use Rattle.agreement.specs.Calls.{heardAtClose, quiet, decisionOn, quietDecision, decide, decisionAfter, halts, next, closing}
 use Rattle.exchange.specs.Replies.{replyOf, stateAfter, Replied}
 
+-- a reply to one thing is one to what equals it
+pub replied-as : {due same : Outcome Exchange} {x : Exchange} {r : Reply} → same ≡ due → Replied due x r → Replied same x r
+replied-as {x = x} e p = record { answer = p .answer ∙ sym e; state = p .state ∙ sym (ap (stateAfter x) e) }
+
 module _ (x : Exchange) where
   -- ---- quiet_decision
 

@@ -8,21 +8,9 @@ use Rattle.drive_sets.specs.Lists.{smaller, smallest}
 use Rattle.drive_sets.specs.Masks.{single, minus, size, lowest, drives}
 use Rattle.drive_sets.specs.Masks.Laws.{has-bounds, minus-lt}
 use Rattle.drive_sets.specs.Masks.Sizes.{lowest-has, drives-lowest, lowest-removed, drives-none}
+use Rattle.drive_sets.specs.Loops.Drives.{removed, taken-drives}
 use Rattle.drive_states.specs.declared.Decision.the-variants.{Undecided, Decided}
 use Rattle.agreement.specs.Calls.{decisionOn}
-
-pub lowest-bounds : (m d : ℕ) → m < 2 ^ 64 → (m ≡ 0 → ⊥) → d ≡ lowest m → (1 ≤ d) × (d ≤ 64)
-lowest-bounds m d h ne e = subst (λ (x : ℕ). (1 ≤ x) × (x ≤ 64)) (sym e) (has-bounds 64 (lowest m) m h (lowest-has m h ne))
-
-pub removed-less : (m d m' : ℕ) → m < 2 ^ 64 → (m ≡ 0 → ⊥) → d ≡ lowest m → m' ≡ minus m (single d) → size m' < size m
-removed-less m d m' h ne e g =
-    subst (λ (x : ℕ). size x < size m) (sym (g ∙ ap (λ (x : ℕ). minus m (single x)) e)) (lowest-removed m h ne)
-
--- the lowest drive stands first
-pub lowest-first : (m d m' : ℕ) → m < 2 ^ 64 → (m ≡ 0 → ⊥) → d ≡ lowest m → m' ≡ minus m (single d) → drives m ≡ d ∷ drives m'
-lowest-first m d m' h ne e g =
-    subst (λ (x : ℕ). drives m ≡ d ∷ drives x) (sym g)
-    (subst (λ (x : ℕ). drives m ≡ x ∷ drives (minus m (single x))) (sym e) (drives-lowest m h ne))
 
 smaller-twice : (a b : ℕ) (o : Option ℕ) → smaller a (some (smaller b o)) ≡ smaller (min a b) o
 unfolding smaller
@@ -37,7 +25,7 @@ module _ (f : ℕ → ℕ) where
 
   of-lowest : (m d m' : ℕ) → m < 2 ^ 64 → (m ≡ 0 → ⊥) → d ≡ lowest m → m' ≡ minus m (single d) → smallest f (drives m) ≡ some (smaller (f d) (smallest f (drives m')))
   unfolding smallest
-  of-lowest m d m' h ne e g = ap (smallest f) (lowest-first m d m' h ne e g)
+  of-lowest m d m' h ne e g = ap (smallest f) (taken-drives (removed h ne e g))
 
   pub least-start : (m d m' v : ℕ) → m < 2 ^ 64 → (m ≡ 0 → ⊥) → d ≡ lowest m → v ≡ f d → m' ≡ minus m (single d) → Least m v m'
   least-start m d m' v h ne e w g = record {

@@ -1,19 +1,13 @@
--- What the answer of a call that is handed a state says: a refusal, which keeps the state and the lent buffer, or the new state, or how
--- many bytes were written.
+-- What the answer of a call that is handed a state says: a refusal, which keeps the state, or the new state.
 use mathlib.Core.Path.{_≡_, refl}
 use mathlib.Core.Bool.{true}
-use mathlib.Core.List.{List}
-use Prim.Native.Nat.{ℕ}
-use lib.ListN.{length}
-use Rattle.drive_sets.specs.Refusals.{Outcome, refused, result, andThen}
-use Rattle.tables.specs.declared.writing.Writing.{Writing}
-use Rattle.tables.specs.Answers.{writingOutcome}
+use Rattle.drive_sets.specs.Refusals.{Outcome, refused, result}
 use Rattle.tables.specs.Reading.{outcomeOf}
 use Rattle.tables.specs.Tables.{isFrame}
 use Rattle.drive_states.specs.declared.Exchange.{Exchange}
 use Rattle.exchange.specs.declared.Reply.{Reply}
 use Rattle.drive_states.specs.State.{broken}
-use Rattle.agreement.specs.Calls.{initial, bufferAfter}
+use Rattle.agreement.specs.Calls.{initial}
 
 unfoldable pub replyOf : Reply → Outcome Exchange
 replyOf r = outcomeOf (r .answer) (r .state)
@@ -35,12 +29,3 @@ not-opened-broken = refl
 pub record Replied (due : Outcome Exchange) (x : Exchange) (r : Reply) : Type 0 where
   pub answer : replyOf r ≡ due
   pub state : r .state ≡ stateAfter x due
-
--- how many bytes are written
-abbrev pub sizeSent : Outcome (List ℕ) → Outcome ℕ
-sizeSent due = andThen due (λ bytes. result (length bytes))
-
--- a send: the answer and the lent bytes, each as its definition has it
-pub record Sent (due : Outcome (List ℕ)) (start : ℕ) (old new : List ℕ) (r : Writing) : Type 0 where
-  pub answer : writingOutcome r ≡ sizeSent due
-  pub buffer : new ≡ bufferAfter due start old

@@ -9,7 +9,6 @@ ghost use Rattle.agreement.specs.Calls.{heardAtClose, decisionOn, quietDecision
 ghost use Rattle.exchange.specs.Replies.{Replied};
 use crate::Reply;
 use crate::is_broken;
-use crate::number_at;
 use drive_sets::Pattern;
 use drive_sets::Refusal;
 use drive_sets::Round;
@@ -38,11 +37,13 @@ fn smallest_known(known: u64, numbers: [Pattern; 64]) -> Decision
         return Decision::Undecided;
     }
     let first = drive_sets::lowest(known);
-    let mut best = number_at(numbers, first);
+    let low = first.0;
+    let mut best = numbers[(low - 1) as usize];
     let mut m = drive_sets::remove(known, first);
     while m != 0 {
         let d = drive_sets::lowest(m);
-        let v = number_at(numbers, d);
+        let i = d.0;
+        let v = numbers[(i - 1) as usize];
         m = drive_sets::remove(m, d);
         if v.0 < best.0 {
             best = v;

@@ -2,18 +2,16 @@
 // each call gives is defined, and shown to reach agreement, in the crate `agreement`.
 ghost use mathlib.Core.Path.{_≡_};
 ghost use mathlib.Core.Bool.{not, _&&_};
-ghost use Prim.Native.Nat.{_≤_};
 ghost use lib.Dec.{leb};
 ghost use Rattle.drive_sets.specs.Masks.{has, subset, size};
-ghost use Rattle.drive_states.specs.State.{isDrive, numberIn, broken};
+ghost use Rattle.drive_states.specs.State.{isDrive, broken};
 use drive_sets::Drive;
-use drive_sets::Pattern;
 use drive_sets::Round;
 use drive_states::Exchange;
 use tables::reading::Answer;
 
 pub mod closing;
-mod fields;
+mod entries;
 pub mod opening;
 pub mod receiving;
 pub mod sending;
@@ -78,13 +76,4 @@ fn is_broken(x: Exchange) -> bool
         return true;
     }
     !all_inside(x.before, x.heard, x.known, x.start, core)
-}
-
-// The pattern number of a drive.
-fn number_at(numbers: [Pattern; 64], d: Drive) -> Pattern
-    requires { ⌜ (1 ≤ d .0) × (d .0 ≤ 64) ⌝ }
-    ensures { λ r. ⌜ r .0 ≡ numberIn numbers (d .0) ⌝ }
-{
-    let i = d.0;
-    numbers[(i - 1) as usize]
 }

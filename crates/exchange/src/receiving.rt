@@ -1,86 +1,43 @@
 // The message call: its refusals in document 01's order, then the state with what the message says.
 ghost use mathlib.Core.Path.{_≡_};
-ghost use Rattle.drive_sets.specs.Refusals.{refused};
-ghost use Rattle.drive_states.specs.Messages.{lengthOf};
-ghost use Rattle.agreement.specs.Calls.{wrongMask, outsideCore, differs, acceptKnown, lower, acceptDecide, accept, admitting, receivingOf, receiving};
+ghost use lib.ListN.{length};
+ghost use Rattle.drive_sets.specs.Refusals.{refused, andThen};
+ghost use Rattle.drive_states.specs.Messages.{entriesIn, senderOf, contentOf, messageOf, checked};
+ghost use Rattle.agreement.specs.Calls.{outsideCore, anyDiffers, lower, announcing, accept, admitting, receiving};
 ghost use Rattle.exchange.specs.Replies.{Replied};
 use crate::Reply;
-use crate::fields;
+use crate::entries;
 use drive_sets::Drive;
 use drive_sets::Pattern;
 use drive_sets::Refusal;
 use drive_states::Announcement;
 use drive_states::Exchange;
+use messages::reading;
 use records::Due;
 use records::Head;
 use records::Kind;
 use tables::reading::Answer;
 
-// 15: KN mask lacks the sender or has a bit above n.
-fn wrong_mask(kind: Kind, n: u8, s: &[u8]) -> bool
-    ensures { λ r. ⌜ r ≡ wrongMask kind n (now (s .entry)) ⌝ }
-{
-    if !fields::is_known(kind) {
-        return false;
-    }
-    let mask = fields::mask_of(s);
-    if !drive_sets::has(fields::sender_of(s), mask) {
-        return true;
-    }
-    !drive_sets::subset(mask, drive_sets::full(n))
-}
-
-// How long a message of this kind is: for a KN its mask says how many numbers follow.
-fn length_of(kind: Kind, s: &[u8]) -> usize
-    ensures { λ r. ⌜ r ≡ lengthOf kind (now (s .entry)) ⌝ }
-{
-    if !fields::is_known(kind) {
-        return 6;
-    }
-    let count = drive_sets::size(fields::mask_of(s));
-    12 + 2 * (count as usize)
-}
-
 // 22: sender is oneself, or sender or a known drive is outside the core.
 fn outside_core(kind: Kind, x: Exchange, s: &[u8]) -> bool
-    ensures { λ r. ⌜ r ≡ outsideCore kind x (now (s .entry)) ⌝ }
+    ensures { λ r. ⌜ r ≡ outsideCore x (messageOf kind (now (s .entry))) ⌝ }
 {
     let own = x.own;
-    let sender = fields::sender_of(s);
+    let sender = reading::sender_of(s);
     if sender.0 == own.0 {
         return true;
     }
     if !drive_sets::has(sender, x.core) {
         return true;
     }
-    if !fields::is_known(kind) {
-        return false;
-    }
-    !drive_sets::subset(fields::mask_of(s), x.core)
+    !drive_sets::subset(reading::mask_in(kind, s), x.core)
 }
 
 // 25: a pattern number differs from the one known for that drive.
 fn differs(kind: Kind, x: Exchange, s: &[u8]) -> bool
-    ensures { λ r. ⌜ r ≡ differs kind x (now (s .entry)) ⌝ }
+    ensures { λ r. ⌜ r ≡ anyDiffers x (entriesIn (contentOf kind (now (s .entry)))) ⌝ }
 {
-    if !fields::is_known(kind) {
-        return false;
-    }
-    fields::any_differs(x, fields::mask_of(s), s)
-}
-
-// An accepted KN adds its drives' numbers.
-fn accept_known(x: Exchange, s: &[u8]) -> Exchange
-    ensures { λ r. ⌜ r ≡ acceptKnown x (now (s .entry)) ⌝ }
-{
-    let mask = fields::mask_of(s);
-    let numbers = x.numbers;
-    let stored = fields::stored(numbers, mask, s);
-    let mut y = x;
-    y.heard = drive_sets::insert(x.heard, fields::sender_of(s));
-    y.known = x.known | mask;
-    y.numbers = stored;
-    y
+    entries::any_differs(x, reading::mask_in(kind, s), s)
 }
 
 // The announcement of the lower-numbered sender.
@@ -98,18 +55,29 @@ fn lower(announced: Announcement, d: Drive, v: Pattern) -> Announcement
     }
 }
 
-// An accepted DC announces a decision.
-fn accept_decide(x: Exchange, s: &[u8]) -> Exchange
-    ensures { λ r. ⌜ r ≡ acceptDecide x (now (s .entry)) ⌝ }
+// A DC announces a decision.
+fn announcing(announced: Announcement, kind: Kind, s: &[u8]) -> Announcement
+    ensures { λ r. ⌜ r ≡ announcing announced (senderOf (now (s .entry))) (contentOf kind (now (s .entry))) ⌝ }
+{
+    if records::is_kind(kind, Kind::Known) {
+        return announced;
+    }
+    lower(announced, reading::sender_of(s), reading::pattern_of(s))
+}
+
+// The state after an accepted message: every accepted sender counts as heard, a KN adds its drives' numbers, a DC announces a decision.
+fn accept(kind: Kind, x: Exchange, s: &[u8]) -> Exchange
+    ensures { λ r. ⌜ r ≡ accept x (messageOf kind (now (s .entry))) ⌝ }
 {
     let own = x.own;
     let round = x.round;
-    let numbers = x.numbers;
+    let held = x.numbers;
     let before = x.announced;
     let decision = x.decision;
-    let sender = fields::sender_of(s);
-    let heard = drive_sets::insert(x.heard, sender);
-    let announced = lower(before, sender, fields::pattern_of(s));
+    let mask = reading::mask_in(kind, s);
+    let numbers = entries::stored(held, mask, s);
+    let heard = drive_sets::insert(x.heard, reading::sender_of(s));
+    let announced = announcing(before, kind, s);
     Exchange {
         n: x.n,
         own,
@@ -117,23 +85,13 @@ fn accept_decide(x: Exchange, s: &[u8]) -> Exchange
         round,
         before: x.before,
         heard,
-        known: x.known,
+        known: x.known | mask,
         start: x.start,
         numbers,
         announced,
         decision,
         halted: x.halted,
     }
-}
-
-// The state after an accepted message: every accepted sender counts as heard.
-fn accept(kind: Kind, x: Exchange, s: &[u8]) -> Exchange
-    ensures { λ r. ⌜ r ≡ accept kind x (now (s .entry)) ⌝ }
-{
-    if fields::is_known(kind) {
-        return accept_known(x, s);
-    }
-    accept_decide(x, s)
 }
 
 // A refusal keeps the state.
@@ -148,17 +106,17 @@ fn refused(x: Exchange, r: Refusal) -> Reply
 
 // A whole message of this kind: 22, 26, 24, 21, 25.
 fn admit(kind: Kind, x: Exchange, s: &[u8]) -> Reply
-    ensures { λ r. ⌜ Replied (admitting kind x (now (s .entry))) x r ⌝ }
+    ensures { λ r. ⌜ Replied (admitting x (messageOf kind (now (s .entry)))) x r ⌝ }
 {
     if outside_core(kind, x, s) {
         return refused(x, Refusal::OutsideCore);
     }
     let current = x.round;
-    let round = fields::round_of(s);
+    let round = reading::round_of(s);
     if round.0 != current.0 {
         return refused(x, Refusal::OtherRound);
     }
-    let sender = fields::sender_of(s);
+    let sender = reading::sender_of(s);
     if !drive_sets::has(sender, x.before) {
         return refused(x, Refusal::SenderMissing);
     }
@@ -177,15 +135,15 @@ fn admit(kind: Kind, x: Exchange, s: &[u8]) -> Reply
 
 // A message of this kind, from its sender on: 8, 15, values cut (1), 7, and what follows.
 fn receive(kind: Kind, x: Exchange, s: &[u8]) -> Reply
-    ensures { λ r. ⌜ Replied (receivingOf kind x (now (s .entry))) x r ⌝ }
+    ensures { λ r. ⌜ Replied (andThen (checked (x .n) (length (now (s .entry))) (messageOf kind (now (s .entry)))) (admitting x)) x r ⌝ }
 {
-    if !crate::is_drive(x.n, fields::sender_of(s)) {
+    if !crate::is_drive(x.n, reading::sender_of(s)) {
         return refused(x, Refusal::DriveNumber);
     }
-    if wrong_mask(kind, x.n, s) {
+    if reading::wrong_mask(kind, x.n, s) {
         return refused(x, Refusal::KnownMask);
     }
-    let whole = length_of(kind, s);
+    let whole = reading::length_in(kind, s);
     if s.len() < whole {
         return refused(x, Refusal::EndsTooSoon);
     }

@@ -11,13 +11,13 @@ use borrow.Author.Tests.{leb-true, leb-false}
 use Rattle.drive_sets.specs.Bools.{by-test}
 use Rattle.drive_sets.specs.Refusals.{Outcome, refused, result, andThen}
 use Rattle.tables.specs.declared.reading.Answer.{Answer}
-use Rattle.tables.specs.declared.writing.Writing.{Writing}
-use Rattle.tables.specs.Answers.{writingOutcome}
+use Rattle.records.specs.declared.Writing.{Writing}
+use Rattle.records.specs.LentBuffers.{writingOutcome, sizeWritten, bufferAfter, Written}
 use Rattle.tables.specs.Reading.{outcomeOf}
 use Rattle.drive_states.specs.declared.Exchange.{Exchange}
 use Rattle.exchange.specs.declared.Reply.{Reply}
 use Rattle.agreement.specs.Calls.{opening, sending, receiving, closing}
-use Rattle.exchange.specs.Replies.{Replied, Sent, replyOf, stateAfter, sizeSent}
+use Rattle.exchange.specs.Replies.{Replied, replyOf, stateAfter}
 use Rattle.exports.specs.Deliveries.{oneAccepted, accepted, left, hand, handedOn, messagesAccepted, stateHanded, closesAccepted, sendInto, sentInto, sendsAccepted, bufferSent}
 
 -- ---- a row of calls
@@ -65,7 +65,7 @@ reply-counts : (due : Outcome Exchange) (x : Exchange) (r : Reply) → Replied d
 unfolding replyOf
 reply-counts due x r q one f = f (r .state) ∙ ap oneAccepted (q .answer)
 
-write-counts : (due : Outcome (List ℕ)) (w : Writing) → writingOutcome w ≡ sizeSent due → (one : ℕ) → one ≡ oneAccepted (writingOutcome w) → one ≡ oneAccepted due
+write-counts : (due : Outcome (List ℕ)) (w : Writing) → writingOutcome w ≡ sizeWritten due → (one : ℕ) → one ≡ oneAccepted (writingOutcome w) → one ≡ oneAccepted due
 write-counts (refused r) w e one f = f ∙ ap oneAccepted e
 write-counts (result bytes) w e one f = f ∙ ap oneAccepted e
 
@@ -117,7 +117,7 @@ module _ (times : ℕ) (x : Exchange) (start : ℕ) (old : List ℕ) where
   abbrev pub Sending : ℕ → ℕ → List ℕ → Type 0
   Sending i done buffer = Calling (sendInto x start) (sentInto start) times old i done buffer
 
-  pub sending-turn : (i done : ℕ) (buffer new : List ℕ) → Sending i done buffer → i < times → (w : Writing) → Sent (sending x (length buffer) start) start buffer new w
+  pub sending-turn : (i done : ℕ) (buffer new : List ℕ) → Sending i done buffer → i < times → (w : Writing) → Written (sending x (length buffer) start) start buffer new w
       → (one : ℕ) → one ≡ oneAccepted (writingOutcome w) → one ≤ 1 → Sending (i + 1) (done + one) new
   sending-turn i done buffer new g h w q one f few =
       calling-turn (sendInto x start) (sentInto start) times old i done buffer g h one (write-counts (sendInto x start buffer) w (q .answer) one f) few new (q .buffer)

@@ -13,12 +13,12 @@ use Rattle.drive_sets.specs.declared.Refusal.{Refusal}
 use Rattle.drive_sets.specs.declared.Refusal.the-variants.{NoRoom}
 use Rattle.drive_sets.specs.Refusals.{Outcome, refused, result, andThen}
 use Rattle.records.specs.Fields.{fromBytes}
-use Rattle.tables.specs.declared.completing.CoreTable.{CoreTable}
+use Rattle.tables.specs.declared.completing.TableWithCores.{TableWithCores}
 use Rattle.tables.specs.declared.files.TableFile.{TableFile}
 use Rattle.tables.specs.declared.reading.Answer.{Answer}
 use Rattle.tables.specs.declared.reading.Answer.the-variants as answers
-use Rattle.tables.specs.declared.writing.Writing.{Writing}
-use Rattle.tables.specs.Answers.{writingOutcome}
+use Rattle.records.specs.declared.Writing.{Writing}
+use Rattle.records.specs.LentBuffers.{writingOutcome}
 use Rattle.tables.specs.Complete.{Complete, ReadComplete, completeTable, completeOutcome, readWholeComplete, fileOutcome}
 use Rattle.tables.specs.Reading.{setsOf, outcomeOf}
 use Rattle.tables.specs.Tables.{cores, coreList}
@@ -68,7 +68,7 @@ module _ (q : Refusal) (p : Outcome (List ℕ)) (e : refused q ≡ p) (r : ℕ) 
   unfolding fitting listAfter
   told-refused = told (refused q) p e r old old f refl
 
-module _ (n : ℕ) (sets : List ℕ) (t : CoreTable) (e : completeOutcome t ≡ completeTable n sets) where
+module _ (n : ℕ) (sets : List ℕ) (t : TableWithCores) (e : completeOutcome t ≡ completeTable n sets) where
   pub cores-refused : (q : Refusal) → t .answer ≡ answers.Refused q → refused q ≡ coreList n sets
   unfolding coreList
   cores-refused q f = asks-refused n sets t e (λ table. result (cores table)) q f

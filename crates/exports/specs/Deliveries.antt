@@ -4,8 +4,9 @@ use Prim.Native.Nat.{ℕ, zero, suc, _+_}
 use lib.ListN.{length, take, drop}
 use Rattle.drive_sets.specs.Refusals.{Outcome, refused, result, andThen}
 use Rattle.drive_states.specs.declared.Exchange.{Exchange}
-use Rattle.agreement.specs.Calls.{opening, sending, bufferAfter, receiving, closing}
+use Rattle.agreement.specs.Calls.{opening, sending, receiving, closing}
 use Rattle.exchange.specs.Replies.{stateAfter}
+use Rattle.records.specs.LentBuffers.{bufferAfter}
 
 -- ---- a row of calls
 
@@ -86,3 +87,8 @@ sent n sets own number count size s times start buffer =
 unfoldable pub sentBytes : ℕ → List ℕ → ℕ → ℕ → ℕ → ℕ → List ℕ → ℕ → ℕ → List ℕ → Outcome (List ℕ)
 sentBytes n sets own number count size s times start buffer =
     andThen (opening n sets own number) (λ x. result (bufferSent times (stateClosed count size x s) start buffer))
+
+-- a lent buffer as it is given, or as it was where that is refused
+abbrev pub bufferOr : List ℕ → Outcome (List ℕ) → List ℕ
+bufferOr old (refused r) = old
+bufferOr old (result new) = new

@@ -10,7 +10,7 @@ use verdicts::Verdict;
 const REFUSED: u64 = 0x1_0000_0000;
 
 // A refusal's number above 2 ^ 32.
-pub fn refusal_code(r: Refusal) -> u64
+pub(crate) fn refusal_code(r: Refusal) -> u64
     ensures { λ c. ⌜ c ≡ codeOf (refused r) ⌝ }
 {
     REFUSED + r.number() as u64
@@ -27,7 +27,7 @@ fn first_sets(sets: &[u64], count: usize) -> &[u64]
 }
 
 // The first sets, so many or all there are, over the first places of out; how many they are. 14 where there are too few places.
-pub fn put_list(sets: &[u64], count: usize, out: &mut [u64]) -> u64
+pub(crate) fn put_list(sets: &[u64], count: usize, out: &mut [u64]) -> u64
     ensures { λ r. ⌜ r ≡ codeOf (countOf (fitting (now (out .entry)) (result (take count (now (sets .entry)))))) ⌝ }
     ensures { λ _. ⌜ now (out .exit) ≡ listAfter (now (out .entry)) (fitting (now (out .entry)) (result (take count (now (sets .entry))))) ⌝ }
 {
@@ -35,12 +35,12 @@ pub fn put_list(sets: &[u64], count: usize, out: &mut [u64]) -> u64
     if out.len() < part.len() {
         return refusal_code(Refusal::NoRoom);
     }
-    hitting_sets::slices::copy(part, out);
+    set_orders::slices::copy(part, out);
     part.len() as u64
 }
 
 // The first bytes, so many or all there are.
-pub fn first_bytes(s: &[u8], count: usize) -> &[u8]
+pub(crate) fn first_bytes(s: &[u8], count: usize) -> &[u8]
     ensures { λ r. ⌜ now r ≡ take count (now (s .entry)) ⌝ }
 {
     if s.len() < count {
@@ -50,7 +50,7 @@ pub fn first_bytes(s: &[u8], count: usize) -> &[u8]
 }
 
 // 0 for a yes, and for a no the first k positions, one byte each.
-pub fn verdict_code(v: Verdict, k: u8) -> u64
+pub(crate) fn verdict_code(v: Verdict, k: u8) -> u64
     ensures { λ r. ⌜ r ≡ codeOf (verdictCode (verdictOf v k)) ⌝ }
 {
     if v.shared {

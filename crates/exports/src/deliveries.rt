@@ -2,13 +2,13 @@
 ghost use mathlib.Core.Path.{_≡_};
 ghost use Prim.Native.Nat.{_≤_, _+_, min};
 ghost use lib.ListN.{length, drop};
-ghost use Rattle.tables.specs.Answers.{writingOutcome};
+ghost use Rattle.records.specs.LentBuffers.{writingOutcome};
 ghost use Rattle.tables.specs.Reading.{outcomeOf};
 ghost use Rattle.exports.specs.Deliveries.{oneAccepted, messagesAccepted, stateHanded, stateClosed, closesAccepted, sendsAccepted, bufferSent};
 use crate::answers;
 use drive_states::Exchange;
+use records::Writing;
 use tables::reading::Answer;
-use tables::writing::Writing;
 
 // The state after some messages, and how many of them are accepted.
 pub struct Handed {
@@ -48,7 +48,7 @@ fn further(at: usize, size: usize, end: usize) -> usize
 }
 
 // The messages, so many of `size` bytes each, handed over.
-pub fn deliver_all(x: Exchange, messages: &[u8], count: usize, size: usize) -> Handed
+pub(crate) fn deliver_all(x: Exchange, messages: &[u8], count: usize, size: usize) -> Handed
     ensures { λ r. ⌜ r .accepted ≡ messagesAccepted count size x (now (messages .entry)) ⌝ }
     ensures { λ r. ⌜ r .state ≡ stateHanded count size x (now (messages .entry)) ⌝ }
 {
@@ -69,7 +69,7 @@ pub fn deliver_all(x: Exchange, messages: &[u8], count: usize, size: usize) -> H
 }
 
 // The state after the messages and a close.
-pub fn close_round(x: Exchange, messages: &[u8], count: usize, size: usize) -> Exchange
+pub(crate) fn close_round(x: Exchange, messages: &[u8], count: usize, size: usize) -> Exchange
     ensures { λ r. ⌜ r ≡ stateClosed count size x (now (messages .entry)) ⌝ }
 {
     let handed = deliver_all(x, messages, count, size);
@@ -79,7 +79,7 @@ pub fn close_round(x: Exchange, messages: &[u8], count: usize, size: usize) -> E
 }
 
 // How many of the closes are accepted, each on the state that the one before left.
-pub fn close_all(x: Exchange, times: usize) -> usize
+pub(crate) fn close_all(x: Exchange, times: usize) -> usize
     ensures { λ r. ⌜ r ≡ closesAccepted times x ⌝ }
 {
     let mut state = x;
@@ -96,7 +96,7 @@ pub fn close_all(x: Exchange, times: usize) -> usize
 }
 
 // How many of the sends are accepted, all into the same bytes.
-pub fn send_all(x: Exchange, out: &mut [u8], start: usize, times: usize) -> usize
+pub(crate) fn send_all(x: Exchange, out: &mut [u8], start: usize, times: usize) -> usize
     ensures { λ r. ⌜ r ≡ sendsAccepted times x start (now (out .entry)) ⌝ }
     ensures { λ _. ⌜ now (out .exit) ≡ bufferSent times x start (now (out .entry)) ⌝ }
 {

@@ -8,18 +8,17 @@ ghost use Rattle.hitting_sets.specs.Hitting.{minimals};
 ghost use Rattle.drive_sets.specs.Refusals.{andThen};
 ghost use Rattle.tables.specs.Tables.{coreList};
 ghost use Rattle.tables.specs.Files.{writeTable};
-ghost use Rattle.tables.specs.Answers.{writeSize, bufferAfter};
+ghost use Rattle.records.specs.LentBuffers as lent;
 ghost use Rattle.verdicts.specs.Verdicts.{verdict};
-ghost use Rattle.listings.specs.RunListing.{runProgram};
-ghost use Rattle.listings.specs.Printing.{printedSize, printedBytes};
+ghost use Rattle.run_listing.specs.RunListing.{runProgram};
 ghost use Rattle.exports.specs.Codes.{codeOf, countOf, fitting, listAfter, setsRead, verdictCode};
-ghost use Rattle.exports.specs.Deliveries.{delivered, closed, sent, sentBytes};
+ghost use Rattle.exports.specs.Deliveries.{bufferOr, delivered, closed, sent, sentBytes};
 use drive_sets::Drive;
 use drive_sets::Pattern;
-use hitting_sets::MAX_CORES;
-use hitting_sets::sorting::Order;
+use records::Writing;
+use set_orders::MAX_CORES;
+use set_orders::sorting::Order;
 use tables::reading::Answer;
-use tables::writing::Writing;
 
 mod answers;
 mod deliveries;
@@ -55,7 +54,7 @@ pub extern "C" fn regdulyn_search_effort(sets: &[u64]) -> Effort
     ensures { λ r. ⌜ r .found ≡ min 1025 (length (minimals (now (sets .entry)))) ⌝ }
 {
     let mut cores = [0u64; MAX_CORES];
-    let r = hitting_sets::finding::find_measured(Order::BySize, sets, &mut cores);
+    let r = core_search::finding::measured_search(Order::BySize, sets, &mut cores);
     Effort {
         found: r.found as u64,
         turn: r.turn as u64,
@@ -84,8 +83,8 @@ pub extern "C" fn regdulyn_read_table(s: &[u8], out: &mut [u64]) -> u64
 // The normal table of n drives and some sets into buf, from the starting place on; how many bytes.
 #[no_mangle]
 pub extern "C" fn regdulyn_write_table(n: u8, sets: &[u64], buf: &mut [u8], start: usize) -> u64
-    ensures { λ r. ⌜ r ≡ codeOf (writeSize n (now (sets .entry)) start (now (buf .entry))) ⌝ }
-    ensures { λ _. ⌜ now (buf .exit) ≡ bufferAfter (now (buf .entry)) (writeTable n (now (sets .entry)) start (now (buf .entry))) ⌝ }
+    ensures { λ r. ⌜ r ≡ codeOf (lent.sizeWritten (andThen (writeTable n (now (sets .entry))) (lent.fitting start (length (now (buf .entry)))))) ⌝ }
+    ensures { λ _. ⌜ now (buf .exit) ≡ lent.bufferAfter (andThen (writeTable n (now (sets .entry))) (lent.fitting start (length (now (buf .entry))))) start (now (buf .entry)) ⌝ }
 {
     let w = tables::writing::write_table(n, sets, buf, start);
     match w {
@@ -149,7 +148,7 @@ pub extern "C" fn regdulyn_send(
     times: u32,
 ) -> u64
     ensures { λ r. ⌜ r ≡ codeOf (sent n (now (sets .entry)) own number count size (now (messages .entry)) times start (now (out .entry))) ⌝ }
-    ensures { λ _. ⌜ now (out .exit) ≡ bufferAfter (now (out .entry)) (sentBytes n (now (sets .entry)) own number count size (now (messages .entry)) times start (now (out .entry))) ⌝ }
+    ensures { λ _. ⌜ now (out .exit) ≡ bufferOr (now (out .entry)) (sentBytes n (now (sets .entry)) own number count size (now (messages .entry)) times start (now (out .entry))) ⌝ }
 {
     let opened = exchange::opening::open(n, sets, Drive(own), Pattern(number));
     let answer = opened.answer;
@@ -192,10 +191,10 @@ pub extern "C" fn regdulyn_close(
 // What the run program prints for some bytes, into out, from the starting place on; how many bytes.
 #[no_mangle]
 pub extern "C" fn regdulyn_run_listing(input: &[u8], out: &mut [u8], start: usize) -> u64
-    ensures { λ r. ⌜ r ≡ codeOf (printedSize (runProgram (now (input .entry))) start (now (out .entry))) ⌝ }
-    ensures { λ _. ⌜ now (out .exit) ≡ bufferAfter (now (out .entry)) (printedBytes (runProgram (now (input .entry))) start (now (out .entry))) ⌝ }
+    ensures { λ r. ⌜ r ≡ codeOf (lent.sizeWritten (lent.fitting start (length (now (out .entry))) (runProgram (now (input .entry))))) ⌝ }
+    ensures { λ _. ⌜ now (out .exit) ≡ lent.bufferAfter (lent.fitting start (length (now (out .entry))) (runProgram (now (input .entry)))) start (now (out .entry)) ⌝ }
 {
-    let w = listings::programs::run_listing(input, out, start);
+    let w = run_listing::programs::run_listing(input, out, start);
     match w {
         Writing::Refused(r) => answers::refusal_code(r),
         Writing::Wrote(size) => size as u64,

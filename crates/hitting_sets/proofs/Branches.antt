@@ -1,4 +1,4 @@
--- Where a set is missed, the drives with which the search goes on: those that are not barred, and none where m is doomed.
+-- Where a set is missed, the drives with which the search goes on: those that are not forbidden, and none where m cannot be extended.
 use mathlib.Core.Path.{_≡_, sym, ap, ap₂, _∙_, subst}
 use mathlib.Core.Bool.{true, false, not}
 use mathlib.Core.List.{List, [], _∷_, _++_}
@@ -9,14 +9,15 @@ use lib.ListN.{length, getD, take, drop, take-append-drop}
 use lib.Seq.{take-suc, drop-cons}
 use borrow.Author.Tests.{not-true}
 use Rattle.drive_sets.specs.Bools.{clash, and-left, and-right}
-use Rattle.drive_sets.specs.Masks.{has, single, union, minus, meets, drives}
+use Rattle.drive_sets.specs.Masks.{has, single, union, minus, meets, drives, Below}
 use Rattle.drive_sets.specs.Masks.Laws.{has-none, has-minus}
 use Rattle.drive_sets.specs.Masks.Sizes.{drives-none}
 use Rattle.hitting_sets.specs.Hitting.{Minimal, forEach, search}
-use Rattle.hitting_sets.specs.Hitting.Laws.{Below, below-places, below-left}
-use Rattle.hitting_sets.specs.Hitting.Barred.{free-minimal, search-free}
-use Rattle.hitting_sets.specs.Hitting.Doomed.{doomed-search}
-use Rattle.hitting_sets.specs.LookAhead.{barred, doomed}
+use Rattle.drive_sets.specs.Masks.Frames.{below-places}
+use Rattle.hitting_sets.specs.Hitting.SearchLaws.{below-now}
+use Rattle.hitting_sets.specs.Hitting.Forbidden.{free-minimal, search-free}
+use Rattle.hitting_sets.specs.Hitting.CannotExtend.{cannot-extend-search}
+use Rattle.hitting_sets.specs.LookAhead.{forbidden, cannotExtend}
 use Rattle.hitting_sets.specs.Missed.{Candidates}
 
 -- m is a minimal hitting set of the sets before i, and misses the set at i
@@ -30,25 +31,25 @@ module _ (sets : List ℕ) (i m : ℕ) (words : (k : ℕ) → getD sets k 0 < 2 
   now-is : take (i + 1) sets ≡ take i sets ++ (s ∷ [])
   now-is = ap (λ (k : ℕ). take k sets) (add-one i) ∙ take-suc sets i 0 inside
 
-  below-now : Below 64 (take i sets ++ (s ∷ []))
-  below-now = subst (Below 64) now-is (below-left 64 (take (i + 1) sets) (drop (i + 1) sets) (subst (Below 64) (sym (take-append-drop (i + 1) sets)) (below-places 64 sets words)))
+  below-here : Below 64 (take i sets ++ (s ∷ []))
+  below-here = below-now (take i sets) s (drop (suc i) sets) (subst (λ (l : List ℕ). Below 64 (take i sets ++ l)) (drop-cons sets i 0 inside) below)
 
-  pub free-candidates : (bar r : ℕ) → bar ≡ barred (take (i - 0) sets) m (drives m) → r ≡ minus s bar → Candidates sets i m r
-  free-candidates bar r p q = subst (Candidates sets i m) (sym (q ∙ ap (minus s) (p ∙ ap (λ (k : ℕ). barred (take k sets) m (drives m)) (sub-zero i)))) (record {
+  pub free-candidates : (bar r : ℕ) → bar ≡ forbidden (take (i - 0) sets) m (drives m) → r ≡ minus s bar → Candidates sets i m r
+  free-candidates bar r p q = subst (Candidates sets i m) (sym (q ∙ ap (minus s) (p ∙ ap (λ (k : ℕ). forbidden (take k sets) m (drives m)) (sub-zero i)))) (record {
     listed = ap (λ (l : List ℕ). search (take i sets) l m) (drop-cons sets i 0 inside)
-        ∙ (search-free (take i sets) s m below-now min missed (drop (suc i) sets)
-        ∙ ap₂ (λ (l k : List ℕ). forEach (search l k) m (drives (minus s (barred (take i sets) m (drives m))))) (sym now-is) (ap (λ (k : ℕ). drop k sets) (sym (add-one i))));
+        ∙ (search-free (take i sets) s m below-here min missed (drop (suc i) sets)
+        ∙ ap₂ (λ (l k : List ℕ). forEach (search l k) m (drives (minus s (forbidden (take i sets) m (drives m))))) (sym now-is) (ap (λ (k : ℕ). drop k sets) (sym (add-one i))));
     minimal = λ d h.
-        let both = sym (has-minus d s (barred (take i sets) m (drives m))) ∙ h in
+        let both = sym (has-minus d s (forbidden (take i sets) m (drives m))) ∙ h in
         subst (λ (l : List ℕ). Minimal l (union m (single d))) (sym now-is)
-        (free-minimal (take i sets) s m below-now min missed d (and-left (has d s) (not (has d (barred (take i sets) m (drives m)))) both)
-        (not-true (has d (barred (take i sets) m (drives m))) (and-right (has d s) (not (has d (barred (take i sets) m (drives m)))) both)));
+        (free-minimal (take i sets) s m below-here min missed d (and-left (has d s) (not (has d (forbidden (take i sets) m (drives m)))) both)
+        (not-true (has d (forbidden (take i sets) m (drives m))) (and-right (has d s) (not (has d (forbidden (take i sets) m (drives m)))) both)));
   })
 
-  pub doomed-candidates : doomed sets m ≡ true → Candidates sets i m 0
+  pub cannot-extend-candidates : cannotExtend sets m ≡ true → Candidates sets i m 0
   unfolding forEach
-  doomed-candidates h = record {
-    listed = doomed-search (take i sets) (drop i sets) m below min (ap (λ (l : List ℕ). doomed l m) (take-append-drop i sets) ∙ h)
+  cannot-extend-candidates h = record {
+    listed = cannot-extend-search (take i sets) (drop i sets) m below min (ap (λ (l : List ℕ). cannotExtend l m) (take-append-drop i sets) ∙ h)
         ∙ sym (ap (forEach (search (take (i + 1) sets) (drop (i + 1) sets)) m) drives-none);
     minimal = λ d e. absurd (clash e (has-none d));
   }

@@ -12,7 +12,7 @@ use Rattle.drive_sets.specs.Bools.{by-test}
 use Rattle.drive_sets.specs.Masks.{meets}
 use Rattle.hitting_sets.specs.Hitting.{Minimal, forEach, search}
 use Rattle.hitting_sets.specs.Hitting.Laws.{hits-one, minimal-more}
-use Rattle.hitting_sets.specs.Hitting.Found.{search-met}
+use Rattle.hitting_sets.specs.Hitting.SearchLaws.{search-met}
 use Rattle.hitting_sets.specs.Missed.{FirstMissed}
 
 -- what is listed from m, one place behind i, with each of the drives ds

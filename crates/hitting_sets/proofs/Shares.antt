@@ -15,7 +15,8 @@ use Rattle.drive_sets.specs.Masks.Laws.{has-bounds, common-lt-right}
 use Rattle.drive_sets.specs.Masks.Sizes.{size-single}
 use Rattle.drive_sets.specs.Masks.OneDrive.{lone-has, lone-single, single-has, has-one}
 use Rattle.hitting_sets.specs.LookAhead.{inAll, privates}
-use Rattle.hitting_sets.proofs.Scans.{Back, back-start, back-turn, back-end, all-more, kept-more, kept-skip}
+use Rattle.drive_sets.specs.Loops.Back.{Back, back-start, back-turn, back-end}
+use Rattle.hitting_sets.proofs.OneMore.{kept-more, kept-skip}
 
 -- what the private sets of d share
 abbrev pub Shared : ℕ → ℕ → List ℕ → ℕ
@@ -38,8 +39,8 @@ sharing-start sets m = record {
 module _ (sets : List ℕ) (m i : ℕ) (of : List ℕ) (h : Sharing sets m i of) (lt : 0 < i) where
   -- the set shares one drive with m: the lowest that they share
   module _ (word : m < 2 ^ 64) (e : size (common (getD sets (i - 1) 0) m) ≡ 1) (k : ℕ) (p : k ≡ lowest (common (getD sets (i - 1) 0) m)) where
-    alone-in : common (getD sets (i - 1) 0) m ≡ single k
-    alone-in = lone-single (common (getD sets (i - 1) 0) m) (common-lt-right 64 (getD sets (i - 1) 0) m word) e ∙ ap single (sym p)
+    private-to : common (getD sets (i - 1) 0) m ≡ single k
+    private-to = lone-single (common (getD sets (i - 1) 0) m) (common-lt-right 64 (getD sets (i - 1) 0) m word) e ∙ ap single (sym p)
 
     pub shared-bounds : (1 ≤ k) × (k ≤ 64)
     shared-bounds =
@@ -49,7 +50,7 @@ module _ (sets : List ℕ) (m i : ℕ) (of : List ℕ) (h : Sharing sets m i of)
 
     -- y is put at its place j
     pub sharing-one : (j y : ℕ) → j ≡ k - 1 → y ≡ common (getD sets (i - 1) 0) (getD of j 0) → Sharing sets m (i - 1) (set of j y)
-    unfolding privates
+    unfolding privates inAll
     sharing-one j y j-is q = record {
       within = omega (arith, h .within);
       places = length-set of j y ∙ h .places;
@@ -70,17 +71,17 @@ module _ (sets : List ℕ) (m i : ℕ) (of : List ℕ) (h : Sharing sets m i of)
             let same : d - 1 ≡ j = omega arith in
             let bound : j < length of = omega (arith, h .places, low-k, high-k) in
             subst (Back (Shared m d) sets (i - 1)) (sym (ap (λ (x : ℕ). getD (set of j y) x 0) same ∙ getD-set-same of j y 0 bound))
-            (back-turn (Shared m d) sets i (getD of (d - 1) 0) y (h .each d (omega (arith, low-k)) (omega (arith, high-k))) lt
+            (back-turn (h .each d (omega (arith, low-k)) (omega (arith, high-k))) lt y
             (kept-more inAll (λ s. eqb (common s m) (single d)) (getD sets (i - 1) 0) (getD of (d - 1) 0)
-            (eq-eqb _ _ (alone-in ∙ ap single (sym t))) y
-            (λ l r. q ∙ (ap (λ (x : ℕ). common (getD sets (i - 1) 0) (getD of x 0)) (sym same) ∙ all-more (getD sets (i - 1) 0) (getD of (d - 1) 0) l r))))
+            (eq-eqb _ _ (private-to ∙ ap single (sym t))) y
+            (λ l r. q ∙ ap (common (getD sets (i - 1) 0)) (ap (λ (x : ℕ). getD of x 0) (sym same) ∙ r))))
 
         other : (d : ℕ) → 1 ≤ d → d ≤ 64 → (d ≡ k → ⊥) → Back (Shared m d) sets (i - 1) (getD (set of j y) (d - 1) 0)
         other d low high t =
             subst (Back (Shared m d) sets (i - 1)) (sym (getD-set-other of j (d - 1) y 0 (λ z. t (omega (arith, low-k)))))
-            (back-turn (Shared m d) sets i (getD of (d - 1) 0) (getD of (d - 1) 0) (h .each d low high) lt
+            (back-turn (h .each d low high) lt (getD of (d - 1) 0)
             (kept-skip inAll (λ s. eqb (common s m) (single d)) (getD sets (i - 1) 0) (getD of (d - 1) 0)
-            (ne-eqb _ _ (λ z. t (has-one k low-k high-k d (ap (has d) (sym alone-in ∙ z) ∙ single-has d low high))))))
+            (ne-eqb _ _ (λ z. t (has-one k low-k high-k d (ap (has d) (sym private-to ∙ z) ∙ single-has d low high))))))
 
   pub sharing-none : (size (common (getD sets (i - 1) 0) m) ≡ 1 → ⊥) → Sharing sets m (i - 1) of
   unfolding privates
@@ -88,10 +89,10 @@ module _ (sets : List ℕ) (m i : ℕ) (of : List ℕ) (h : Sharing sets m i of)
     within = omega (arith, h .within);
     places = h .places;
     each = λ d low high.
-        back-turn (Shared m d) sets i (getD of (d - 1) 0) (getD of (d - 1) 0) (h .each d low high) lt
+        back-turn (h .each d low high) lt (getD of (d - 1) 0)
         (kept-skip inAll (λ s. eqb (common s m) (single d)) (getD sets (i - 1) 0) (getD of (d - 1) 0)
         (ne-eqb _ _ (λ z. ne (ap size z ∙ size-single d low high))));
   }
 
 pub sharing-end : (sets : List ℕ) (m i : ℕ) (of : List ℕ) → Sharing sets m i of → i ≤ 0 → (d : ℕ) → 1 ≤ d → d ≤ 64 → getD of (d - 1) 0 ≡ inAll (privates sets m d)
-sharing-end sets m i of h le d low high = back-end (Shared m d) sets i (getD of (d - 1) 0) (h .each d low high) le
+sharing-end sets m i of h le d low high = back-end (h .each d low high) le

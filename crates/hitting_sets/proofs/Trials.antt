@@ -10,14 +10,14 @@ use lib.ListN.{length, take, drop, set, length-append}
 use lib.Seq.{drop-set-lt}
 use borrow.Author.Tests.{leb-true, ltb-true, leb-false, ltb-false}
 use Rattle.drive_sets.specs.Bools.{by-test, and-left, and-right, and-not}
-use Rattle.drive_sets.specs.Masks.{has, single, union, minus, lowest, drives}
+use Rattle.drive_sets.specs.Masks.{has, single, union, drives}
 use Rattle.drive_sets.specs.Masks.Sizes.{drives-none}
 use Rattle.drive_sets.specs.Filled.{Filled}
 use Rattle.drive_sets.specs.Filled.Laws.{filled-none, filled-one, filled-over, filled-then, filled-same}
 use Rattle.hitting_sets.specs.Hitting.{Minimal, forEach}
 use Rattle.hitting_sets.specs.Missed.{FirstMissed, Candidates}
 use Rattle.hitting_sets.specs.Fuel.{Searched}
-use Rattle.hitting_sets.proofs.Walks.{walk-has, walk-first, walk-word, walk-left}
+use Rattle.drive_sets.specs.Loops.Drives.{Taken, taken-has, taken-drives, taken-lt, taken-left}
 use Rattle.hitting_sets.proofs.Places.{From, Each, from-end, passed-search}
 
 -- ---- no set is missed: m alone is listed, if there is room
@@ -74,31 +74,28 @@ try-start {sets = sets} {m = m} {pos = pos} {i = i} out f c w le =
     }
 
 module _ {limited : Bool} {fuel : ℕ} {sets : List ℕ} {m pos i : ℕ} {out₀ out : List ℕ} {count found left rest : ℕ} (y : Trying limited fuel sets m pos i out₀ out count found left rest) where
-  -- d is the lowest drive, t is m with d, and `next` has the others
-  module _ (d : ℕ) (ne : rest ≡ 0 → ⊥) (p : d ≡ lowest rest) (t : ℕ) (q : t ≡ union m (single d)) where
+  -- t is m with the lowest drive, and `next` has the others
+  module _ {d next : ℕ} (w : Taken rest d next) (t : ℕ) (q : t ≡ union m (single d)) where
     pub try-minimal : Minimal (take (i + 1) sets) t
-    try-minimal = subst (Minimal (take (i + 1) sets)) (sym q) (y .minimal d (walk-has rest d (y .word) ne p))
+    try-minimal = subst (Minimal (take (i + 1) sets)) (sym q) (y .minimal d (taken-has w))
 
-    module _ (next : ℕ) (n : next ≡ minus rest (single (lowest rest))) where
-      lists : Each sets i m (drives rest) ≡ From sets t (i + 1) ++ Each sets i m (drives next)
-      unfolding forEach
-      lists =
-          ap (Each sets i m) (walk-first rest d (y .word) ne p next n)
-          ∙ ap (λ (x : ℕ). From sets x (i + 1) ++ Each sets i m (drives next)) (sym q)
+    lists : Each sets i m (drives rest) ≡ From sets t (i + 1) ++ Each sets i m (drives next)
+    unfolding forEach
+    lists = ap (Each sets i m) (taken-drives w) ∙ ap (λ (x : ℕ). From sets x (i + 1) ++ Each sets i m (drives next)) (sym q)
 
-      pub try-on : 0 < left → {o : List ℕ} {found' left' : ℕ} → Searched limited left out o found found' left' (From sets t (i + 1)) → length o ≡ length out
-          → Trying limited fuel sets m pos i out₀ o count found' left' next
-      try-on lt {o} {found'} {left'} s l = record {
-        word = walk-word rest d (y .word) ne p next n;
-        minimal = λ e h. y .minimal e (walk-left rest d (y .word) ne p next n e h);
-        bound = omega (arith, s .bound);
-        more = omega (arith, y .more, s .more);
-        room = l ∙ y .room;
-        some = omega (arith, y .some, s .some, ap length lists, length-append (From sets t (i + 1)) (Each sets i m (drives next)));
-        whole = λ lt' o' r h. y .whole lt o' r (filled-same lists (filled-then out o o' found found' r (From sets t (i + 1)) (Each sets i m (drives next)) l (s .ended lt') h));
-        unspent = λ e. s .unspent e ∙ y .unspent e;
-        behind = λ k h. s .behind k h ∙ y .behind k (omega (arith, s .more));
-      }
+    pub try-on : 0 < left → {o : List ℕ} {found' left' : ℕ} → Searched limited left out o found found' left' (From sets t (i + 1)) → length o ≡ length out
+        → Trying limited fuel sets m pos i out₀ o count found' left' next
+    try-on lt {o} {found'} {left'} s l = record {
+      word = taken-lt w 64 (y .word);
+      minimal = λ e h. y .minimal e (taken-left w e h);
+      bound = omega (arith, s .bound);
+      more = omega (arith, y .more, s .more);
+      room = l ∙ y .room;
+      some = omega (arith, y .some, s .some, ap length lists, length-append (From sets t (i + 1)) (Each sets i m (drives next)));
+      whole = λ lt' o' r h. y .whole lt o' r (filled-same lists (filled-then out o o' found found' r (From sets t (i + 1)) (Each sets i m (drives next)) l (s .ended lt') h));
+      unspent = λ e. s .unspent e ∙ y .unspent e;
+      behind = λ k h. s .behind k h ∙ y .behind k (omega (arith, s .more));
+    }
 
   -- the search stops with what is found: all of it if the fuel is not used up
   module _ (all : 0 < left → Filled out₀ out count found (From sets m pos)) where

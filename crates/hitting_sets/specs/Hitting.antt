@@ -8,13 +8,16 @@ use lib.Dec.{eqb}
 use Rattle.drive_sets.specs.Lists.{all}
 use Rattle.drive_sets.specs.Masks.{single, union, common, meets, subset, size, drives}
 pub mod Laws
-pub mod Alone
+pub mod Normal
+pub mod Critical
 pub mod Minimality
 pub mod Growth
-pub mod Found
+pub mod SearchLaws
 pub mod Distinct
-pub mod Barred
-pub mod Doomed
+pub mod Listed
+pub mod Duality
+pub mod Forbidden
+pub mod CannotExtend
 
 -- m meets every one of the sets
 unfoldable pub hits : List ℕ → ℕ → Bool
@@ -27,11 +30,11 @@ pub record Minimal (sets : List ℕ) (m : ℕ) : Type 0 where
 
 -- ---- the search: Berge's method, depth first
 
--- the drives of m that are alone in m in some set: that set is private to the drive
-unfoldable pub alone : List ℕ → ℕ → ℕ
-alone [] m = 0
-alone (s ∷ sets) m =
-    let rest = alone sets m in
+-- the critical drives of m: those that are alone in m in some set, which is private to the drive
+unfoldable pub critical : List ℕ → ℕ → ℕ
+critical [] m = 0
+critical (s ∷ sets) m =
+    let rest = critical sets m in
     let more = union (common s m) rest in
     cond (eqb (size (common s m)) 1) more rest
 
@@ -47,7 +50,7 @@ search seen [] m = m ∷ []
 search seen (s ∷ sets) m =
     let now = seen ++ (s ∷ []) in
     let on = search now sets m in
-    let tried = forEach (λ t. let below = search now sets t in cond (eqb (alone now t) t) below []) m (drives s) in
+    let tried = forEach (λ t. let below = search now sets t in cond (eqb (critical now t) t) below []) m (drives s) in
     cond (meets s m) on tried
 
 -- the minimal hitting sets, in the search's order

@@ -1,11 +1,11 @@
--- What m rules out: the drives that no minimal hitting set that holds m takes (barred), and the look-ahead, a test that none holds m.
-use mathlib.Core.Bool.{Bool, not, _&&_}
+-- What m rules out: the drives that no minimal hitting set that holds m takes (forbidden), and the look-ahead, a test that none holds m.
+use mathlib.Core.Bool.{Bool, not}
 use mathlib.Core.List.{List, [], _∷_}
 use Prim.Native.Nat.{ℕ}
 use lib.Dec.{eqb}
 use Rattle.drive_sets.specs.Lists.{keep, any}
-use Rattle.drive_sets.specs.Masks.{single, full, union, common, minus, meets, subset, drives}
-use Rattle.hitting_sets.specs.Hitting.{alone}
+use Rattle.drive_sets.specs.Masks.{single, full, union, common, minus, subset, drives}
+use Rattle.hitting_sets.specs.Hitting.{critical}
 
 -- the drives that are in every one of the sets
 unfoldable pub inAll : List ℕ → ℕ
@@ -17,16 +17,16 @@ unfoldable pub privates : List ℕ → ℕ → ℕ → List ℕ
 privates sets m d = keep (λ s. eqb (common s m) (single d)) sets
 
 -- the drives outside m that are in every private set of one of the drives ds: adding one leaves that drive none
-unfoldable pub barred : List ℕ → ℕ → List ℕ → ℕ
-barred sets m [] = 0
-barred sets m (d ∷ ds) = union (minus (inAll (privates sets m d)) m) (barred sets m ds)
+unfoldable pub forbidden : List ℕ → ℕ → List ℕ → ℕ
+forbidden sets m [] = 0
+forbidden sets m (d ∷ ds) = union (minus (inAll (privates sets m d)) m) (forbidden sets m ds)
 
 -- some set that m misses has all its drives outside `bar` in p: to hit it takes a drive of p
 unfoldable pub covered : List ℕ → ℕ → ℕ → ℕ → Bool
-covered sets m bar p = any (λ s. not (meets s m) && subset (minus s bar) p) sets
+covered sets m bar p = any (λ s. subset s (minus (union bar p) m)) sets
 
 -- some drive of m has no private set that can stay private
-unfoldable pub doomed : List ℕ → ℕ → Bool
-doomed sets m =
-    let bar = barred sets m (drives m) in
-    not (eqb (alone (keep (λ s. not (covered sets m bar s)) sets) m) m)
+unfoldable pub cannotExtend : List ℕ → ℕ → Bool
+cannotExtend sets m =
+    let bar = forbidden sets m (drives m) in
+    not (eqb (critical (keep (λ s. not (covered sets m bar s)) sets) m) m)

@@ -7,14 +7,14 @@ ghost use lib.Dec.{leb, ltb};
 ghost use lib.ListN.{length, getD, take, drop, set};
 ghost use Rattle.drive_sets.specs.Lists.{keep};
 ghost use Rattle.drive_sets.specs.Masks.{meets, drives};
-ghost use Rattle.hitting_sets.specs.Hitting.{hits, Minimal, alone, search, minimals};
-ghost use Rattle.hitting_sets.specs.LookAhead.{inAll, privates, barred, covered, doomed};
+ghost use Rattle.hitting_sets.specs.Hitting.{hits, Minimal, critical, search, minimals};
+ghost use Rattle.hitting_sets.specs.LookAhead.{inAll, privates, forbidden, covered, cannotExtend};
 ghost use Rattle.hitting_sets.specs.Missed.{FirstMissed, Candidates};
 ghost use Rattle.hitting_sets.specs.Fuel.{Searched};
-use crate::dead_ends;
+use crate::MOST_COUNT;
 use drive_sets::Drive;
 
-// ---- what is barred
+// ---- what is forbidden
 
 // A set for each drive, at its place.
 struct ByDrive {
@@ -49,8 +49,8 @@ fn in_all_private(sets: &[u64], m: u64) -> ByDrive
 }
 
 // The drives outside m that are in every private set of some drive of m.
-fn barred(sets: &[u64], m: u64) -> u64
-    ensures { λ r. ⌜ r ≡ barred (now (sets .entry)) m (drives m) ⌝ }
+fn forbidden(sets: &[u64], m: u64) -> u64
+    ensures { λ r. ⌜ r ≡ forbidden (now (sets .entry)) m (drives m) ⌝ }
 {
     let all = in_all_private(sets, m);
     let mut rest = m;
@@ -81,10 +81,10 @@ fn covered(sets: &[u64], m: u64, bar: u64, p: u64) -> bool
     false
 }
 
-// The drives of m that are alone in m in some of the sets that the sets ahead do not cover. That a set is covered is asked last, and only
+// The drives of m that are critical among the sets that the sets ahead do not cover. That a set is covered is asked last, and only
 // of one that would add a drive: it is the dearest of the tests.
-fn alone_uncovered(sets: &[u64], ahead: &[u64], m: u64, bar: u64) -> u64
-    ensures { λ r. ⌜ r ≡ alone (keep (λ s. not (covered (now (ahead .entry)) m bar s)) (now (sets .entry))) m ⌝ }
+fn critical_uncovered(sets: &[u64], ahead: &[u64], m: u64, bar: u64) -> u64
+    ensures { λ r. ⌜ r ≡ critical (keep (λ s. not (covered (now (ahead .entry)) m bar s)) (now (sets .entry))) m ⌝ }
 {
     let mut i = sets.len();
     let mut found = 0;
@@ -104,12 +104,12 @@ fn alone_uncovered(sets: &[u64], ahead: &[u64], m: u64, bar: u64) -> u64
 
 // Some drive of m, which meets the first `seen` sets, has no private set that can stay private: no minimal hitting set holds m. Only a set
 // that is missed covers, so only those ahead are asked.
-fn doomed(sets: &[u64], seen: usize, m: u64) -> bool
+fn cannot_extend(sets: &[u64], seen: usize, m: u64) -> bool
     requires { ⌜ (seen ≤ length (now sets)) × (hits (take seen (now sets)) m ≡ true) ⌝ }
-    ensures { λ r. ⌜ r ≡ doomed (now (sets .entry)) m ⌝ }
+    ensures { λ r. ⌜ r ≡ cannotExtend (now (sets .entry)) m ⌝ }
 {
-    let bar = barred(sets, m);
-    alone_uncovered(sets, &sets[seen..], m, bar) != m
+    let bar = forbidden(sets, m);
+    critical_uncovered(sets, &sets[seen..], m, bar) != m
 }
 
 // ---- the search
@@ -130,34 +130,34 @@ fn next_missed(sets: &[u64], pos: usize, m: u64) -> usize
 }
 
 // The drives of the set at `next`, which m misses, with which the search goes on from m, a minimal hitting set of the sets before it: those
-// that these sets do not bar; none where the look-ahead is asked for and finds m doomed.
+// that these sets do not forbid; none where the look-ahead is asked for and finds that m cannot be extended.
 fn candidates(look_ahead: bool, sets: &[u64], next: usize, m: u64) -> u64
     requires { ⌜ (next < length (now sets)) × Minimal (take next (now sets)) m × (meets (getD (now sets) next 0) m ≡ false) ⌝ }
     ensures { λ r. ⌜ Candidates (now (sets .entry)) next m r ⌝ }
 {
-    if look_ahead && doomed(sets, next, m) {
+    if look_ahead && cannot_extend(sets, next, m) {
         return 0;
     }
-    drive_sets::minus(sets[next], barred(&sets[0..next], m))
+    drive_sets::minus(sets[next], forbidden(&sets[0..next], m))
 }
 
 // How a search goes: with look-ahead or without, and whether it spends fuel.
-pub(crate) struct Way {
+pub struct Mode {
     pub look_ahead: bool,
     pub limited: bool,
 }
 
 // How many are found, and the fuel that is left.
-pub(crate) struct Tally {
+pub struct Tally {
     pub found: usize,
     pub left: usize,
 }
 
 // The fuel after one branching more.
-fn spend(way: Way, tally: Tally) -> Tally
-    ensures { λ r. ⌜ (r .found ≡ tally .found) × (way .limited ≡ false → r .left ≡ tally .left) ⌝ }
+fn spend(mode: Mode, tally: Tally) -> Tally
+    ensures { λ r. ⌜ (r .found ≡ tally .found) × (mode .limited ≡ false → r .left ≡ tally .left) ⌝ }
 {
-    if way.limited {
+    if mode.limited {
         let left = if 0 < tally.left { tally.left - 1 } else { 0 };
         return Tally {
             found: tally.found,
@@ -189,11 +189,22 @@ fn put(out: &mut [u64], m: u64, tally: Tally) -> Tally
     }
 }
 
+// A dead end is a place at which no branch goes on. They are counted, up to a bound, so that a later search can begin with the sets that stand
+// there: one more at this place if no drive is left. The counts decide only an order of the sets, so the contracts leave them free.
+fn note(ends: &mut [u64], i: usize, drives: u64) {
+    if drives == 0 && i < ends.len() {
+        let count = ends[i];
+        if count < MOST_COUNT {
+            ends[i] = count + 1;
+        }
+    }
+}
+
 // The minimal hitting sets that the search lists from m on, a minimal hitting set of the sets before `pos`, put into `out` behind those found;
 // one more than the room says that there are more. Where no fuel is left some may be missing. A set at which no branch goes on is a dead
 // end, and counted as one. A call goes one drive deeper, so the calls are at most 65 deep.
 fn search_from(
-    way: Way,
+    mode: Mode,
     sets: &[u64],
     pos: usize,
     m: u64,
@@ -202,21 +213,21 @@ fn search_from(
     ends: &mut [u64],
 ) -> Tally
     requires { ⌜ (pos ≤ length (now sets)) × (tally .found ≤ length (now out)) × Minimal (take pos (now sets)) m ⌝ }
-    ensures { λ r. ⌜ Searched (way .limited) (tally .left) (now (out .entry)) (now (out .exit)) (tally .found) (r .found) (r .left) (search (take pos (now (sets .entry))) (drop pos (now (sets .entry))) m) ⌝ }
+    ensures { λ r. ⌜ Searched (mode .limited) (tally .left) (now (out .entry)) (now (out .exit)) (tally .found) (r .found) (r .left) (search (take pos (now (sets .entry))) (drop pos (now (sets .entry))) m) ⌝ }
 {
     let room = out.len();
     let next = next_missed(sets, pos, m);
     if next == sets.len() {
         return put(out, m, tally);
     }
-    let look_ahead = way.look_ahead;
+    let look_ahead = mode.look_ahead;
     let mut rest = candidates(look_ahead, sets, next, m);
-    dead_ends::note(ends, next, rest);
-    let mut so_far = spend(way, tally);
+    note(ends, next, rest);
+    let mut so_far = spend(mode, tally);
     while rest != 0 && goes_on(so_far, room) {
         let d = drive_sets::lowest(rest);
         let t = drive_sets::insert(m, d);
-        so_far = search_from(way, sets, next + 1, t, out, so_far, ends);
+        so_far = search_from(mode, sets, next + 1, t, out, so_far, ends);
         rest = drive_sets::without_lowest(rest);
     }
     so_far
@@ -224,18 +235,12 @@ fn search_from(
 
 // The minimal hitting sets of the sets, each once, in the search's order: into `out`, as long as there is room, and their number; one
 // more than the room says that there are more. Where no fuel is left some may be missing.
-pub(crate) fn minimal_hitting_sets(
-    way: Way,
-    sets: &[u64],
-    out: &mut [u64],
-    fuel: usize,
-    ends: &mut [u64],
-) -> Tally
-    ensures { λ r. ⌜ Searched (way .limited) fuel (now (out .entry)) (now (out .exit)) 0 (r .found) (r .left) (minimals (now (sets .entry))) ⌝ }
+pub fn search_all(mode: Mode, sets: &[u64], out: &mut [u64], fuel: usize, ends: &mut [u64]) -> Tally
+    ensures { λ r. ⌜ Searched (mode .limited) fuel (now (out .entry)) (now (out .exit)) 0 (r .found) (r .left) (minimals (now (sets .entry))) ⌝ }
 {
     let none = Tally {
         found: 0,
         left: fuel,
     };
-    search_from(way, sets, 0, 0, out, none, ends)
+    search_from(mode, sets, 0, 0, out, none, ends)
 }

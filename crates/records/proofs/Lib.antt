@@ -1,5 +1,7 @@
 -- What the functions' proofs share.
+pub mod Buffers
 pub mod Heads
+pub mod Lists
 pub mod Loops
 pub mod Matches
 pub mod Parts

@@ -1,3 +1,5 @@
--- Byte fields, marks and records.
+-- Byte fields, marks and records, lists of records, and bytes in a lent buffer.
 pub mod Fields
 pub mod Marks
+pub mod RecordLists
+pub mod LentBuffers

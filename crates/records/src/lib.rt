@@ -1,11 +1,12 @@
 // Records: a two-letter mark and byte fields, lowest byte first, read from a slice and written into the part of a lent buffer that
-// starts at the cursor. A mark is a number, matched to a record kind and tested against what is due.
+// starts at the cursor; lists of records. A mark is a number, matched to a record kind and tested against what is due.
 ghost use mathlib.Core.Path.{_≡_};
-ghost use Prim.Native.Nat.{min};
-ghost use lib.Dec.{eqb};
+ghost use Prim.Native.Nat.{_+_, min};
+ghost use lib.Dec.{leb};
 ghost use lib.ListN.{take, drop};
 ghost use Rattle.records.specs.Fields.{fromBytes, toBytes, written};
-ghost use Rattle.records.specs.Marks.{mark, kindOf, bodyWidth, isDue, headOf, recordBytes};
+ghost use Rattle.records.specs.Marks.{mark, kindOf, bodyWidth, isKind, isDue, headOf, recordBytes};
+ghost use Rattle.records.specs.RecordLists.{nextOf};
 use drive_sets::Refusal;
 
 // The kind of a record.
@@ -36,6 +37,19 @@ pub enum Head {
     Refused(Refusal),
 }
 
+// What stands where a record of a list or its end is due.
+pub enum Next {
+    One,
+    End,
+    Stop(Refusal),
+}
+
+// How many bytes were written into a lent buffer, from the starting place on.
+pub enum Writing {
+    Wrote(usize),
+    Refused(Refusal),
+}
+
 // The marks, as two-byte fields: the first letter is the low byte.
 pub const FRAME: u64 = 0x5246;
 
@@ -50,6 +64,15 @@ pub const END: u64 = 0x4e45;
 pub const KNOWN: u64 = 0x4e4b;
 
 pub const DECIDE: u64 = 0x4344;
+
+// How many bytes a record of a list has, with its mark.
+pub const SURVIVOR_WIDTH: usize = 10;
+
+pub const PROPOSAL_WIDTH: usize = 5;
+
+pub const CRASH_WIDTH: usize = 5;
+
+pub const END_WIDTH: usize = 3;
 
 fn wide(x: u8) -> u64
     ensures { λ r. ⌜ r ≡ x ⌝ }
@@ -88,6 +111,16 @@ pub fn field(s: &[u8], at: usize, width: usize) -> u64
     }
     let end = at + width;
     from_bytes(&s[at..end])
+}
+
+// So many bytes fit into a buffer of the given length from the starting place on.
+pub fn fits(room: usize, start: usize, size: usize) -> bool
+    ensures { λ r. ⌜ r ≡ leb (start + size) room ⌝ }
+{
+    if room < start {
+        return false;
+    }
+    size <= room - start
 }
 
 // The field of x over the first bytes of the part; every other byte stays.
@@ -168,11 +201,11 @@ fn mark_of(k: Kind) -> u64
     }
 }
 
-// A record of this kind ends a file.
-pub fn is_end(k: Kind) -> bool
-    ensures { λ r. ⌜ r ≡ eqb (mark k) (mark Kind.End) ⌝ }
+// The kind is this one.
+pub fn is_kind(k: Kind, this: Kind) -> bool
+    ensures { λ r. ⌜ r ≡ isKind this k ⌝ }
 {
-    mark_of(k) == END
+    mark_of(k) == mark_of(this)
 }
 
 // A record of this kind may stand here.
@@ -205,4 +238,24 @@ pub fn read_head(s: &[u8], due: Due) -> Head
         return Head::Refused(Refusal::EndsTooSoon);
     }
     Head::Record(k)
+}
+
+// The record at the start of the bytes where one of a list or its end is due, behind `count` records.
+pub fn next_record(s: &[u8], due: Due, count: usize) -> Next
+    ensures { λ r. ⌜ r ≡ nextOf due count (now (s .entry)) ⌝ }
+{
+    let head = read_head(s, due);
+    match head {
+        Head::Refused(r) => Next::Stop(r),
+        Head::Record(kind) => {
+            if !is_kind(kind, Kind::End) {
+                return Next::One;
+            }
+            if field(s, 2, 1) == count as u64 {
+                Next::End
+            } else {
+                Next::Stop(Refusal::CountDiffers)
+            }
+        }
+    }
 }

@@ -31,9 +31,7 @@ above-last n last d l h = and-second (leb 1 d && leb d n) (ltb last d) (and-intr
 pub most-none : (n core d : ℕ) → n ≡ 0 → 0 ≡ mostSends n core d
 unfolding mostSends
 most-none n core d e =
-    by-test (has d core)
-    (λ h. let none : 0 ≡ n - 1 = omega arith in none ∙ sym (cond-true (n - 1) 0 h))
-    (λ h. sym (cond-false (n - 1) 0 h))
+    by-test (has d core) (λ h. let none : 0 ≡ n - 1 = omega arith in none ∙ sym (cond-true (n - 1) 0 h)) (λ h. sym (cond-false (n - 1) 0 h))
 
 module _ (n core d : ℕ) (t : Bool) (e : t ≡ has d core) where
   pub most-core : t ≡ true → n - 1 ≡ mostSends n core d
@@ -49,22 +47,18 @@ module _ (n core d : ℕ) (t : Bool) (e : t ≡ has d core) where
 module _ (n core last : ℕ) (c : CrashRecord) (next : Bool) (e : next ≡ isNext n last (c .drive)) where
   pub drive-refused : not next ≡ true → refused DriveNumber ≡ checkedCrash n core last c
   unfolding checkedCrash
-  drive-refused h = sym (cond-true _ _ (ap not (sym e) ∙ h))
+  drive-refused h = rw (← e, h)
 
   module _ (h : not next ≡ false) (inside : Bool) (f : inside ≡ isRound core (c .round)) where
     pub round-refused : not inside ≡ true → refused CrashRound ≡ checkedCrash n core last c
     unfolding checkedCrash
-    round-refused g = sym (cond-false _ _ (ap not (sym e) ∙ h) ∙ cond-true _ _ (ap not (sym f) ∙ g))
+    round-refused g = rw (← e, h, ← f, g)
 
     module _ (g : not inside ≡ false) (most : ℕ) (m : most ≡ mostSends n core (c .drive)) where
       pub sends-refused : most < c .sends → refused CrashSends ≡ checkedCrash n core last c
       unfolding checkedCrash
-      sends-refused l =
-          sym (cond-false _ _ (ap not (sym e) ∙ h)
-          ∙ (cond-false _ _ (ap not (sym f) ∙ g) ∙ cond-true _ _ (ap (λ (x : ℕ). ltb x (c .sends)) (sym m) ∙ lt-ltb most (c .sends) l)))
+      sends-refused l = rw (← e, h, ← f, g, ← m, lt-ltb most (c .sends) l)
 
       pub crash-passes : c .sends ≤ most → result c ≡ checkedCrash n core last c
       unfolding checkedCrash
-      crash-passes l =
-          sym (cond-false _ _ (ap not (sym e) ∙ h)
-          ∙ (cond-false _ _ (ap not (sym f) ∙ g) ∙ cond-false _ _ (ap (λ (x : ℕ). ltb x (c .sends)) (sym m) ∙ le-ltb most (c .sends) l)))
+      crash-passes l = rw (← e, h, ← f, g, ← m, le-ltb most (c .sends) l)

@@ -1,3 +1,3 @@
--- Run files, reading as the code does it, and samples.
+-- Run files, and reading as the code does it.
 pub mod RunFiles
 pub mod Reading

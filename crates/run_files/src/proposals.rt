@@ -1,16 +1,19 @@
 // The PR records of a run file: one for each drive in order, with the pattern number that it proposes.
 ghost use mathlib.Core.Path.{_≡_};
-ghost use mathlib.Core.List.{[]};
-ghost use Prim.Native.Nat.{_≤_};
+ghost use mathlib.Core.List.{List, []};
+ghost use Prim.Native.Nat.{ℕ, suc, _≤_};
 ghost use lib.ListN.{length};
 ghost use Rattle.records.specs.Fields.{fieldAt};
-ghost use Rattle.run_files.specs.RunFiles.{readProposals};
-ghost use Rattle.run_files.specs.Reading.{proposalStep, proposalsOutcome};
+ghost use Rattle.records.specs.RecordLists.{stepOf, readList};
+ghost use Rattle.run_files.specs.RunFiles.{proposalList};
+ghost use Rattle.run_files.specs.Reading.{proposalOutcome, proposalsOutcome};
+ghost use Rattle.tables.specs.Tables.{maxDrives};
 use drive_sets::Drive;
 use drive_sets::Pattern;
 use drive_sets::Refusal;
 use records::Due;
 use records::Head;
+use records::PROPOSAL_WIDTH;
 use tables::reading::Answer;
 
 // The numbers read, drive 1 first, and how many bytes they took, where all are accepted.
@@ -45,7 +48,7 @@ fn pattern_at(s: &[u8]) -> Pattern
 
 // The record at the start of the bytes, where the PR of this drive is due.
 fn next_proposal(s: &[u8], due: Drive) -> Proposal
-    ensures { λ r. ⌜ r ≡ proposalStep (due .0) (now (s .entry)) ⌝ }
+    ensures { λ r. ⌜ ((n : ℕ) (given : List ℕ) → suc (length given) ≡ due .0 → proposalOutcome given r ≡ stepOf (proposalList n) given (now (s .entry))) ⌝ }
 {
     let head = records::read_head(s, Due::AtProposal);
     let drive = due.0;
@@ -62,8 +65,8 @@ fn next_proposal(s: &[u8], due: Drive) -> Proposal
 
 // The PR of drives 1 to n.
 pub fn read_proposals(s: &[u8], n: u8) -> Proposals
-    requires { ⌜ n ≤ 64 ⌝ }
-    ensures { λ r. ⌜ (proposalsOutcome n r (now (s .entry)) ≡ readProposals n [] (now (s .entry))) × (r .used ≤ length (now (s .entry))) ⌝ }
+    requires { ⌜ n ≤ maxDrives ⌝ }
+    ensures { λ r. ⌜ (proposalsOutcome n r (now (s .entry)) ≡ readList (proposalList n) [] (now (s .entry))) × (r .used ≤ length (now (s .entry))) ⌝ }
 {
     let mut numbers = [Pattern(0); 64];
     let mut given = 0u8;
@@ -76,7 +79,7 @@ pub fn read_proposals(s: &[u8], n: u8) -> Proposals
                 let place = given as usize;
                 numbers[place] = v;
                 given += 1;
-                at += 5;
+                at += PROPOSAL_WIDTH;
             }
         }
     }

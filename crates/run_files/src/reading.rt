@@ -1,11 +1,12 @@
 // The run file reader: PR for each drive, CR, EN with their count, nothing after it, and a survivor set that no crash touches.
 ghost use mathlib.Core.Path.{_≡_};
-ghost use Prim.Native.Nat.{ℕ, _≤_};
-ghost use lib.ListN.{take};
-ghost use Rattle.run_files.specs.RunFiles.{readRest, readBehind, readRunFile};
-ghost use Rattle.run_files.specs.Reading.{values, finished, runFileOutcome};
+ghost use Prim.Native.Nat.{_≤_};
+ghost use lib.ListN.{length};
+ghost use Rattle.run_files.specs.RunFiles.{readRecords, readBehind, readRunFile};
+ghost use Rattle.run_files.specs.Reading.{recordsOutcome, runFileOutcome};
+ghost use Rattle.tables.specs.Tables.{maxDrives};
+use crate::crash_records;
 use crate::crashes::Crashes;
-use crate::listing;
 use crate::proposals;
 use drive_sets::Pattern;
 use drive_sets::Refusal;
@@ -19,62 +20,87 @@ pub struct RunFile {
     pub crashes: Crashes,
 }
 
+// The records of a run file and how many bytes they took with EN, where they are accepted.
+struct RunRecords {
+    answer: Answer,
+    numbers: [Pattern; 64],
+    crashes: Crashes,
+    used: usize,
+}
+
 fn refused_file(r: Refusal) -> RunFile
     ensures { λ t. ⌜ t .answer ≡ Answer.Refused r ⌝ }
 {
     RunFile {
         answer: Answer::Refused(r),
         numbers: [Pattern(0); 64],
-        crashes: listing::none(),
+        crashes: crash_records::none(),
     }
 }
 
-// The numbers and the crashes together. 11: every survivor set has a drive with a CR.
-fn finish(sets: &[u64], numbers: [Pattern; 64], crashes: Crashes) -> RunFile
-    ensures { λ r. ⌜ ((n : ℕ) → runFileOutcome n r ≡ finished n (now (sets .entry)) numbers crashes) ⌝ }
+fn refused_records(r: Refusal) -> RunRecords
+    ensures { λ t. ⌜ (t .answer ≡ Answer.Refused r) × (t .used ≡ 0) ⌝ }
 {
-    if tables::calls::meets_all(sets, crashes.crashed) {
-        return refused_file(Refusal::NoneUntouched);
-    }
-    RunFile {
-        answer: Answer::Accepted,
-        numbers,
-        crashes,
+    RunRecords {
+        answer: Answer::Refused(r),
+        numbers: [Pattern(0); 64],
+        crashes: crash_records::none(),
+        used: 0,
     }
 }
 
-// The records after the numbers.
-fn read_rest(s: &[u8], n: u8, core: u64, sets: &[u64], numbers: [Pattern; 64]) -> RunFile
-    requires { ⌜ n ≤ 64 ⌝ }
-    ensures { λ r. ⌜ runFileOutcome n r ≡ readRest n core (now (sets .entry)) (record { numbers = take n (values numbers); rest = now (s .entry) }) ⌝ }
+// PR, CR, EN of a file for n drives with this chosen core, with anything behind it.
+fn read_records(s: &[u8], n: u8, core: u64) -> RunRecords
+    requires { ⌜ n ≤ maxDrives ⌝ }
+    ensures { λ r. ⌜ recordsOutcome n r (now (s .entry)) ≡ readRecords n core (now (s .entry)) ⌝ }
+    ensures within { λ r. ⌜ r .used ≤ length (now (s .entry)) ⌝ }
 {
-    let listed = listing::read_crashes(s, n, core);
-    let answer = listed.answer;
-    let used = listed.used;
-    let crashes = listed.crashes;
+    let given = proposals::read_proposals(s, n);
+    let answer = given.answer;
+    let first = given.used;
+    let numbers = given.numbers;
+    match answer {
+        Answer::Refused(r) => refused_records(r),
+        Answer::Accepted => {
+            let listed = crash_records::read_crashes(&s[first..], n, core);
+            let answer = listed.answer;
+            let crashes = listed.crashes;
+            let used = first + listed.used;
+            RunRecords {
+                answer,
+                numbers,
+                crashes,
+                used,
+            }
+        }
+    }
+}
+
+// The run file behind an accepted table with this chosen core. 7, bytes after the end; 11, every survivor set has a drive with a CR.
+fn read_behind(n: u8, core: u64, sets: &[u64], s: &[u8]) -> RunFile
+    requires { ⌜ n ≤ maxDrives ⌝ }
+    ensures { λ r. ⌜ runFileOutcome n r ≡ readBehind n core (now (sets .entry)) (now (s .entry)) ⌝ }
+{
+    let read = read_records(s, n, core);
+    let answer = read.answer;
+    let used = read.used;
+    let numbers = read.numbers;
+    let crashes = read.crashes;
     match answer {
         Answer::Refused(r) => refused_file(r),
         Answer::Accepted => {
             if used < s.len() {
                 return refused_file(Refusal::TrailingBytes);
             }
-            finish(sets, numbers, crashes)
+            if tables::calls::meets_all(sets, crashes.crashed) {
+                return refused_file(Refusal::NoneUntouched);
+            }
+            RunFile {
+                answer: Answer::Accepted,
+                numbers,
+                crashes,
+            }
         }
-    }
-}
-
-// The run file behind an accepted table with this chosen core.
-fn read_behind(n: u8, core: u64, sets: &[u64], s: &[u8]) -> RunFile
-    requires { ⌜ n ≤ 64 ⌝ }
-    ensures { λ r. ⌜ runFileOutcome n r ≡ readBehind n core (now (sets .entry)) (now (s .entry)) ⌝ }
-{
-    let given = proposals::read_proposals(s, n);
-    let answer = given.answer;
-    let used = given.used;
-    let numbers = given.numbers;
-    match answer {
-        Answer::Refused(r) => refused_file(r),
-        Answer::Accepted => read_rest(&s[used..], n, core, sets, numbers),
     }
 }
 

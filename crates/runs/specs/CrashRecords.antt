@@ -34,13 +34,16 @@ isRound core round = leb 1 round && leb round (size core)
 unfoldable pub mostSends : ℕ → ℕ → ℕ → ℕ
 mostSends n core d = cond (has d core) (n - 1) 0
 
--- a CR after that of the last drive
-unfoldable pub checkedCrash : ℕ → ℕ → ℕ → CrashRecord → Outcome CrashRecord
-checkedCrash n core last c =
-    refuseIf (not (isNext n last (c .drive))) DriveNumber
-    (refuseIf (not (isRound core (c .round))) CrashRound
+-- 9, the round; 10, the sends
+abbrev pub checkedStop : ℕ → ℕ → CrashRecord → Outcome CrashRecord
+checkedStop n core c =
+    refuseIf (not (isRound core (c .round))) CrashRound
     (refuseIf (ltb (mostSends n core (c .drive)) (c .sends)) CrashSends
-    (result c)))
+    (result c))
+
+-- a CR after that of the last drive: 8, then 9 and 10
+unfoldable pub checkedCrash : ℕ → ℕ → ℕ → CrashRecord → Outcome CrashRecord
+checkedCrash n core last c = refuseIf (not (isNext n last (c .drive))) DriveNumber (checkedStop n core c)
 
 -- ---- a scenario
 

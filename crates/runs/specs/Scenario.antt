@@ -4,7 +4,7 @@ use mathlib.Core.List.{List}
 use Prim.Native.Nat.{ℕ}
 use lib.Dec.{eqb, leb, ltb}
 use Rattle.drive_sets.specs.Lists.{range}
-use Rattle.hitting_sets.specs.Order.{normal}
+use Rattle.set_orders.specs.Order.{normal}
 use Rattle.tables.specs.Tables.{chosen}
 pub mod Laws
 

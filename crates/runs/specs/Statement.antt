@@ -8,10 +8,10 @@ use lib.ListN.{length, take, getD}
 use Rattle.drive_sets.specs.Lists.{keep, elem}
 use Rattle.drive_sets.specs.Masks.{has, size, drives}
 use Rattle.drive_sets.specs.Refusals.{result}
-use Rattle.hitting_sets.specs.Order.{normal}
+use Rattle.set_orders.specs.Order.{normal}
 use Rattle.tables.specs.Tables.{chosen, normalTable}
 use Rattle.drive_states.specs.declared.Decision.the-variants.{Decided}
-use Rattle.drive_states.specs.State.{isDrive, isDecided}
+use Rattle.drive_states.specs.State.{isDrive, isDecided, patternLimit}
 use Rattle.runs.specs.Protocol.{Protocol}
 use Rattle.runs.specs.World.{Call, opens, sends, delivers, closes, World, nothingOpen, apply, applyAll, decisionOf, roundIn}
 use Rattle.runs.specs.Scenario.{Scenario, stays, crashes, coreOf, hasCrash}
@@ -30,7 +30,7 @@ pub record Passes (s : Scenario) (d round sends : ℕ) : Type 0 where
 -- the table meets no refusal, so it is accepted; the drives propose pattern numbers; each CR passes
 pub record Valid (s : Scenario) : Type 0 where
   pub accepted : normalTable (s .n) (s .sets) ≡ result (normal (s .sets))
-  pub patterns : (d : ℕ) → isDrive (s .n) d ≡ true → s .proposal d < 65536
+  pub patterns : (d : ℕ) → isDrive (s .n) d ≡ true → s .proposal d < patternLimit
   pub passes : (d round sends : ℕ) → s .crash d ≡ crashes round sends → Passes s d round sends
 
 -- a survivor set is untouched if no drive of it has a CR
@@ -134,7 +134,7 @@ pub record TightAt (P : Protocol) (n : ℕ) (sets : List ℕ) (proposal : ℕ �
   pub decides : Decides run drive value (lastRound scenario)
 
 unfoldable pub Tight : Protocol → Type 0
-Tight P = (n : ℕ) (sets : List ℕ) → normalTable n sets ≡ result (normal sets) → (proposal : ℕ → ℕ) → ((d : ℕ) → isDrive n d ≡ true → proposal d < 65536)
+Tight P = (n : ℕ) (sets : List ℕ) → normalTable n sets ≡ result (normal sets) → (proposal : ℕ → ℕ) → ((d : ℕ) → isDrive n d ≡ true → proposal d < patternLimit)
     → (f : ℕ) → f < size (chosen (normal sets)) → TightAt P n sets proposal f
 
 -- ---- every scenario has a run

@@ -10,13 +10,13 @@ use Rattle.drive_sets.specs.Masks.{single, minus, lowest, drives}
 use Rattle.drive_sets.specs.Masks.Laws.{minus-lt}
 use Rattle.drive_sets.specs.Masks.Sizes.{drives-none}
 use Rattle.drive_sets.specs.Refusals.{Outcome, refused, result, andThen}
+use Rattle.drive_sets.specs.Loops.Drives.{removed, taken-drives}
 use Rattle.tables.specs.declared.reading.Answer.{Answer}
 use Rattle.tables.specs.declared.reading.Answer.the-variants.{Accepted, Refused}
 use Rattle.tables.specs.Reading.{outcomeOf}
-use Rattle.exchange.proofs.Least.{lowest-first}
 use Rattle.runs.specs.CrashRecords.{CrashRecord, checkedCrash}
 use Rattle.run_files.specs.declared.crashes.Crashes.{Crashes}
-use Rattle.run_files.specs.Reading.{roundAt, crashIn, crashesIn, crashRecord}
+use Rattle.run_files.specs.Reading.{roundAt, crashOfDrive, crashesIn, crashRecord}
 use Rattle.simulation.specs.Simulation.{checkedCrashes}
 
 -- ---- one drive
@@ -24,10 +24,10 @@ use Rattle.simulation.specs.Simulation.{checkedCrashes}
 module _ (n core last : ℕ) (c : Crashes) (d : Drive) (round : Round) (made : ℕ) where
   pub same-crash : round .0 ≡ roundAt (c .rounds) (d .0) → made ≡ getD (c .sends) (d .0 - 1) 0 → (r : Answer)
       → outcomeOf r (crashRecord d round made) ≡ checkedCrash n core last (crashRecord d round made)
-      → outcomeOf r (crashIn c (d .0)) ≡ checkedCrash n core last (crashIn c (d .0))
-  unfolding crashRecord crashIn
+      → outcomeOf r (crashOfDrive c (d .0)) ≡ checkedCrash n core last (crashOfDrive c (d .0))
+  unfolding crashRecord crashOfDrive
   same-crash e f r h =
-      let same : crashRecord d round made ≡ crashIn c (d .0) = ap₂ (λ (q m : ℕ). record { drive = d .0; round = q; sends = m }) e f in
+      let same : crashRecord d round made ≡ crashOfDrive c (d .0) = ap₂ (λ (q m : ℕ). record { drive = d .0; round = q; sends = m }) e f in
       subst (λ (x : CrashRecord). outcomeOf r x ≡ checkedCrash n core last x) same h
 
 -- ---- the loop
@@ -39,7 +39,7 @@ module _ (n core : ℕ) (c : Crashes) where
   -- the crashes of the drives of `rest` are still to be checked
   pub record Checking (rest last : ℕ) : Type 0 where
     pub word : rest < 2 ^ 64
-    pub same : checkedFrom last (map (crashIn c) (drives rest)) ≡ checkedFrom 0 (crashesIn c)
+    pub same : checkedFrom last (map (crashOfDrive c) (drives rest)) ≡ checkedFrom 0 (crashesIn c)
 
   pub check-start : c .crashed < 2 ^ 64 → Checking (c .crashed) 0
   unfolding crashesIn
@@ -48,30 +48,30 @@ module _ (n core : ℕ) (c : Crashes) where
   module _ (rest last d : ℕ) (g : Checking rest last) (some : rest ≡ 0 → ⊥) (e : d ≡ lowest rest) where
     -- the lowest drive's crash comes first
     first : checkedFrom 0 (crashesIn c)
-        ≡ andThen (checkedCrash n core last (crashIn c d)) (λ passed. checkedFrom d (map (crashIn c) (drives (minus rest (single d)))))
-    unfolding checkedCrashes crashIn
+        ≡ andThen (checkedCrash n core last (crashOfDrive c d)) (λ passed. checkedFrom d (map (crashOfDrive c) (drives (minus rest (single d)))))
+    unfolding checkedCrashes crashOfDrive
     first =
         sym (g .same)
-        ∙ ap (λ (ds : List ℕ). checkedFrom last (map (crashIn c) ds)) (lowest-first rest d (minus rest (single d)) (g .word) some e refl)
+        ∙ ap (λ (ds : List ℕ). checkedFrom last (map (crashOfDrive c) ds)) (taken-drives (removed (g .word) some e refl))
 
-    pub check-refused : (a : Answer) → outcomeOf a (crashIn c d) ≡ checkedCrash n core last (crashIn c d) → (q : Refusal) → a ≡ Refused q
+    pub check-refused : (a : Answer) → outcomeOf a (crashOfDrive c d) ≡ checkedCrash n core last (crashOfDrive c d) → (q : Refusal) → a ≡ Refused q
         → refused q ≡ checkedFrom 0 (crashesIn c)
     check-refused a h q f =
-        sym (first ∙ ap (λ o. andThen o (λ passed. checkedFrom d (map (crashIn c) (drives (minus rest (single d))))))
-        (sym h ∙ ap (λ (y : Answer). outcomeOf y (crashIn c d)) f))
+        sym (first ∙ ap (λ o. andThen o (λ passed. checkedFrom d (map (crashOfDrive c) (drives (minus rest (single d))))))
+        (sym h ∙ ap (λ (y : Answer). outcomeOf y (crashOfDrive c d)) f))
 
-    pub check-turn : (a : Answer) → outcomeOf a (crashIn c d) ≡ checkedCrash n core last (crashIn c d) → a ≡ Accepted
+    pub check-turn : (a : Answer) → outcomeOf a (crashOfDrive c d) ≡ checkedCrash n core last (crashOfDrive c d) → a ≡ Accepted
         → (rest' : ℕ) → rest' ≡ minus rest (single d) → Checking rest' d
     check-turn a h f rest' k = record {
       word = subst (λ (x : ℕ). x < 2 ^ 64) (sym k) (minus-lt 64 rest (single d) (g .word));
-      same = ap (λ (m : ℕ). checkedFrom d (map (crashIn c) (drives m))) k
-          ∙ sym (first ∙ ap (λ o. andThen o (λ passed. checkedFrom d (map (crashIn c) (drives (minus rest (single d))))))
-          (sym h ∙ ap (λ (y : Answer). outcomeOf y (crashIn c d)) f));
+      same = ap (λ (m : ℕ). checkedFrom d (map (crashOfDrive c) (drives m))) k
+          ∙ sym (first ∙ ap (λ o. andThen o (λ passed. checkedFrom d (map (crashOfDrive c) (drives (minus rest (single d))))))
+          (sym h ∙ ap (λ (y : Answer). outcomeOf y (crashOfDrive c d)) f));
     }
 
   pub check-end : (rest last : ℕ) → Checking rest last → rest ≡ 0 → result (crashesIn c) ≡ checkedFrom 0 (crashesIn c)
   unfolding checkedCrashes
-  check-end rest last g e = ap (λ (ds : List ℕ). checkedFrom last (map (crashIn c) ds)) (sym (ap drives e ∙ drives-none)) ∙ g .same
+  check-end rest last g e = ap (λ (ds : List ℕ). checkedFrom last (map (crashOfDrive c) ds)) (sym (ap drives e ∙ drives-none)) ∙ g .same
 
 -- ---- the checks, then what comes next
 

@@ -8,11 +8,11 @@ use Rattle.drive_sets.specs.Masks.{single, minus, outside, size, lowest, drives
 use Rattle.drive_sets.specs.Masks.Laws.{has-bounds, minus-lt}
 use Rattle.drive_sets.specs.Masks.Outside.{outside-lt}
 use Rattle.drive_sets.specs.Masks.Sizes.{lowest-has, length-drives, drives-none}
+use Rattle.drive_sets.specs.Loops.Drives.{removed, taken-drives}
 use Rattle.drive_states.specs.declared.Exchange.{Exchange}
 use Rattle.drive_states.specs.State.Laws.{is-drive}
 use Rattle.agreement.specs.Calls.{receiving}
 use Rattle.exchange.specs.Replies.{stateAfter}
-use Rattle.exchange.proofs.Least.{lowest-first}
 use Rattle.runs.specs.World.{Call, delivers, World}
 use Rattle.agreement.specs.Document01.{document01, apply, applyAll}
 use Rattle.runs.specs.World as worlds
@@ -55,7 +55,7 @@ module _ (bytes : List ℕ) (m sends : ℕ) (states : List Exchange) where
           → applyAll (worldOf n (set all (d - 1) y)) (messages bytes (take (left - 1) (drives rest'))) ≡ applyAll (worldOf n all) (messages bytes (take left (drives rest)))
       step n h l =
           ap (λ (w : World). applyAll w (messages bytes (take (left - 1) (drives rest')))) put
-          ∙ ap₂ (λ (j : ℕ) (ds : List ℕ). applyAll (worldOf n all) (messages bytes (take j ds))) one (sym (lowest-first rest d rest' (g .word) some e k))
+          ∙ ap₂ (λ (j : ℕ) (ds : List ℕ). applyAll (worldOf n all) (messages bytes (take j ds))) one (sym (taken-drives (removed (g .word) some e k)))
         where
           one : suc (left - 1) ≡ left
           one = omega (arith, more)

@@ -17,9 +17,9 @@ use Rattle.drive_sets.specs.Bools.{clash, by-test, false-of, cond-true, cond-fa
 use Rattle.drive_states.specs.declared.Exchange.{Exchange}
 use Rattle.drive_states.specs.State.{isDrive}
 use Rattle.drive_states.specs.State.Laws.{drive-bounds, isDrive-range}
-use Rattle.hitting_sets.specs.Order.{normal}
+use Rattle.set_orders.specs.Order.{normal}
 use Rattle.agreement.specs.Calls.{initial, opening}
-use Rattle.agreement.specs.Calls.Laws.{opening-accepted}
+use Rattle.agreement.proofs.CallLaws.{opening-accepted}
 use Rattle.runs.specs.World.{opens, Slot, opened, World, nothingOpen, put, afterCall}
 use Rattle.agreement.specs.Document01.{apply, applyAll}
 use Rattle.runs.specs.World as worlds

@@ -21,17 +21,17 @@ use Rattle.drive_sets.specs.declared.Refusal.the-variants.{NoneUntouched}
 use Rattle.drive_sets.specs.Refusals.{Outcome, refused, result, refuseIf, andThen}
 use Rattle.drive_sets.specs.Refusals.Laws.{refused-no-result}
 use Rattle.hitting_sets.specs.Hitting.{hits}
-use Rattle.hitting_sets.specs.Order.{normal}
+use Rattle.set_orders.specs.Order.{normal}
 use Rattle.tables.specs.Tables.{chosen, normalTable, chosenCore}
 use Rattle.tables.specs.Tables.Laws.{Accepted, accepted-table, core-given, chosen-core}
-use Rattle.drive_states.specs.State.{isDrive}
+use Rattle.drive_states.specs.State.{isDrive, patternLimit}
 use Rattle.drive_states.specs.State.Laws.{drive-bounds, isDrive-range}
 use Rattle.runs.specs.Scenario.{Crash, stays, crashes, Scenario, frame, coreOf, hasCrash}
 use Rattle.runs.specs.CrashRecords.{CrashRecord, crashed, crashIn, scenario}
 use Rattle.runs.specs.Statement.{Valid, Up, coreCrashes}
 use Rattle.agreement.specs.Simulated.{Ending, stopped, endingOf, endings}
 use Rattle.agreement.specs.Canonical.{canonicalEnding, CanonicalGives}
-use Rattle.agreement.specs.Refinement.Endings.{canonical-gives}
+use Rattle.agreement.proofs.Refinement.Endings.{canonical-gives}
 use Rattle.run_files.specs.declared.crashes.Crashes.{Crashes}
 use Rattle.run_files.specs.Reading as files
 use Rattle.run_files.specs.Reading.{values, roundAt}
@@ -99,8 +99,8 @@ module _ (n core : ℕ) (c : Crashes) (s : Scenario) (g : Says n core c s) where
 
 -- the CR of a drive among the records is the one at its place
 crash-listed : (c : Crashes) (l : List ℕ) (d : ℕ)
-    → crashIn (map (files.crashIn c) l) d ≡ cond (elem d l) (crashes (roundAt (c .rounds) d) (getD (c .sends) (d - 1) 0)) stays
-unfolding crashIn elem files.crashIn
+    → crashIn (map (files.crashOfDrive c) l) d ≡ cond (elem d l) (crashes (roundAt (c .rounds) d) (getD (c .sends) (d - 1) 0)) stays
+unfolding crashIn elem files.crashOfDrive
 crash-listed c [] d = sym (cond-false _ _ (elem-none d))
 crash-listed c (x ∷ l) d =
     by-test (eqb x d)
@@ -120,14 +120,14 @@ module _ (n : ℕ) (sets : List ℕ) (numbers : List Pattern) (c : Crashes) (cor
   pub chosen-bounds : (n ≤ 64) × (core < 2 ^ n)
   chosen-bounds = (given .0 .high, subst (λ (x : ℕ). x < 2 ^ n) (given .1) (chosen-core n sets (given .0) .within))
 
-  pub told : ((i : ℕ) → getD numbers i noPattern .0 < 65536)
+  pub told : ((i : ℕ) → getD numbers i noPattern .0 < patternLimit)
       → checkedCrashes n core 0 (files.crashesIn c) (result (files.crashesIn c)) ≡ result (files.crashesIn c)
       → Told n core numbers c (scenario n sets (take n (values numbers)) (files.crashesIn c))
   unfolding scenario coreOf crashAt files.crashesIn
   told small checks = record {
     says = record { frame-is = refl; core-is = given .1; crash-is = crash-is };
     valid = checked-valid n sets (take n (values numbers)) (files.crashesIn c) (accepted-table n sets (given .0))
-        (λ d h. subst (λ (v : ℕ). v < 65536) (sym (proposed d h)) (small (d - 1)))
+        (λ d h. subst (λ (v : ℕ). v < patternLimit) (sym (proposed d h)) (small (d - 1)))
         (ap (λ (k : ℕ). checkedCrashes n k 0 (files.crashesIn c) (result (files.crashesIn c))) (given .1) ∙ checks);
     proposal-is = proposed;
   }

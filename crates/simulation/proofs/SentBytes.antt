@@ -14,13 +14,13 @@ use Rattle.drive_sets.specs.Bools.{cond-true}
 use Rattle.drive_sets.specs.Refusals.{Outcome, refused, result}
 use Rattle.drive_sets.specs.Refusals.Laws.{refused-no-result, same-result, passed, first-result}
 use Rattle.records.specs.Fields.{written, writtenAt}
-use Rattle.tables.specs.declared.writing.Writing.{Writing}
-use Rattle.tables.specs.declared.writing.Writing.the-variants as writings
-use Rattle.tables.specs.Answers.{writingOutcome}
+use Rattle.records.specs.declared.Writing.{Writing}
+use Rattle.records.specs.declared.Writing.the-variants as writings
+use Rattle.records.specs.LentBuffers.{fitting, writingOutcome, sizeWritten, bufferAfter, Written}
 use Rattle.drive_states.specs.declared.Exchange.{Exchange}
 use Rattle.drive_states.specs.State.{inCore, broken}
-use Rattle.agreement.specs.Calls.{outgoing, sending, bufferAfter}
-use Rattle.exchange.specs.Replies.{sizeSent, Sent}
+use Rattle.drive_states.specs.Messages.{messageBytes}
+use Rattle.agreement.specs.Calls.{outgoing, sending}
 use Rattle.runs.specs.World.{delivers, World}
 use Rattle.agreement.specs.Document01.{applyAll}
 use Rattle.runs.specs.World as worlds
@@ -35,18 +35,18 @@ pub record Wrote (x : Exchange) (room size : ℕ) (new : List ℕ) : Type 0 wher
 
 -- a message that is sent has room
 sent-fits : (x : Exchange) (room : ℕ) {bytes : List ℕ} → sending x room 0 ≡ result bytes → length bytes ≤ room
-unfolding sending
+unfolding sending fitting
 sent-fits x room e =
     let sound = passed (broken x) BrokenState _ e in
     let going = passed (x .halted) Halted _ (sound .1) in
     let talks = passed (not (inCore x)) ListenerSends _ (going .1) in
-    let roomy = passed (not (leb (0 + length (outgoing x (x .decision))) room)) NoRoom _ (talks .1) in
-    let long = leb-true (0 + length (outgoing x (x .decision))) room (not-false _ (roomy .0)) in
+    let roomy = passed (not (leb (0 + length (messageBytes (outgoing x))) room)) NoRoom _ (talks .1) in
+    let long = leb-true (0 + length (messageBytes (outgoing x))) room (not-false _ (roomy .0)) in
     omega (arith, long, ap length (same-result (roomy .1)))
 
-module _ (x : Exchange) (old new : List ℕ) (r : Writing) (sent : Sent (sending x (length old) 0) 0 old new r) where
+module _ (x : Exchange) (old new : List ℕ) (r : Writing) (sent : Written (sending x (length old) 0) 0 old new r) where
   pub wrote : (size : ℕ) → r ≡ writings.Wrote size → Wrote x (length old) size new
-  unfolding bufferAfter writtenAt written
+  unfolding writtenAt written
   wrote size e =
       let first = first-result (sending x (length old) 0) (λ bytes. result (length bytes)) (sym (sent .answer) ∙ ap writingOutcome e) in
       let fits = sent-fits x (length old) (first .1) in
@@ -63,7 +63,7 @@ module _ (x : Exchange) (old new : List ℕ) (r : Writing) (sent : Sent (sending
   unfolding deliveries
   wrote-nothing q e es = none (sending x (length old) 0) (sym (sent .answer) ∙ ap writingOutcome e)
     where
-      none : (due : Outcome (List ℕ)) → sizeSent due ≡ refused q → deliveries due es ≡ []
+      none : (due : Outcome (List ℕ)) → sizeWritten due ≡ refused q → deliveries due es ≡ []
       none (refused p) h = refl
       none (result bytes) h = absurd (refused-no-result (sym h))
 

@@ -4,7 +4,7 @@ ghost use Prim.Native.Nat.{_≤_};
 ghost use Rattle.drive_sets.specs.Refusals.{result};
 ghost use Rattle.tables.specs.Reading.{outcomeOf};
 ghost use Rattle.runs.specs.CrashRecords.{checkedCrash};
-ghost use Rattle.run_files.specs.Reading.{crashIn, crashesIn};
+ghost use Rattle.run_files.specs.Reading.{crashOfDrive, crashesIn};
 ghost use Rattle.simulation.specs.Simulation.{checkedCrashes};
 use crate::crashes;
 use drive_sets::Drive;
@@ -14,7 +14,7 @@ use tables::reading::Answer;
 // The crash of one drive, after that of the last.
 fn check_one(n: u8, core: u64, last: Drive, d: Drive, crashes: Crashes) -> Answer
     requires { ⌜ (1 ≤ d .0) × (d .0 ≤ 64) ⌝ }
-    ensures { λ r. ⌜ outcomeOf r (crashIn crashes (d .0)) ≡ checkedCrash n core (last .0) (crashIn crashes (d .0)) ⌝ }
+    ensures { λ r. ⌜ outcomeOf r (crashOfDrive crashes (d .0)) ≡ checkedCrash n core (last .0) (crashOfDrive crashes (d .0)) ⌝ }
 {
     let rounds = crashes.rounds;
     let sends = crashes.sends;

@@ -11,10 +11,8 @@ ghost use Rattle.agreement.specs.Canonical.{deliveries};
 ghost use Rattle.simulation.specs.States.{worldOf, listFor};
 use drive_sets::Drive;
 use drive_states::Exchange;
-use tables::writing::Writing;
-
-// Room for the longest message: 12 bytes and 64 numbers.
-const ROOM: usize = 140;
+use messages::LONGEST;
+use records::Writing;
 
 // The bytes to the drives of m, rising, as far as the sends go.
 fn deliver_to(states: [Exchange; 64], bytes: &[u8], m: u64, sends: u8) -> [Exchange; 64]
@@ -82,7 +80,7 @@ pub fn send_from(
     requires { ⌜ (n ≤ 64) × (core < 2 ^ n) ⌝ }
     ensures { λ r. ⌜ worldOf n r ≡ applyAll (worldOf n states) (deliveries (sending x 140 0) (take sends (listFor n core (own .0)))) ⌝ }
 {
-    let mut buf = [0u8; ROOM];
+    let mut buf = [0u8; LONGEST];
     let written = exchange::sending::send(x, &mut buf, 0);
     match written {
         Writing::Refused(_) => states,

@@ -22,6 +22,7 @@ pub mod InvariantSteps
 pub mod Bound
 pub mod Agreement
 pub mod LowerBound
+pub mod Proposals
 
 -- One instance of consensus: the drives (processes) 1 to n, the core, the number that each drive proposes, and the failure pattern,
 -- which says who has crashed by when and whom a drive still reaches in the round in which it crashes.

@@ -6,7 +6,6 @@ use Prim.Native.Nat.{ℕ, _≤_, _<_}
 use native.Mathlib.Omega.{arith}
 use lib.ListN.{length, getD, take, length-take}
 use lib.Seq.{getD-take}
-use lib.Dec.{ltb}
 use borrow.Author.Tests.{lt-ltb, le-ltb}
 use Rattle.drive_sets.specs.Bools.{cond-true, cond-false}
 use Rattle.drive_sets.specs.Lists.{all}
@@ -16,15 +15,15 @@ use Rattle.drive_sets.specs.Refusals.{Outcome, refused, result, refuseIf, andTh
 use Rattle.drive_sets.specs.Refusals.Laws.{first-result, same-result}
 use Rattle.tables.specs.declared.reading.Answer.{Answer}
 use Rattle.tables.specs.declared.reading.Answer.the-variants as answers
-use Rattle.tables.specs.declared.completing.CoreTable.{CoreTable}
-use Rattle.tables.specs.Tables.{isFrame, isSet, cores, chosen, dual, normalTable, chosenCore, meetsEvery, survivorSets}
+use Rattle.tables.specs.declared.completing.TableWithCores.{TableWithCores}
+use Rattle.tables.specs.Tables.{maxSets, maxCores, isFrame, isSet, cores, chosen, dual, normalTable, chosenCore, meetsEvery, survivorSets}
 use Rattle.tables.specs.Tables.Laws.{Accepted, table-accepted, sets-word, some-core, accepted-normal}
-use Rattle.hitting_sets.specs.declared.sorting.Order.the-variants.{ByMask}
+use Rattle.set_orders.specs.declared.sorting.Order.the-variants.{ByMask}
 use Rattle.hitting_sets.specs.Hitting.{hits, minimals}
-use Rattle.hitting_sets.specs.Found.{Found}
-use Rattle.hitting_sets.specs.Order.{byMask, precedes}
-use Rattle.hitting_sets.specs.Order.Sort.{length-sort}
-use Rattle.hitting_sets.specs.Order.Normal.{hits-normal}
+use Rattle.core_search.specs.Found.{Found}
+use Rattle.set_orders.specs.Order.{byMask, precedes}
+use Rattle.set_orders.specs.Order.Sort.{length-sort}
+use Rattle.hitting_sets.specs.Hitting.Normal.{hits-normal}
 use Rattle.tables.proofs.Completes.{no-elements, some-elements}
 use Rattle.tables.specs.Reading.{setsOf, outcomeOf}
 use Rattle.tables.specs.Complete.{Complete, withCores, completeTable, completeOutcome}
@@ -35,7 +34,7 @@ module _ {A B : Type 0} where
   then-refused (refused r) f e = cc
   then-refused (result a) f e = absurd (let z : _≡_ {A = ℕ} 0 1 = cc in omega arith)
 
-module _ (n : ℕ) (sets : List ℕ) (t : CoreTable) (e : completeOutcome t ≡ completeTable n sets) where
+module _ (n : ℕ) (sets : List ℕ) (t : TableWithCores) (e : completeOutcome t ≡ completeTable n sets) where
   answer-is : (a : Answer) → t .answer ≡ a → outcomeOf a (record { n = t .table .n; sets = setsOf (t .table); cores = take (t .found) (t .cores) }) ≡ completeTable n sets
   unfolding completeOutcome
   answer-is a f =
@@ -83,7 +82,7 @@ module _ (n : ℕ) (sets : List ℕ) (t : CoreTable) (e : completeOutcome t ≡ 
 
 -- ---- some drives and every set
 
-module _ (n : ℕ) (sets : List ℕ) (group : ℕ) (t : CoreTable) (e : completeOutcome t ≡ completeTable n sets) (f : t .answer ≡ answers.Accepted) where
+module _ (n : ℕ) (sets : List ℕ) (group : ℕ) (t : TableWithCores) (e : completeOutcome t ≡ completeTable n sets) (f : t .answer ≡ answers.Accepted) where
   asked : refuseIf (not (isSet n group)) BadSet (result (hits (setsOf (t .table)) group)) ≡ meetsEvery n sets group
   unfolding meetsEvery
   asked = asks-taken n sets t e (λ table. refuseIf (not (isSet n group)) BadSet (result (hits table group))) (accept-taken n sets t e f)
@@ -105,43 +104,37 @@ module _ (n : ℕ) (sets : List ℕ) (group : ℕ) (t : CoreTable) (e : complete
 
 -- ---- Back
 
-module _ (n : ℕ) (groups : List ℕ) where
-  module _ (t : Bool) (e : t ≡ isFrame n) where
-    pub back-no-frame : not t ≡ true → refused FrameSize ≡ survivorSets n groups
+module _ (n : ℕ) (groups : List ℕ) (t : Bool) (e : t ≡ isFrame n) where
+  pub back-no-frame : not t ≡ true → refused FrameSize ≡ survivorSets n groups
+  unfolding survivorSets
+  back-no-frame h = rw (← e, h)
+
+  module _ (h : not t ≡ false) where
+    pub back-none : length groups ≡ 0 → refused TooManyCores ≡ survivorSets n groups
     unfolding survivorSets
-    back-no-frame h = sym (cond-true _ _ (ap not (sym e) ∙ h))
+    back-none none = rw (← e, h, no-elements groups none)
 
-    module _ (h : not t ≡ false) where
-      pub back-none : length groups ≡ 0 → refused TooManyCores ≡ survivorSets n groups
+    module _ (some : length groups ≡ 0 → ⊥) where
+      pub back-many : maxCores < length groups → refused TooManyCores ≡ survivorSets n groups
       unfolding survivorSets
-      back-none none = sym (cond-false _ _ (ap not (sym e) ∙ h) ∙ cond-true _ _ (no-elements groups none))
+      back-many m = rw (← e, h, some-elements groups some, lt-ltb maxCores (length groups) m)
 
-      module _ (some : length groups ≡ 0 → ⊥) where
-        pub back-many : 1024 < length groups → refused TooManyCores ≡ survivorSets n groups
+      module _ (few : length groups ≤ maxCores) (u : Bool) (f : u ≡ all (isSet n) groups) where
+        pub back-bad : not u ≡ true → refused BadSet ≡ survivorSets n groups
         unfolding survivorSets
-        back-many m =
-            sym (cond-false _ _ (ap not (sym e) ∙ h) ∙ (cond-false _ _ (some-elements groups some) ∙ cond-true _ _ (lt-ltb 1024 (length groups) m)))
+        back-bad b = rw (← e, h, some-elements groups some, le-ltb maxCores (length groups) few, ← f, b)
 
-        module _ (few : length groups ≤ 1024) (u : Bool) (f : u ≡ all (isSet n) groups) where
-          passed-three : refuseIf (not (all (isSet n) groups)) BadSet (refuseIf (ltb 128 (length (dual groups))) TooManySets (result (dual groups))) ≡ survivorSets n groups
+        module _ (g : not u ≡ false) (out new : List ℕ) (r : ℕ) (room : length out ≡ maxSets) (found : Found (precedes ByMask) groups out new r) where
+          dual-count : length (dual groups) ≡ length (minimals groups)
+          unfolding dual
+          dual-count = length-sort byMask (minimals groups)
+
+          pub back-more : maxSets < r → refused TooManySets ≡ survivorSets n groups
           unfolding survivorSets
-          passed-three =
-              sym (cond-false _ _ (ap not (sym e) ∙ h) ∙ (cond-false _ _ (some-elements groups some) ∙ cond-false _ _ (le-ltb 1024 (length groups) few)))
+          back-more m =
+              rw (← e, h, some-elements groups some, le-ltb maxCores (length groups) few, ← f, g, lt-ltb maxSets (length (dual groups)) (omega (arith, found .total, dual-count)))
 
-          pub back-bad : not u ≡ true → refused BadSet ≡ survivorSets n groups
-          back-bad b = sym (cond-true _ _ (ap not (sym f) ∙ b)) ∙ passed-three
-
-          module _ (g : not u ≡ false) (out new : List ℕ) (r : ℕ) (room : length out ≡ 128) (found : Found (precedes ByMask) groups out new r) where
-            dual-count : length (dual groups) ≡ length (minimals groups)
-            unfolding dual
-            dual-count = length-sort byMask (minimals groups)
-
-            pub back-more : 128 < r → refused TooManySets ≡ survivorSets n groups
-            back-more m =
-                sym (cond-false _ _ (ap not (sym f) ∙ g) ∙ cond-true _ _ (lt-ltb 128 (length (dual groups)) (omega (arith, found .total, dual-count)))) ∙ passed-three
-
-            pub back-found : r ≤ 128 → result (take r new) ≡ survivorSets n groups
-            unfolding dual precedes
-            back-found m =
-                ap (λ (l : List ℕ). result l) (found .listed (omega arith) (omega arith))
-                ∙ (sym (cond-false _ _ (ap not (sym f) ∙ g) ∙ cond-false _ _ (le-ltb 128 (length (dual groups)) (omega (arith, found .total, dual-count)))) ∙ passed-three)
+          pub back-found : r ≤ maxSets → result (take r new) ≡ survivorSets n groups
+          unfolding survivorSets dual precedes
+          back-found m =
+              rw (← e, h, some-elements groups some, le-ltb maxCores (length groups) few, ← f, g, le-ltb maxSets (length (dual groups)) (omega (arith, found .total, dual-count)), found .listed (omega arith) (omega arith))

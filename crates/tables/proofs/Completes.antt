@@ -11,33 +11,31 @@ use lib.Seq.{take-at, drop-cons, drop-length}
 use borrow.Author.Tests.{lt-ltb, le-ltb}
 use Rattle.drive_sets.specs.declared.Refusal.{Refusal}
 use Rattle.drive_sets.specs.declared.Refusal.the-variants.{WrongMark, FrameSize, BadSet, TooManySets, TrailingBytes, TooManyCores}
-use Rattle.drive_sets.specs.Bools.{cond-true, cond-false}
-use Rattle.drive_sets.specs.Refusals.{Outcome, refused, result, refuseIf, andThen}
+use Rattle.drive_sets.specs.Refusals.{Outcome, refused, result, andThen}
 use Rattle.drive_sets.specs.Lists.{all}
 use Rattle.records.proofs.Parts.{rest-is}
-use Rattle.hitting_sets.specs.declared.sorting.Order.the-variants.{BySize}
+use Rattle.set_orders.specs.declared.sorting.Order.the-variants.{BySize}
 use Rattle.hitting_sets.specs.Hitting.{minimals}
-use Rattle.hitting_sets.specs.Found.{Found}
-use Rattle.hitting_sets.specs.Order.{sort, bySize, precedes, normal, normalWithin, Listed}
-use Rattle.hitting_sets.specs.Order.Sort.{length-sort}
-use Rattle.hitting_sets.specs.Order.Normal.{normalWithin-fits, length-normal}
+use Rattle.core_search.specs.Found.{Found}
+use Rattle.set_orders.specs.Order.{sort, bySize, precedes, normal, normalWithin, Listed}
+use Rattle.set_orders.specs.Order.Sort.{length-sort}
+use Rattle.set_orders.specs.Order.Normal.{normalWithin-fits, length-normal}
 use Rattle.tables.specs.declared.reading.Table.{Table}
 use Rattle.tables.specs.declared.reading.TableRead.{TableRead}
-use Rattle.tables.specs.declared.reading.Answer.{Answer}
 use Rattle.tables.specs.declared.reading.Answer.the-variants.{Accepted, Refused}
 use Rattle.tables.specs.declared.files.TableFile.{TableFile}
-use Rattle.tables.specs.Tables.{isFrame, isSet, isEmpty, cores, uncrowded, normalTable}
+use Rattle.tables.specs.Tables.{maxSets, maxCores, isFrame, isSet, isEmpty, cores, withinCoreLimit, normalTable}
 use Rattle.tables.specs.Files.{ReadTable, readListed, accepted, readTable, readWhole}
-use Rattle.tables.specs.Reading.{setsOf, outcomeOf, readOutcome}
-use Rattle.tables.specs.Complete.{Complete, ReadComplete, withCores, completeSets, completeTable, completeOutcome, readWithCores, readComplete, readWholeComplete, fileOutcome}
+use Rattle.tables.specs.Reading.{setsOf, readOutcome}
+use Rattle.tables.specs.Complete.{withCores, completeSets, completeTable, completeOutcome, readWithCores, readComplete, readWholeComplete, fileOutcome}
 
 -- ---- the normal table
 
-module _ (sets old new : List ℕ) (count : ℕ) (most : length sets ≤ 128) (room : length old ≡ 128) (l : Listed (normalWithin (length old) sets) old new count) where
+module _ (sets old new : List ℕ) (count : ℕ) (most : length sets ≤ maxSets) (room : length old ≡ maxSets) (l : Listed (normalWithin (length old) sets) old new count) where
   is-normal : normalWithin (length old) sets ≡ normal sets
   is-normal = normalWithin-fits (length old) sets most (omega arith)
 
-  pub count-le : count ≤ 128
+  pub count-le : count ≤ maxSets
   count-le = omega (arith, l .count, ap length is-normal, length-normal sets)
 
   pub normal-taken : take count new ≡ normal sets
@@ -53,24 +51,21 @@ by-size : precedes BySize ≡ bySize
 unfolding precedes
 by-size = refl
 
-module _ (n : ℕ) (sets part out out' : List ℕ) (found : ℕ) (e : part ≡ normal sets) (room : length out ≡ 1024) (f : Found (precedes BySize) part out out' found) where
+module _ (n : ℕ) (sets part out out' : List ℕ) (found : ℕ) (e : part ≡ normal sets) (room : length out ≡ maxCores) (f : Found (precedes BySize) part out out' found) where
   core-count : length (cores (normal sets)) ≡ length (minimals part)
   unfolding cores
   core-count = length-sort bySize (minimals (normal sets)) ∙ ap (λ (l : List ℕ). length (minimals l)) (sym e)
 
-  pub too-many : 1024 < found → refused TooManyCores ≡ completeSets n sets
-  unfolding completeSets uncrowded
-  too-many h =
-      sym (ap (λ (o : Outcome (List ℕ)). andThen o (λ table. result (withCores n table)))
-      (cond-true _ _ (lt-ltb 1024 (length (cores (normal sets))) (omega (arith, f .total, core-count)))))
+  pub too-many : maxCores < found → refused TooManyCores ≡ completeSets n sets
+  unfolding completeSets withinCoreLimit
+  too-many h = rw (lt-ltb maxCores (length (cores (normal sets))) (omega (arith, f .total, core-count)))
 
-  pub completed : found ≤ 1024 → (table : List ℕ) → table ≡ normal sets → result (record { n = n; sets = table; cores = take found out' }) ≡ completeSets n sets
-  unfolding completeSets uncrowded withCores cores
+  pub completed : found ≤ maxCores → (table : List ℕ) → table ≡ normal sets → result (record { n = n; sets = table; cores = take found out' }) ≡ completeSets n sets
+  unfolding completeSets withinCoreLimit withCores cores
   completed h table same =
       ap₂ (λ (t c : List ℕ). result (record { n = n; sets = t; cores = c })) same
       (f .listed (omega arith) (omega arith) ∙ ap₂ (λ (b : ℕ → ℕ → Bool) (l : List ℕ). sort b (minimals l)) by-size e)
-      ∙ sym (ap (λ (o : Outcome (List ℕ)). andThen o (λ table. result (withCores n table)))
-      (cond-false _ _ (le-ltb 1024 (length (cores (normal sets))) (omega (arith, f .total, core-count)))))
+      ∙ rw (le-ltb maxCores (length (cores (normal sets))) (omega (arith, f .total, core-count)))
 
 -- a table's sets, as a part of its array from the start on
 pub first-taken : (t : Table) → take (t .count - 0) (t .sets) ≡ setsOf t
@@ -105,49 +100,36 @@ unfolding isEmpty
 some-elements [] ne = absurd (ne refl)
 some-elements (x ∷ l) ne = refl
 
-module _ (n : ℕ) (sets : List ℕ) where
-  abbrev with-cores : Outcome (List ℕ) → Outcome Complete
-  with-cores o = andThen o (λ table. result (withCores n table))
+-- the refusals passed so far, each the next test
+module _ (n : ℕ) (sets : List ℕ) (t : Bool) (e : t ≡ isFrame n) where
+  pub no-frame : not t ≡ true → refused FrameSize ≡ completeTable n sets
+  unfolding completeTable normalTable
+  no-frame h = rw (← e, h)
 
-  -- the refusals passed so far, each the next test
-  module _ (t : Bool) (e : t ≡ isFrame n) where
-    pub no-frame : not t ≡ true → refused FrameSize ≡ completeTable n sets
+  module _ (h : not t ≡ false) where
+    pub no-sets : length sets ≡ 0 → refused WrongMark ≡ completeTable n sets
     unfolding completeTable normalTable
-    no-frame h = sym (ap with-cores (cond-true _ _ (ap not (sym e) ∙ h)))
+    no-sets none = rw (← e, h, no-elements sets none)
 
-    module _ (h : not t ≡ false) where
-      pub no-sets : length sets ≡ 0 → refused WrongMark ≡ completeTable n sets
+    module _ (some : length sets ≡ 0 → ⊥) where
+      pub many-sets : maxSets < length sets → refused TooManySets ≡ completeTable n sets
       unfolding completeTable normalTable
-      no-sets none = sym (ap with-cores (cond-false _ _ (ap not (sym e) ∙ h) ∙ cond-true _ _ (no-elements sets none)))
+      many-sets m = rw (← e, h, some-elements sets some, lt-ltb maxSets (length sets) m)
 
-      module _ (some : length sets ≡ 0 → ⊥) where
-        pub many-sets : 128 < length sets → refused TooManySets ≡ completeTable n sets
+      module _ (few : length sets ≤ maxSets) (u : Bool) (f : u ≡ all (isSet n) sets) where
+        pub bad-sets : not u ≡ true → refused BadSet ≡ completeTable n sets
         unfolding completeTable normalTable
-        many-sets m =
-            sym (ap with-cores (cond-false _ _ (ap not (sym e) ∙ h) ∙ (cond-false _ _ (some-elements sets some) ∙ cond-true _ _ (lt-ltb 128 (length sets) m))))
+        bad-sets b = rw (← e, h, some-elements sets some, le-ltb maxSets (length sets) few, ← f, b)
 
-        module _ (few : length sets ≤ 128) (u : Bool) (f : u ≡ all (isSet n) sets) where
-          passed-three : normalTable n sets ≡ refuseIf (not (all (isSet n) sets)) BadSet (uncrowded sets)
-          unfolding normalTable
-          passed-three = cond-false _ _ (ap not (sym e) ∙ h) ∙ (cond-false _ _ (some-elements sets some) ∙ cond-false _ _ (le-ltb 128 (length sets) few))
-
-          pub bad-sets : not u ≡ true → refused BadSet ≡ completeTable n sets
-          unfolding completeTable
-          bad-sets b = sym (ap with-cores (passed-three ∙ cond-true _ _ (ap not (sym f) ∙ b)))
-
-          pub good-sets : not u ≡ false → completeSets n sets ≡ completeTable n sets
-          unfolding completeTable completeSets
-          good-sets g = sym (ap with-cores (passed-three ∙ cond-false _ _ (ap not (sym f) ∙ g)))
+        pub good-sets : not u ≡ false → completeSets n sets ≡ completeTable n sets
+        unfolding completeTable normalTable completeSets
+        good-sets g = rw (← e, h, some-elements sets some, le-ltb maxSets (length sets) few, ← f, g)
 
 -- ---- tables from a file
 
--- what was listed, made complete
-abbrev complete-of : Outcome ReadTable → Outcome ReadComplete
-complete-of o = andThen (andThen o accepted) readWithCores
-
 cores-accepted : (t : ReadTable) → andThen (completeSets (t .n) (t .sets)) (λ table. result (record { table = table; rest = t .rest })) ≡ andThen (accepted t) readWithCores
 unfolding completeSets accepted readWithCores
-cores-accepted t = go (uncrowded (t .sets))
+cores-accepted t = go (withinCoreLimit (t .sets))
   where
     go : (o : Outcome (List ℕ))
         → andThen (andThen o (λ table. result (withCores (t .n) table))) (λ table. result (record { table = table; rest = t .rest }))
@@ -155,24 +137,17 @@ cores-accepted t = go (uncrowded (t .sets))
     go (refused r) = refl
     go (result table) = refl
 
-abbrev listing : TableRead → List ℕ → ReadTable
-listing l s = record { n = l .table .n; sets = setsOf (l .table); rest = drop (l .used) s }
-
 module _ (l : TableRead) (t : TableFile) where
   -- a refused listing stays refused
   pub finish-refused : (q : Refusal) → l .answer ≡ Refused q → completeOutcome (t .complete) ≡ refused q → (s : List ℕ)
       → fileOutcome t s ≡ andThen (andThen (readOutcome l s) accepted) readWithCores
   unfolding fileOutcome readOutcome
-  finish-refused q e f s =
-      ap (λ (o : Outcome Complete). andThen o (λ table. result (record { table = table; rest = drop (t .used) s }))) f
-      ∙ sym (ap (λ (a : Answer). complete-of (outcomeOf a (listing l s))) e)
+  finish-refused q e f s = rw (f, e)
 
   pub finish-accepted : l .answer ≡ Accepted → t .used ≡ l .used → completeOutcome (t .complete) ≡ completeSets (l .table .n) (setsOf (l .table)) → (s : List ℕ)
       → fileOutcome t s ≡ andThen (andThen (readOutcome l s) accepted) readWithCores
   unfolding fileOutcome readOutcome
-  finish-accepted e u f s =
-      ap₂ (λ (o : Outcome Complete) (k : ℕ). andThen o (λ table. result (record { table = table; rest = drop k s }))) f u
-      ∙ (cores-accepted (listing l s) ∙ sym (ap (λ (a : Answer). complete-of (outcomeOf a (listing l s))) e))
+  finish-accepted e u f s = rw (f, u, e) (cores-accepted (record { n = l .table .n; sets = setsOf (l .table); rest = drop (l .used) s }))
 
 -- nothing behind, or something
 rest-none : (s : List ℕ) (k : ℕ) → length s ≤ k → isEmpty (drop k s) ≡ true
@@ -181,36 +156,23 @@ rest-none s k h = no-elements (drop k s) (omega (arith, length-drop k s))
 rest-some : (s : List ℕ) (k : ℕ) → k < length s → isEmpty (drop k s) ≡ false
 rest-some s k h = some-elements (drop k s) (λ e. omega (arith, length-drop k s))
 
-abbrev whole-of : Outcome ReadTable → Outcome ReadComplete
-whole-of o = andThen (andThen o (λ t. refuseIf (not (isEmpty (t .rest))) TrailingBytes (accepted t))) readWithCores
-
 module _ (l : TableRead) (t : TableFile) (s : List ℕ) (e : readOutcome l s ≡ readListed s) where
   pub table-finished : fileOutcome t s ≡ andThen (andThen (readOutcome l s) accepted) readWithCores → fileOutcome t s ≡ readComplete s
   unfolding readComplete readTable
-  table-finished f = f ∙ ap complete-of e
-
-  whole-answer : (a : Answer) → l .answer ≡ a → whole-of (outcomeOf a (listing l s)) ≡ readWholeComplete s
-  unfolding readOutcome readWholeComplete readWhole
-  whole-answer a f = ap (λ (b : Answer). whole-of (outcomeOf b (listing l s))) (sym f) ∙ ap whole-of e
+  table-finished f = rw (← e) f
 
   pub whole-refused : (q : Refusal) → l .answer ≡ Refused q → completeOutcome (t .complete) ≡ refused q → fileOutcome t s ≡ readWholeComplete s
-  unfolding fileOutcome
-  whole-refused q f g =
-      ap (λ (o : Outcome Complete). andThen o (λ table. result (record { table = table; rest = drop (t .used) s }))) g ∙ whole-answer (Refused q) f
+  unfolding fileOutcome readOutcome readWholeComplete readWhole
+  whole-refused q f g = rw (← e, f, g)
 
   module _ (f : l .answer ≡ Accepted) where
-    whole-accepted : (b : Bool) → isEmpty (drop (l .used) s) ≡ b → andThen (refuseIf (not b) TrailingBytes (accepted (listing l s))) readWithCores ≡ readWholeComplete s
-    whole-accepted b h =
-        ap (λ (x : Bool). andThen (refuseIf (not x) TrailingBytes (accepted (listing l s))) readWithCores) (sym h) ∙ whole-answer Accepted f
-
     pub whole-trailing : l .used < length s → completeOutcome (t .complete) ≡ refused TrailingBytes → fileOutcome t s ≡ readWholeComplete s
-    unfolding fileOutcome
-    whole-trailing h g =
-        ap (λ (o : Outcome Complete). andThen o (λ table. result (record { table = table; rest = drop (t .used) s }))) g ∙ whole-accepted false (rest-some s (l .used) h)
+    unfolding fileOutcome readOutcome readWholeComplete readWhole
+    whole-trailing h g = rw (← e, f, g, rest-some s (l .used) h)
 
     pub whole-finished : length s ≤ l .used → fileOutcome t s ≡ andThen (andThen (readOutcome l s) accepted) readWithCores → fileOutcome t s ≡ readWholeComplete s
-    unfolding readOutcome
-    whole-finished h g = g ∙ (ap (λ (a : Answer). complete-of (outcomeOf a (listing l s))) f ∙ whole-accepted true (rest-none s (l .used) h))
+    unfolding readOutcome readWholeComplete readWhole
+    whole-finished h g = g ∙ rw (← e, f, rest-none s (l .used) h)
 
 pub past-end : (s : List ℕ) (used : ℕ) → length s < used → take (length s - length s) (drop (length s) s) ≡ drop used s
 past-end s used h = rest-is s (length s) ∙ (drop-length s ∙ sym (drop-of-length-le s (le-of-lt h)))

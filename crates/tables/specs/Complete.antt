@@ -3,9 +3,9 @@ use mathlib.Core.List.{List}
 use Prim.Native.Nat.{ℕ, _≤_}
 use lib.ListN.{length, take, drop}
 use Rattle.drive_sets.specs.Refusals.{Outcome, result, andThen}
-use Rattle.tables.specs.declared.completing.CoreTable.{CoreTable}
+use Rattle.tables.specs.declared.completing.TableWithCores.{TableWithCores}
 use Rattle.tables.specs.declared.files.TableFile.{TableFile}
-use Rattle.tables.specs.Tables.{cores, uncrowded, normalTable}
+use Rattle.tables.specs.Tables.{maxSets, maxCores, cores, withinCoreLimit, normalTable}
 use Rattle.tables.specs.Files.{ReadTable, readTable, readWhole}
 use Rattle.tables.specs.Reading.{setsOf, outcomeOf}
 
@@ -20,20 +20,20 @@ withCores n table = record { n = n; sets = table; cores = cores table }
 
 -- the normal table of some sets, with its cores; 13 where there are more than 1024
 unfoldable pub completeSets : ℕ → List ℕ → Outcome Complete
-completeSets n sets = andThen (uncrowded sets) (λ table. result (withCores n table))
+completeSets n sets = andThen (withinCoreLimit sets) (λ table. result (withCores n table))
 
 -- the same after the refusals of a call given n and sets
 unfoldable pub completeTable : ℕ → List ℕ → Outcome Complete
 completeTable n sets = andThen (normalTable n sets) (λ table. result (withCores n table))
 
 -- what an answer says
-unfoldable pub completeOutcome : CoreTable → Outcome Complete
+unfoldable pub completeOutcome : TableWithCores → Outcome Complete
 completeOutcome r = outcomeOf (r .answer) (record { n = r .table .n; sets = setsOf (r .table); cores = take (r .found) (r .cores) })
 
 -- its counts stay within the arrays
-pub record CompleteWithin (r : CoreTable) : Type 0 where
-  pub sets : r .table .count ≤ 128
-  pub cores : r .found ≤ 1024
+pub record CompleteWithin (r : TableWithCores) : Type 0 where
+  pub sets : r .table .count ≤ maxSets
+  pub cores : r .found ≤ maxCores
 
 -- ---- tables from a file, with their cores
 

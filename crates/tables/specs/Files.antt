@@ -1,21 +1,19 @@
 -- Tables as bytes: FR with n, 1 to 128 SV with a mask, EN with their count. Reading finds the refusals from left to right; writing writes
 -- the normal table.
-use mathlib.Core.Bool.{not, cond}
+use mathlib.Core.Bool.{false, not}
 use mathlib.Core.List.{List, [], _∷_, _++_}
-use Prim.Native.Nat.{ℕ, zero, suc, _+_}
-use lib.Dec.{eqb, leb}
-use lib.ListN.{length, take, drop}
-use Rattle.drive_sets.specs.declared.Refusal.the-variants.{FrameSize, BadSet, TooManySets, CountDiffers, TrailingBytes, NoRoom}
-use Rattle.drive_sets.specs.Refusals.{Outcome, refused, result, refuseIf, andThen}
-use Rattle.records.specs.declared.Kind.{Kind}
+use Prim.Native.Nat.{ℕ, zero, suc}
+use lib.Dec.{leb}
+use lib.ListN.{length, drop}
+use Rattle.drive_sets.specs.declared.Refusal.the-variants.{FrameSize, BadSet, TooManySets, TrailingBytes}
+use Rattle.drive_sets.specs.Refusals.{Outcome, result, refuseIf, andThen}
 use Rattle.records.specs.declared.Kind.the-variants.{Frame, Survivor, End}
 use Rattle.records.specs.declared.Due.{Due}
 use Rattle.records.specs.declared.Due.the-variants.{AtFrame, AtFirstSet, AtSetOrEnd}
-use Rattle.records.specs.declared.Head.{Head}
-use Rattle.records.specs.declared.Head.the-variants.{Record, Refused}
-use Rattle.records.specs.Fields.{fromBytes, writtenAt}
+use Rattle.records.specs.Fields.{fieldAt}
 use Rattle.records.specs.Marks.{mark, headOf, recordBytes}
-use Rattle.tables.specs.Tables.{isFrame, isSet, isEmpty, uncrowded, normalTable}
+use Rattle.records.specs.RecordLists.{atRecord, ListFormat, ReadList, readList, listBytes}
+use Rattle.tables.specs.Tables.{maxSets, isFrame, isSet, isEmpty, withinCoreLimit, normalTable}
 pub mod Laws
 
 -- what is read: the drives, the sets, and the bytes after EN
@@ -24,43 +22,35 @@ pub record ReadTable : Type 0 where
   pub sets : List ℕ
   pub rest : List ℕ
 
--- what the function makes of the kind of record that is there
-module _ {A : Type 0} where
-  abbrev pub atRecord : Head → (Kind → Outcome A) → Outcome A
-  atRecord (Refused r) f = refused r
-  atRecord (Record k) f = f k
-
 -- after FR a set is due, and after a set another one or the end
-unfoldable pub dueAfter : List ℕ → Due
-dueAfter [] = AtFirstSet
-dueAfter (s ∷ listed) = AtSetOrEnd
+unfoldable pub dueAfter : ℕ → Due
+dueAfter zero = AtFirstSet
+dueAfter (suc count) = AtSetOrEnd
 
--- EN: its count is that of the sets listed
-unfoldable pub atEnd : ℕ → List ℕ → List ℕ → Outcome ReadTable
-atEnd n listed s =
-    refuseIf (not (eqb (fromBytes (take 1 (drop 2 s))) (length listed))) CountDiffers
-    (result (record { n = n; sets = listed; rest = drop 3 s }))
+-- SV: mask, 8 bytes; a 129th meets 5, a mask that is no set of the frame 4
+unfoldable pub takenSet : ℕ → List ℕ → List ℕ → Outcome (List ℕ)
+takenSet n listed s =
+    refuseIf (leb maxSets (length listed)) TooManySets
+    (refuseIf (not (isSet n (fieldAt 2 8 s))) BadSet
+    (result (listed ++ (fieldAt 2 8 s ∷ []))))
 
--- the records after FR, with the sets listed so far, and room for so many more: a set that has no room meets 5
-unfoldable pub readSets : ℕ → ℕ → List ℕ → List ℕ → Outcome ReadTable
-readSets zero n listed s =
-    atRecord (headOf (dueAfter listed) s) (λ kind. cond (eqb (mark kind) (mark End)) (atEnd n listed s) (refused TooManySets))
-readSets (suc room) n listed s =
-    let set = fromBytes (take 8 (drop 2 s)) in
-    let next = readSets room n (listed ++ (set ∷ [])) (drop 10 s) in
-    let checked = refuseIf (not (isSet n set)) BadSet next in
-    atRecord (headOf (dueAfter listed) s) (λ kind. cond (eqb (mark kind) (mark End)) (atEnd n listed s) checked)
+-- the records after FR, with the sets listed so far
+abbrev pub setList : ℕ → ListFormat (List ℕ)
+setList n = record { kind = Survivor; due = λ listed. dueAfter (length listed); count = length; complete = λ listed. false; taken = takenSet n }
+
+abbrev pub listedTable : ℕ → ReadList (List ℕ) → ReadTable
+listedTable n l = record { n = n; sets = l .list; rest = l .rest }
 
 -- the table as listed
 unfoldable pub readListed : List ℕ → Outcome ReadTable
 readListed s =
-    let n = fromBytes (take 1 (drop 2 s)) in
-    let sets = readSets 128 n [] (drop 3 s) in
+    let n = fieldAt 2 1 s in
+    let sets = andThen (readList (setList n) [] (drop 3 s)) (λ l. result (listedTable n l)) in
     atRecord (headOf AtFrame s) (λ kind. refuseIf (not (isFrame n)) FrameSize sets)
 
 -- the normal table, 13 coming last
 unfoldable pub accepted : ReadTable → Outcome ReadTable
-accepted t = andThen (uncrowded (t .sets)) (λ table. result (record { n = t .n; sets = table; rest = t .rest }))
+accepted t = andThen (withinCoreLimit (t .sets)) (λ table. result (record { n = t .n; sets = table; rest = t .rest }))
 
 -- a table with more behind it, which is handed back
 unfoldable pub readTable : List ℕ → Outcome ReadTable
@@ -72,16 +62,9 @@ readWhole s = andThen (readListed s) (λ t. refuseIf (not (isEmpty (t .rest))) T
 
 -- ---- writing
 
-unfoldable pub setRecords : List ℕ → List ℕ
-setRecords [] = []
-setRecords (s ∷ sets) = recordBytes (mark Survivor) 8 s ++ setRecords sets
-
 unfoldable pub tableBytes : ℕ → List ℕ → List ℕ
-tableBytes n sets = recordBytes (mark Frame) 1 n ++ (setRecords sets ++ recordBytes (mark End) 1 (length sets))
+tableBytes n sets = recordBytes (mark Frame) 1 n ++ (listBytes Survivor sets ++ recordBytes (mark End) 1 (length sets))
 
--- the lent buffer with the normal table from the starting place on; 14 is last
-unfoldable pub writeTable : ℕ → List ℕ → ℕ → List ℕ → Outcome (List ℕ)
-writeTable n sets start buffer =
-    andThen (normalTable n sets) (λ table.
-    refuseIf (not (leb (start + length (tableBytes n table)) (length buffer))) NoRoom
-    (result (writtenAt start (tableBytes n table) buffer)))
+-- what the writer writes: the bytes of the normal table, after the refusals of a call given n and sets
+unfoldable pub writeTable : ℕ → List ℕ → Outcome (List ℕ)
+writeTable n sets = andThen (normalTable n sets) (λ table. result (tableBytes n table))

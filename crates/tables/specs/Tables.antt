@@ -11,12 +11,22 @@ use Rattle.drive_sets.specs.Lists.{all}
 use Rattle.drive_sets.specs.Masks.{full, subset}
 use Rattle.drive_sets.specs.Refusals.{Outcome, result, refuseIf, andThen}
 use Rattle.hitting_sets.specs.Hitting.{hits, minimals}
-use Rattle.hitting_sets.specs.Order.{byMask, bySize, sort, normal}
+use Rattle.set_orders.specs.Order.{byMask, bySize, sort, normal}
 pub mod Laws
+
+-- the most drives of a frame, sets of a table and cores of a table
+abbrev pub maxDrives : ℕ
+maxDrives = 64
+
+abbrev pub maxSets : ℕ
+maxSets = 128
+
+abbrev pub maxCores : ℕ
+maxCores = 1024
 
 -- a frame has 1 to 64 drives
 unfoldable pub isFrame : ℕ → Bool
-isFrame n = leb 1 n && leb n 64
+isFrame n = leb 1 n && leb n maxDrives
 
 -- a set of the frame's drives, not empty
 unfoldable pub isSet : ℕ → ℕ → Bool
@@ -38,8 +48,8 @@ unfoldable pub dual : List ℕ → List ℕ
 dual groups = sort byMask (minimals groups)
 
 -- the normal table, where it has at most 1024 cores
-unfoldable pub uncrowded : List ℕ → Outcome (List ℕ)
-uncrowded sets = refuseIf (ltb 1024 (length (cores (normal sets)))) TooManyCores (result (normal sets))
+unfoldable pub withinCoreLimit : List ℕ → Outcome (List ℕ)
+withinCoreLimit sets = refuseIf (ltb maxCores (length (cores (normal sets)))) TooManyCores (result (normal sets))
 
 -- ---- the calls given n and sets: 3, 2, 5, then 4 set by set, then 13
 
@@ -47,9 +57,9 @@ unfoldable pub normalTable : ℕ → List ℕ → Outcome (List ℕ)
 normalTable n sets =
     refuseIf (not (isFrame n)) FrameSize
     (refuseIf (isEmpty sets) WrongMark
-    (refuseIf (ltb 128 (length sets)) TooManySets
+    (refuseIf (ltb maxSets (length sets)) TooManySets
     (refuseIf (not (all (isSet n) sets)) BadSet
-    (uncrowded sets))))
+    (withinCoreLimit sets))))
 
 unfoldable pub coreList : ℕ → List ℕ → Outcome (List ℕ)
 coreList n sets = andThen (normalTable n sets) (λ table. result (cores table))
@@ -67,7 +77,7 @@ unfoldable pub survivorSets : ℕ → List ℕ → Outcome (List ℕ)
 survivorSets n groups =
     refuseIf (not (isFrame n)) FrameSize
     (refuseIf (isEmpty groups) TooManyCores
-    (refuseIf (ltb 1024 (length groups)) TooManyCores
+    (refuseIf (ltb maxCores (length groups)) TooManyCores
     (refuseIf (not (all (isSet n) groups)) BadSet
-    (refuseIf (ltb 128 (length (dual groups))) TooManySets
+    (refuseIf (ltb maxSets (length (dual groups))) TooManySets
     (result (dual groups))))))

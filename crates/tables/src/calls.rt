@@ -3,7 +3,7 @@ ghost use mathlib.Core.Path.{_≡_};
 ghost use Prim.Native.Nat.{_≤_};
 ghost use Rattle.drive_sets.specs.Refusals.{refused};
 ghost use Rattle.hitting_sets.specs.Hitting.{hits};
-ghost use Rattle.tables.specs.Tables.{chosenCore, meetsEvery, survivorSets};
+ghost use Rattle.tables.specs.Tables.{maxSets, chosenCore, meetsEvery, survivorSets};
 ghost use Rattle.tables.specs.Answers.{chosenOutcome, meetingOutcome, listOutcome};
 use crate::completing;
 use crate::completing::all_sets;
@@ -11,9 +11,9 @@ use crate::reading::Answer;
 use crate::reading::is_frame;
 use crate::reading::is_set;
 use drive_sets::Refusal;
-use hitting_sets::MAX_CORES;
-use hitting_sets::MAX_SETS;
-use hitting_sets::sorting::Order;
+use set_orders::MAX_CORES;
+use set_orders::MAX_SETS;
+use set_orders::sorting::Order;
 
 pub enum Chosen {
     Core(u64),
@@ -30,7 +30,7 @@ pub enum Meeting {
 pub struct SetList {
     pub answer: Answer,
     pub count: usize,
-    pub sets: [u64; 128],
+    pub sets: [u64; MAX_SETS],
 }
 
 // The chosen core of a table: the first of its cores.
@@ -82,19 +82,19 @@ pub fn meets_every(n: u8, sets: &[u64], group: u64) -> Meeting
 
 fn no_list(r: Refusal) -> SetList
     ensures { λ t. ⌜ listOutcome t ≡ refused r ⌝ }
-    ensures within { λ t. ⌜ t .count ≤ 128 ⌝ }
+    ensures within { λ t. ⌜ t .count ≤ maxSets ⌝ }
 {
     SetList {
         answer: Answer::Refused(r),
         count: 0,
-        sets: [0u64; 128],
+        sets: [0u64; MAX_SETS],
     }
 }
 
 // Back: the smallest groups that meet each of the groups. 3, 13, 4, 5.
 pub fn survivor_sets(n: u8, groups: &[u64]) -> SetList
     ensures { λ r. ⌜ listOutcome r ≡ survivorSets n (now (groups .entry)) ⌝ }
-    ensures within { λ r. ⌜ r .count ≤ 128 ⌝ }
+    ensures within { λ r. ⌜ r .count ≤ maxSets ⌝ }
 {
     if !is_frame(n) {
         return no_list(Refusal::FrameSize);
@@ -108,8 +108,8 @@ pub fn survivor_sets(n: u8, groups: &[u64]) -> SetList
     if !all_sets(n, groups) {
         return no_list(Refusal::BadSet);
     }
-    let mut sets = [0u64; 128];
-    let count = hitting_sets::finding::find(Order::ByMask, groups, &mut sets);
+    let mut sets = [0u64; MAX_SETS];
+    let count = core_search::finding::minimal_hitting_sets(Order::ByMask, groups, &mut sets);
     if MAX_SETS < count {
         return no_list(Refusal::TooManySets);
     }

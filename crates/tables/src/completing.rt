@@ -3,7 +3,7 @@ ghost use mathlib.Core.Path.{_≡_};
 ghost use Prim.Native.Nat.{_≤_};
 ghost use lib.ListN.{length};
 ghost use Rattle.tables.specs.Complete.{completeSets, completeTable, completeOutcome, CompleteWithin};
-ghost use Rattle.tables.specs.Tables.{isSet};
+ghost use Rattle.tables.specs.Tables.{maxSets, isSet};
 ghost use Rattle.drive_sets.specs.Lists.{all};
 ghost use Rattle.tables.specs.Reading.{setsOf};
 ghost use Rattle.drive_sets.specs.Refusals.{refused};
@@ -12,58 +12,62 @@ use crate::reading::Table;
 use crate::reading::is_frame;
 use crate::reading::is_set;
 use drive_sets::Refusal;
-use hitting_sets::MAX_CORES;
-use hitting_sets::MAX_SETS;
-use hitting_sets::sorting::Order;
+use set_orders::MAX_CORES;
+use set_orders::MAX_SETS;
+use set_orders::sorting::Order;
 
 // A normal table with its cores, the first `found` of the array, where it is accepted.
-pub struct CoreTable {
+pub struct TableWithCores {
     pub answer: Answer,
     pub table: Table,
     pub found: usize,
-    pub cores: [u64; 1024],
+    pub cores: [u64; MAX_CORES],
 }
 
-pub(crate) fn refused(r: Refusal) -> CoreTable
+pub(crate) fn refused(r: Refusal) -> TableWithCores
     ensures { λ t. ⌜ completeOutcome t ≡ refused r ⌝ }
     ensures within { λ t. ⌜ CompleteWithin t ⌝ }
 {
-    CoreTable {
+    TableWithCores {
         answer: Answer::Refused(r),
         table: Table {
             n: 0,
             count: 0,
-            sets: [0u64; 128],
+            sets: [0u64; MAX_SETS],
         },
         found: 0,
-        cores: [0u64; 1024],
+        cores: [0u64; MAX_CORES],
     }
 }
 
 // The normal table of at most 128 sets and its cores; 13 where there are more than 1024.
-fn complete_sets(n: u8, sets: &[u64]) -> CoreTable
-    requires { ⌜ length (now sets) ≤ 128 ⌝ }
+fn complete_sets(n: u8, sets: &[u64]) -> TableWithCores
+    requires { ⌜ length (now sets) ≤ maxSets ⌝ }
     ensures { λ r. ⌜ completeOutcome r ≡ completeSets n (now (sets .entry)) ⌝ }
     ensures within { λ r. ⌜ CompleteWithin r ⌝ }
 {
-    let mut normal = [0u64; 128];
-    let count = hitting_sets::normal_form::normal(sets, &mut normal);
-    let mut cores = [0u64; 1024];
-    let found = hitting_sets::finding::find(Order::BySize, &normal[0..count], &mut cores);
+    let mut normal = [0u64; MAX_SETS];
+    let count = set_orders::normal_form::normal(sets, &mut normal);
+    let mut cores = [0u64; MAX_CORES];
+    let found = core_search::finding::minimal_hitting_sets(
+        Order::BySize,
+        &normal[0..count],
+        &mut cores,
+    );
     let table = Table {
         n,
         count,
         sets: normal,
     };
     if MAX_CORES < found {
-        return CoreTable {
+        return TableWithCores {
             answer: Answer::Refused(Refusal::TooManyCores),
             table,
             found: 0,
             cores,
         };
     }
-    CoreTable {
+    TableWithCores {
         answer: Answer::Accepted,
         table,
         found,
@@ -72,8 +76,8 @@ fn complete_sets(n: u8, sets: &[u64]) -> CoreTable
 }
 
 // The same of the sets listed in an array.
-pub(crate) fn complete(t: Table) -> CoreTable
-    requires { ⌜ t .count ≤ 128 ⌝ }
+pub(crate) fn complete(t: Table) -> TableWithCores
+    requires { ⌜ t .count ≤ maxSets ⌝ }
     ensures { λ r. ⌜ completeOutcome r ≡ completeSets (t .n) (setsOf t) ⌝ }
     ensures within { λ r. ⌜ CompleteWithin r ⌝ }
 {
@@ -98,7 +102,7 @@ pub(crate) fn all_sets(n: u8, sets: &[u64]) -> bool
 }
 
 // The normal table of n drives and some sets, with its cores: 3, 2, 5, 4, 13.
-pub fn accept(n: u8, sets: &[u64]) -> CoreTable
+pub fn accept(n: u8, sets: &[u64]) -> TableWithCores
     ensures { λ r. ⌜ completeOutcome r ≡ completeTable n (now (sets .entry)) ⌝ }
     ensures within { λ r. ⌜ CompleteWithin r ⌝ }
 {

@@ -8,7 +8,7 @@ ghost use Rattle.tables.specs.Files.{accepted};
 ghost use Rattle.tables.specs.Reading.{readOutcome, ReadWithin};
 ghost use Rattle.tables.specs.Complete.{completeOutcome, readWithCores, readComplete, readWholeComplete, fileOutcome, FileWithin};
 use crate::completing;
-use crate::completing::CoreTable;
+use crate::completing::TableWithCores;
 use crate::reading;
 use crate::reading::Answer;
 use crate::reading::TableRead;
@@ -16,7 +16,7 @@ use drive_sets::Refusal;
 
 // A table with its cores, where it is accepted, and how many bytes it took.
 pub struct TableFile {
-    pub complete: CoreTable,
+    pub complete: TableWithCores,
     pub used: usize,
 }
 

@@ -4,18 +4,23 @@ ghost use mathlib.Core.List.{List, []};
 ghost use Prim.Native.Nat.{ℕ, _≤_};
 ghost use lib.ListN.{length, drop};
 ghost use Rattle.tables.specs.Tables.{isFrame, isSet};
-ghost use Rattle.tables.specs.Files.{readSets, readListed};
-ghost use Rattle.tables.specs.Reading.{dueOf, endStep, setStep, stepOf, readOutcome, ReadWithin};
+ghost use Rattle.drive_sets.specs.Refusals.{result, andThen};
+ghost use Rattle.records.specs.RecordLists.{stepOf, readList};
+ghost use Rattle.tables.specs.Files.{dueAfter, setList, listedTable, readListed};
+ghost use Rattle.tables.specs.Reading.{stepOutcome, readOutcome, ReadWithin};
 use drive_sets::Refusal;
-use hitting_sets::MAX_SETS;
 use records::Due;
+use records::END_WIDTH;
 use records::Head;
+use records::Next;
+use records::SURVIVOR_WIDTH;
+use set_orders::MAX_SETS;
 
 // A table: n drives, and its sets, the first `count` of the array.
 pub struct Table {
     pub n: u8,
     pub count: usize,
-    pub sets: [u64; 128],
+    pub sets: [u64; MAX_SETS],
 }
 
 pub enum Answer {
@@ -53,7 +58,7 @@ pub fn is_set(n: u8, s: u64) -> bool
 
 // After FR a set is due, and after a set another one or the end.
 fn due_after(count: usize) -> Due
-    ensures { λ r. ⌜ r ≡ dueOf count ⌝ }
+    ensures { λ r. ⌜ r ≡ dueAfter count ⌝ }
 {
     if count == 0 {
         Due::AtFirstSet
@@ -71,50 +76,30 @@ fn refused(r: Refusal) -> TableRead
         table: Table {
             n: 0,
             count: 0,
-            sets: [0u64; 128],
+            sets: [0u64; MAX_SETS],
         },
         used: 0,
     }
 }
 
-// The end, where `count` sets are listed.
-fn end_step(s: &[u8], count: usize) -> Step
-    ensures { λ r. ⌜ r ≡ endStep count (now (s .entry)) ⌝ }
-{
-    if records::field(s, 2, 1) == count as u64 {
-        Step::End
-    } else {
-        Step::Stop(Refusal::CountDiffers)
-    }
-}
-
-// One set more than `count`.
-fn set_step(s: &[u8], n: u8, count: usize) -> Step
-    ensures { λ r. ⌜ r ≡ setStep n count (now (s .entry)) ⌝ }
-{
-    if MAX_SETS <= count {
-        return Step::Stop(Refusal::TooManySets);
-    }
-    let set = records::field(s, 2, 8);
-    if is_set(n, set) {
-        Step::Set(set)
-    } else {
-        Step::Stop(Refusal::BadSet)
-    }
-}
-
 // The record at the start of the bytes, where `count` sets are listed before it.
 fn next_step(s: &[u8], n: u8, count: usize) -> Step
-    ensures { λ r. ⌜ r ≡ stepOf n count (now (s .entry)) ⌝ }
+    ensures { λ r. ⌜ ((listed : List ℕ) → length listed ≡ count → stepOutcome listed r ≡ stepOf (setList n) listed (now (s .entry))) ⌝ }
 {
-    let head = records::read_head(s, due_after(count));
-    match head {
-        Head::Refused(r) => Step::Stop(r),
-        Head::Record(kind) => {
-            if records::is_end(kind) {
-                return end_step(s, count);
+    let next = records::next_record(s, due_after(count), count);
+    match next {
+        Next::Stop(r) => Step::Stop(r),
+        Next::End => Step::End,
+        Next::One => {
+            if MAX_SETS <= count {
+                return Step::Stop(Refusal::TooManySets);
             }
-            set_step(s, n, count)
+            let set = records::field(s, 2, 8);
+            if is_set(n, set) {
+                Step::Set(set)
+            } else {
+                Step::Stop(Refusal::BadSet)
+            }
         }
     }
 }
@@ -122,10 +107,10 @@ fn next_step(s: &[u8], n: u8, count: usize) -> Step
 // The records after the three bytes of FR.
 fn read_sets(s: &[u8], n: u8) -> TableRead
     requires { ⌜ 3 ≤ length (now s) ⌝ }
-    ensures { λ r. ⌜ readOutcome r (now (s .entry)) ≡ readSets 128 n [] (drop 3 (now (s .entry))) ⌝ }
+    ensures { λ r. ⌜ readOutcome r (now (s .entry)) ≡ andThen (readList (setList n) [] (drop 3 (now (s .entry)))) (λ l. result (listedTable n l)) ⌝ }
     ensures within { λ r. ⌜ ReadWithin r (now (s .entry)) ⌝ }
 {
-    let mut sets = [0u64; 128];
+    let mut sets = [0u64; MAX_SETS];
     let mut count = 0;
     let mut at = 3;
     loop {
@@ -136,13 +121,13 @@ fn read_sets(s: &[u8], n: u8) -> TableRead
                 return TableRead {
                     answer: Answer::Accepted,
                     table: Table { n, count, sets },
-                    used: at + 3,
+                    used: at + END_WIDTH,
                 };
             }
             Step::Set(set) => {
                 sets[count] = set;
                 count += 1;
-                at += 10;
+                at += SURVIVOR_WIDTH;
             }
         }
     }

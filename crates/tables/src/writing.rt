@@ -2,19 +2,24 @@
 ghost use mathlib.Core.Path.{_≡_};
 ghost use Prim.Native.Nat.{_≤_};
 ghost use lib.ListN.{length};
-ghost use Rattle.tables.specs.Answers.{Wrote, wroteSize, wroteBytes, writeSize};
 ghost use Rattle.records.specs.Fields.{written};
-ghost use Rattle.tables.specs.Files.{setRecords, tableBytes, writeTable};
+ghost use Rattle.tables.specs.Files.{tableBytes, writeTable};
+ghost use Rattle.records.specs.declared.Kind.the-variants.{Survivor};
+ghost use Rattle.records.specs.RecordLists.{listBytes};
+ghost use Rattle.records.specs.LentBuffers.{fitting, Written, WrittenIfRoom};
+ghost use Rattle.tables.specs.Tables.{maxSets};
 use crate::completing;
 use crate::reading::Answer;
 use drive_sets::Refusal;
 use records::END;
 use records::FRAME;
 use records::SURVIVOR;
+use records::SURVIVOR_WIDTH;
+use records::Writing;
 
 // The records of the sets over the first bytes of the part; every other byte stays. Nothing where they do not fit.
 fn put_sets(part: &mut [u8], sets: &[u64])
-    ensures { λ _. ⌜ now (part .exit) ≡ written (setRecords (now (sets .entry))) (now (part .entry)) ⌝ }
+    ensures { λ _. ⌜ now (part .exit) ≡ written (listBytes Survivor (now (sets .entry))) (now (part .entry)) ⌝ }
 {
     if part.len() / 10 < sets.len() {
         return;
@@ -23,7 +28,7 @@ fn put_sets(part: &mut [u8], sets: &[u64])
     let mut i = 0;
     while i < sets.len() {
         records::put_record(&mut part[at..], SURVIVOR, 8, sets[i]);
-        at += 10;
+        at += SURVIVOR_WIDTH;
         i += 1;
     }
 }
@@ -44,22 +49,13 @@ fn put_table(part: &mut [u8], n: u8, sets: &[u64])
     records::put_record(&mut part[end..], END, 1, sets.len() as u64);
 }
 
-// How many bytes were written, from the starting place on.
-pub enum Writing {
-    Wrote(usize),
-    Refused(Refusal),
-}
-
 // A normal table from the starting place on, and nothing where it does not fit.
 fn write_sets(n: u8, sets: &[u64], buf: &mut [u8], start: usize) -> Writing
-    requires { ⌜ length (now sets) ≤ 128 ⌝ }
-    ensures { λ r. ⌜ Wrote (wroteSize n start (now (buf .entry)) (now (sets .entry))) (wroteBytes n start (now (buf .entry)) (now (sets .entry))) (now (buf .entry)) (now (buf .exit)) r ⌝ }
+    requires { ⌜ length (now sets) ≤ maxSets ⌝ }
+    ensures { λ r. ⌜ Written (fitting start (length (now (buf .entry))) (tableBytes n (now (sets .entry)))) start (now (buf .entry)) (now (buf .exit)) r ⌝ }
 {
     let size = 6 + 10 * sets.len();
-    if buf.len() < start {
-        return Writing::Refused(Refusal::NoRoom);
-    }
-    if buf.len() - start < size {
+    if !records::fits(buf.len(), start, size) {
         return Writing::Refused(Refusal::NoRoom);
     }
     put_table(&mut buf[start..], n, sets);
@@ -69,7 +65,7 @@ fn write_sets(n: u8, sets: &[u64], buf: &mut [u8], start: usize) -> Writing
 // The writer: the normal table of n drives and some sets into the lent buffer, from the starting place on, touching only its own bytes.
 // The table's refusals, then 14; on a refusal the buffer stays as it was.
 pub fn write_table(n: u8, sets: &[u64], buf: &mut [u8], start: usize) -> Writing
-    ensures { λ r. ⌜ Wrote (writeSize n (now (sets .entry)) start (now (buf .entry))) (writeTable n (now (sets .entry)) start (now (buf .entry))) (now (buf .entry)) (now (buf .exit)) r ⌝ }
+    ensures { λ r. ⌜ WrittenIfRoom (writeTable n (now (sets .entry))) start (now (buf .entry)) (now (buf .exit)) r ⌝ }
 {
     let t = completing::accept(n, sets);
     let answer = t.answer;

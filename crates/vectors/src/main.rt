@@ -5,8 +5,8 @@
 ghost use Prim.Native.Nat.{_≤_};
 use libc::STDIN_FILENO;
 use libc::STDOUT_FILENO;
-use listings::programs::MAX_TEXT;
-use tables::writing::Writing;
+use records::Writing;
+use text::printing::MAX_TEXT;
 
 // The first bytes, so many or all there are.
 fn first(s: &[u8], size: usize) -> &[u8] {
@@ -27,16 +27,16 @@ fn width(s: &[u8]) -> usize
 fn list(s: &[u8], text: &mut [u8]) -> Writing {
     let input = first(tables::files::rest(s, 3), width(s));
     if records::field(s, 0, 1) == 0 {
-        return listings::programs::table_listing(input, text, 0);
+        return table_listing::programs::table_listing(input, text, 0);
     }
-    listings::programs::run_listing(input, text, 0)
+    run_listing::programs::run_listing(input, text, 0)
 }
 
 // Prints the text of the input at the start.
 fn print(s: &[u8]) {
     let mut text = [0u8; MAX_TEXT];
     let w = list(s, &mut text);
-    let size = listings::programs::written(w, &text);
+    let size = text::printing::written(w, &text);
     io::write_all(STDOUT_FILENO, &text[..size]);
 }
 

@@ -13,10 +13,10 @@ use Rattle.drive_sets.specs.Options.{by-option}
 use Rattle.drive_sets.specs.Lists.{elem}
 use Rattle.drive_sets.specs.Masks.{full}
 use Rattle.drive_sets.specs.Masks.Laws.{full-word, has-some}
-use Rattle.verdicts.specs.declared.Found.{Found}
+use Rattle.verdicts.specs.declared.Named.{Named}
 use Rattle.verdicts.specs.declared.Verdict.{Verdict as Answer}
 use Rattle.verdicts.specs.Verdicts.{Verdict, yes, no, setAt, setsAt, disjoint, blocksOf, verdictOn}
-use Rattle.verdicts.specs.Verdicts.Found.{First, disjoint-first, named-from}
+use Rattle.verdicts.specs.Verdicts.Firsts.{First, disjoint-first, named-from}
 use Rattle.verdicts.specs.Verdicts.Intersection.{none-yes, some-no}
 use Rattle.verdicts.specs.Verdicts.CommonPart.{every-lt, in-every}
 use Rattle.verdicts.specs.Verdicts.Blocks.{length-blocks}
@@ -90,7 +90,7 @@ module _ (k n : ℕ) (table : List ℕ) where
         let all = in-every (d .0) (full n) table (d .1) in
         absurd (w .share-none (d .0, all .0, λ s i. all .1 s (named-from k 1 table (full n) ps w s i))))
 
-    module _ (found : Found) (is-found : found ≡ foundIn (disjoint k 1 table m)) where
+    module _ (found : Named) (is-found : found ≡ foundIn (disjoint k 1 table m)) where
       search-is : found ≡ foundIn (disjoint k 1 table (full n))
       search-is = is-found ∙ ap (λ (x : ℕ). foundIn (disjoint k 1 table x)) is-full
 

@@ -11,7 +11,7 @@ use Rattle.drive_sets.specs.declared.Refusal.{Refusal}
 use Rattle.drive_sets.specs.declared.Refusal.the-variants.{BlockCount}
 use Rattle.drive_sets.specs.Refusals.{Outcome, refused, result, andThen}
 use Rattle.tables.specs.declared.reading.Answer.the-variants as answers
-use Rattle.tables.specs.declared.completing.CoreTable.{CoreTable}
+use Rattle.tables.specs.declared.completing.TableWithCores.{TableWithCores}
 use Rattle.tables.specs.Tables.{normalTable}
 use Rattle.tables.specs.Reading.{setsOf}
 use Rattle.tables.specs.Complete.{completeTable, completeOutcome}
@@ -36,7 +36,7 @@ module _ (k n : ℕ) (sets : List ℕ) (good : Bool) (is : good ≡ (leb 2 k && 
     unfolding verdict
     within = sym (cond-false _ _ (ap not (sym is) ∙ h))
 
-    module _ (t : CoreTable) (e : completeOutcome t ≡ completeTable n sets) where
+    module _ (t : TableWithCores) (e : completeOutcome t ≡ completeTable n sets) where
       pub judged-refused : (q : Refusal) → t .answer ≡ answers.Refused q → refused q ≡ verdict k n sets
       judged-refused q f = sym (ap (λ (o : Outcome (List ℕ)). andThen o (λ table. result (verdictOn k n table))) (accept-refused n sets t e q f)) ∙ within
 

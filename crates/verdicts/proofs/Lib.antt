@@ -2,6 +2,5 @@
 pub mod Fours
 pub mod Loops
 pub mod Splitting
-pub mod Narrowing
 pub mod Answers
 pub mod Judgements

@@ -1,19 +1,20 @@
 -- The loop over the named sets: the blocks so far, with those of the sets to come, are all the blocks.
-use mathlib.Core.Path.{_≡_, refl, sym, ap, ap₂, _∙_, subst}
+use mathlib.Core.Path.{_≡_, sym, ap, _∙_, subst}
 use mathlib.Core.Bool.{true}
-use mathlib.Core.List.{List, [], _∷_, _++_, append-nil, append-assoc}
-use Prim.Native.Nat.{ℕ, suc, _+_, _-_, _≤_, _<_}
+use mathlib.Core.List.{List, _∷_}
+use Prim.Native.Nat.{ℕ, _+_, _-_, _≤_, _<_}
 use native.Mathlib.Omega.{arith}
-use native.Mathlib.Numerals.{add-one}
-use lib.ListN.{length, getD, take, drop, set, length-set, length-map, drop-of-length-le, replicate, take-append-drop}
-use lib.Seq.{drop-cons, take-suc-set, drop-set-lt, drop-drop, getD-take, length-take-le}
+use lib.ListN.{length, getD, take, drop, set, length-map, drop-of-length-le}
+use lib.Seq.{getD-take, length-take-le}
 use Rattle.drive_sets.specs.Lists.{elem}
 use Rattle.drive_sets.specs.Lists.Places.{getD-elem, getD-map}
+use Rattle.drive_sets.specs.Loops.Filling.{Filling, filling-turn, filling-end}
+use Rattle.drive_sets.specs.Loops.Scan.{drop-next}
 use Rattle.drive_sets.specs.Masks.{union, outside}
 use Rattle.verdicts.specs.Verdicts.{setAt, setsAt, blocksOf}
 use Rattle.verdicts.specs.Held.{inFour}
 use Rattle.verdicts.specs.Verdicts.Blocks.{length-blocks}
-use Rattle.verdicts.proofs.Fours.{zeros-behind}
+use Rattle.verdicts.proofs.Fours.{zeros, zeros-behind}
 
 -- ---- the named sets
 
@@ -39,44 +40,19 @@ module _ (table positions : List ℕ) (k : ℕ) (room : k ≤ length positions) 
 
 -- ---- the loop
 
-pub record Splitting (n k : ℕ) (named blocks : List ℕ) (taken i : ℕ) : Type 0 where
-  pub within : i ≤ k
-  pub room : length blocks ≡ 4
-  pub behind : drop i blocks ≡ replicate (4 - i) 0
-  pub same : take i blocks ++ blocksOf n taken (drop i named) ≡ blocksOf n 0 named
+-- the blocks of the sets before i are put, and those of the sets from i on are still to come
+abbrev pub Splitting : ℕ → List ℕ → List ℕ → ℕ → ℕ → Type 0
+Splitting n named blocks taken i = Filling (zeros 4) blocks i (blocksOf n taken (drop i named)) (blocksOf n 0 named)
 
-pub splitting-start : (n k : ℕ) (named : List ℕ) → Splitting n k named (0 ∷ 0 ∷ 0 ∷ 0 ∷ []) 0 0
-splitting-start n k named = record { within = omega arith; room = refl; behind = refl; same = refl }
-
-module _ (n k : ℕ) (named blocks : List ℕ) (taken i : ℕ) (count : length named ≡ k) (w : Splitting n k named blocks taken i) where
-  pub splitting-turn : k ≤ 4 → i < k → (b : ℕ) → b ≡ outside n (union (getD named i 0) taken) → Splitting n k named (set blocks i b) (union taken b) (i + 1)
+module _ (n : ℕ) (named blocks : List ℕ) (taken i : ℕ) (few : length named ≤ 4) (f : Splitting n named blocks taken i) where
+  pub splitting-turn : i < length named → (b : ℕ) → b ≡ outside n (union (getD named i 0) taken) → Splitting n named (set blocks i b) (union taken b) (i + 1)
   unfolding blocksOf
-  splitting-turn few h b e = record {
-    within = omega arith;
-    room = length-set blocks i b ∙ w .room;
-    behind =
-        drop-set-lt (i + 1) blocks i b (omega arith) ∙ (sym (drop-drop 1 i blocks) ∙ (ap (drop 1) (w .behind) ∙ ap (λ (j : ℕ). drop 1 (replicate j 0)) one-fewer));
-    same =
-        ap₂ (λ (l r : List ℕ). l ++ blocksOf n (union taken b) r) more (ap (λ (j : ℕ). drop j named) (add-one i))
-        ∙ (append-assoc (take i blocks) (b ∷ []) (blocksOf n (union taken b) (drop (suc i) named))
-        ∙ (ap (λ (x : ℕ). take i blocks ++ (x ∷ blocksOf n (union taken x) (drop (suc i) named))) e
-        ∙ (ap (λ (r : List ℕ). take i blocks ++ blocksOf n taken r) (sym (drop-cons named i 0 (omega arith))) ∙ w .same)));
-  }
-    where
-      one-fewer : 4 - i ≡ suc (4 - (i + 1))
-      one-fewer = omega arith
+  splitting-turn h b e =
+      filling-turn f (omega arith) b (blocksOf n (union taken b) (drop (i + 1) named))
+      (ap (blocksOf n taken) (drop-next named i h) ∙ ap (λ (x : ℕ). x ∷ blocksOf n (union taken x) (drop (i + 1) named)) (sym e))
 
-      more : take (i + 1) (set blocks i b) ≡ take i blocks ++ (b ∷ [])
-      more = ap (λ (j : ℕ). take j (set blocks i b)) (add-one i) ∙ take-suc-set blocks i b (omega (arith, w .room))
-
-  pub splitting-end : k ≤ 4 → k ≤ i → blocks ≡ inFour (blocksOf n 0 named)
+  pub splitting-end : length named ≤ i → blocks ≡ inFour (blocksOf n 0 named)
   unfolding blocksOf
-  splitting-end few h =
-      sym (take-append-drop i blocks)
-      ∙ (ap₂ (λ (l r : List ℕ). l ++ r) done (w .behind)
-      ∙ zeros-behind (blocksOf n 0 named) i (length-blocks n 0 named ∙ (omega (arith, w .within))) (omega (arith, w .within)))
-    where
-      done : take i blocks ≡ blocksOf n 0 named
-      done =
-          sym (append-nil (take i blocks))
-          ∙ (ap (λ (r : List ℕ). take i blocks ++ blocksOf n taken r) (sym (drop-of-length-le named {i = i} (omega arith))) ∙ w .same)
+  splitting-end h =
+      filling-end f (ap (blocksOf n taken) (drop-of-length-le named h))
+      ∙ zeros-behind (blocksOf n 0 named) (omega (arith, length-blocks n 0 named))

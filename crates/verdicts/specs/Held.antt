@@ -8,7 +8,7 @@ use lib.Dec.{leb, ltb}
 use lib.ListN.{length, take}
 use Rattle.drive_sets.specs.Refusals.{Outcome, refused, result}
 use Rattle.tables.specs.Reading.{outcomeOf}
-use Rattle.verdicts.specs.declared.Found.{Found}
+use Rattle.verdicts.specs.declared.Named.{Named}
 use Rattle.verdicts.specs.declared.calls.Judgement.{Judgement}
 use Rattle.verdicts.specs.declared.Verdict.{Verdict as Answer}
 use Rattle.verdicts.specs.Verdicts.{Verdict, yes, no, verdictOn}
@@ -31,7 +31,7 @@ answerOf yes = record { shared = true; positions = inFour []; blocks = inFour []
 answerOf (no positions blocks) = withBlocks (inFour positions) blocks
 
 -- the positions found, if any
-unfoldable pub foundIn : Option (List ℕ) → Found
+unfoldable pub foundIn : Option (List ℕ) → Named
 foundIn none = record { any = false; positions = inFour [] }
 foundIn (some ps) = record { any = true; positions = inFour ps }
 

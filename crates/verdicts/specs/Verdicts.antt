@@ -11,7 +11,7 @@ use Rattle.drive_sets.specs.Masks.{full, union, common, outside}
 use Rattle.drive_sets.specs.Refusals.{Outcome, result, refuseIf, andThen}
 use Rattle.tables.specs.Tables.{normalTable}
 pub mod Search
-pub mod Found
+pub mod Firsts
 pub mod Intersection
 pub mod Blocks
 pub mod Splits

@@ -9,7 +9,7 @@ ghost use Rattle.drive_sets.specs.Lists.{elem};
 ghost use Rattle.verdicts.specs.Verdicts.{setsAt, disjoint, blocksOf};
 ghost use Rattle.verdicts.specs.Meaning.{inEvery};
 ghost use Rattle.verdicts.specs.Held.{verdictOf, answerOf, withBlocks, foundIn, foundAt, fits, verdictWithin};
-use hitting_sets::MAX_SETS;
+use set_orders::MAX_SETS;
 
 pub mod calls;
 
@@ -26,7 +26,7 @@ pub struct Verdict {
 }
 
 // Positions of sets that have no drive in common, where there are some.
-struct Found {
+struct Named {
     any: bool,
     positions: [u8; 4],
 }
@@ -47,17 +47,17 @@ fn first_apart(table: &[u64], from: usize, shared: u64) -> usize
     i
 }
 
-fn nothing() -> Found
+fn nothing() -> Named
     ensures { λ r. ⌜ r ≡ foundIn none ⌝ }
 {
-    Found {
+    Named {
         any: false,
         positions: [0u8; 4],
     }
 }
 
 // The first two positions from the place `from` on, not falling, whose sets have no drive of `shared` in common.
-fn first_pair(table: &[u64], from: usize, shared: u64) -> Found
+fn first_pair(table: &[u64], from: usize, shared: u64) -> Named
     requires { ⌜ (from ≤ length (now table)) × (length (now table) ≤ 128) ⌝ }
     ensures { λ r. ⌜ r ≡ foundIn (disjoint 2 (suc from) (drop from (now (table .entry))) shared) ⌝ }
 {
@@ -65,7 +65,7 @@ fn first_pair(table: &[u64], from: usize, shared: u64) -> Found
     while i < table.len() {
         let place = first_apart(table, i, shared & table[i]);
         if place < table.len() {
-            return Found {
+            return Named {
                 any: true,
                 positions: [(i + 1) as u8, (place + 1) as u8, 0, 0],
             };
@@ -77,7 +77,7 @@ fn first_pair(table: &[u64], from: usize, shared: u64) -> Found
 
 // The first k positions from the place `from` on, not falling, whose sets have no drive of `shared` in common. The two innermost loops
 // are those of `first_pair`, one `and` and one test a set. Where the common part is empty already, each loop ends at its first set.
-fn disjoint(k: u8, table: &[u64], from: usize, shared: u64) -> Found
+fn disjoint(k: u8, table: &[u64], from: usize, shared: u64) -> Named
     requires { ⌜ (2 ≤ k) × (from ≤ length (now table)) × (length (now table) ≤ 128) ⌝ }
     ensures { λ r. ⌜ r ≡ foundIn (disjoint k (suc from) (drop from (now (table .entry))) shared) ⌝ }
 {
@@ -89,7 +89,7 @@ fn disjoint(k: u8, table: &[u64], from: usize, shared: u64) -> Found
         let rest = disjoint(k - 1, table, i, shared & table[i]);
         if rest.any {
             let later = rest.positions;
-            return Found {
+            return Named {
                 any: true,
                 positions: [(i + 1) as u8, later[0], later[1], later[2]],
             };

@@ -1,7 +1,3 @@
--- That the statements of demand 3 are false of wrong drives: for each a run by its calls in which the conclusion fails.
-pub mod Refuting
-pub mod Tables
+-- Wrong drives, and scenarios in which they go wrong.
+pub mod Scenarios
 pub mod Wrong
-pub mod Rejected
-pub mod TightRejected
-pub mod NoRuns

@@ -17,6 +17,4 @@ returns-3 : tie.Need-returns-3
 returns-3 c = full-shift (c .before .before .args .n) (c .if2 .left)
 
 pub full-spec : {M : Type 1} → statement M
-full-spec = tie.close
-    (tie.spec
-    returns returns-2 (λ c. search needs) (λ c. search needs) returns-3)
+full-spec = tie.close (tie.spec returns returns-2 (λ c. search needs) (λ c. search needs) returns-3)

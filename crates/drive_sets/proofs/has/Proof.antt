@@ -18,6 +18,4 @@ returns-3 : tie.Need-returns-3
 returns-3 c = has-shift (c .before .before .args .d .0) (c .before .before .args .m) (c .before .if1 .left)
 
 pub has-spec : {M : Type 1} → statement M
-has-spec = tie.close
-    (tie.spec
-    returns returns-2 (λ c. search needs) (λ c. search needs) (λ c. search needs) returns-3)
+has-spec = tie.close (tie.spec returns returns-2 (λ c. search needs) (λ c. search needs) (λ c. search needs) returns-3)

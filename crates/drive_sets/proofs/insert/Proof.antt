@@ -6,12 +6,9 @@ use borrow.Author.Needs.{needs}
 use Rattle.drive_sets.proofs.insert.Statement.{statement}
 use Rattle.drive_sets.proofs.insert.Tie as tie
 
-single-requires : tie.Need-single-requires
-single-requires c κs = search needs
-
 returns : tie.Need-returns
 unfolding union
 returns c = ap (bitOr (c .before .args .m)) (c .single .ensures)
 
 pub insert-spec : {M : Type 1} → statement M
-insert-spec = tie.close (tie.spec single-requires returns)
+insert-spec = tie.close (tie.spec (λ c κs. search needs) returns)

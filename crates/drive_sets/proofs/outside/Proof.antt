@@ -9,6 +9,4 @@ unfolding outside
 returns c = cc
 
 pub outside-spec : {M : Type 1} → statement M
-outside-spec = tie.close
-    (tie.spec
-    (λ c κs. search needs) (λ c κs. search needs) returns)
+outside-spec = tie.close (tie.spec (λ c κs. search needs) (λ c κs. search needs) returns)

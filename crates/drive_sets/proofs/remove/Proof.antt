@@ -7,6 +7,4 @@ returns : tie.Need-returns
 returns c = cc
 
 pub remove-spec : {M : Type 1} → statement M
-remove-spec = tie.close
-    (tie.spec
-    (λ c κs. search needs) (λ c κs. search needs) returns)
+remove-spec = tie.close (tie.spec (λ c κs. search needs) (λ c κs. search needs) returns)

@@ -17,6 +17,4 @@ returns-3 : tie.Need-returns-3
 returns-3 c = single-shift (c .before .before .args .d .0) (c .before .if1 .left) (c .if2 .left)
 
 pub single-spec : {M : Type 1} → statement M
-single-spec = tie.close
-    (tie.spec
-    returns returns-2 (λ c. search needs) (λ c. search needs) (λ c. search needs) returns-3)
+single-spec = tie.close (tie.spec returns returns-2 (λ c. search needs) (λ c. search needs) (λ c. search needs) returns-3)

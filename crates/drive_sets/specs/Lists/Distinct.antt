@@ -7,7 +7,7 @@ use Prim.Native.Nat.{ℕ}
 use borrow.Author.Tests.{not-true}
 use Rattle.drive_sets.specs.Bools.{clash, by-test, false-of, and-intro, and-left, and-right}
 use Rattle.drive_sets.specs.Lists.{keep, all, elem, distinct, ordered}
-use Rattle.drive_sets.specs.Lists.Laws.{elem-none, elem-one, elem-head, elem-tail, elem-append-cases, all-elem, keep-true, keep-false, elem-keep}
+use Rattle.drive_sets.specs.Lists.Laws.{elem-head, elem-tail, elem-append-cases, all-elem, keep-true, keep-false, elem-keep}
 
 pub distinct-none : distinct [] ≡ true
 unfolding distinct
@@ -42,11 +42,6 @@ distinct-append (x ∷ l) m p q f =
     distinct-cons x (l ++ m)
     (false-of (elem x (l ++ m)) (λ h. ⊎-elim (λ e. clash e (distinct-head x l p)) (λ e. f x (elem-head x l) e) (elem-append-cases x l m h)))
     (distinct-append l m (distinct-tail x l p) q (λ y h. f y (elem-tail y x l h)))
-
-pub distinct-last : (l : List ℕ) (x : ℕ) → distinct l ≡ true → elem x l ≡ false → distinct (l ++ (x ∷ [])) ≡ true
-distinct-last l x d n =
-    distinct-append l (x ∷ []) d (distinct-cons x [] (elem-none x) distinct-none)
-    (λ y e f. clash (ap (λ (z : ℕ). elem z l) (sym (elem-one y x f)) ∙ e) n)
 
 module _ (before : ℕ → ℕ → Bool) (irr : (x : ℕ) → before x x ≡ true → ⊥) where
   -- what stands before all of a list is not in it

@@ -144,14 +144,19 @@ pub keep-false : (p : ℕ → Bool) (x : ℕ) (l : List ℕ) → p x ≡ false �
 unfolding keep
 keep-false p x l h = cond-false _ _ h
 
+pub keep-append : (p : ℕ → Bool) (l m : List ℕ) → keep p (l ++ m) ≡ keep p l ++ keep p m
+unfolding keep
+keep-append p [] m = refl
+keep-append p (x ∷ l) m = by-test (p x) (λ e. rw e (ap (λ (r : List ℕ). x ∷ r) (keep-append p l m))) (λ e. rw e (keep-append p l m))
+
 -- the first that is kept passes the test
-pub first-kept : (p : ℕ → Bool) (l : List ℕ) → any p l ≡ true → p (getD (keep p l) 0 0) ≡ true
+pub first-kept-passes : (p : ℕ → Bool) (l : List ℕ) → any p l ≡ true → p (getD (keep p l) 0 0) ≡ true
 unfolding any
-first-kept p [] h = absurd (clash h refl)
-first-kept p (x ∷ l) h =
+first-kept-passes p [] h = absurd (clash h refl)
+first-kept-passes p (x ∷ l) h =
     by-test (p x)
     (λ e. ap (λ (m : List ℕ). p (getD m 0 0)) (keep-true p x l e) ∙ e)
-    (λ e. ap (λ (m : List ℕ). p (getD m 0 0)) (keep-false p x l e) ∙ first-kept p l (sym (any-false p x l e) ∙ h))
+    (λ e. ap (λ (m : List ℕ). p (getD m 0 0)) (keep-false p x l e) ∙ first-kept-passes p l (sym (any-false p x l e) ∙ h))
 
 kept-first : (a e c : Bool) → (a ≡ true → c ≡ true) → (a || (e && c)) ≡ ((a || e) && c)
 kept-first true e c f = sym (f refl)

@@ -64,15 +64,15 @@ distinct-take (suc m) (x ∷ l) h =
     distinct-cons x (take m l) (false-of (elem x (take m l)) (λ e. clash (elem-take x m l e) (distinct-head x l h))) (distinct-take m l (distinct-tail x l h))
 
 -- of a rising list, the first that passes is the one before which none does
-pub first-kept-is : (p : ℕ → Bool) (l : List ℕ) (a : ℕ) → ordered ltb l ≡ true → elem a l ≡ true → p a ≡ true
+pub first-kept-least : (p : ℕ → Bool) (l : List ℕ) (a : ℕ) → ordered ltb l ≡ true → elem a l ≡ true → p a ≡ true
     → ((x : ℕ) → elem x l ≡ true → x < a → p x ≡ false) → getD (keep p l) 0 0 ≡ a
 unfolding ordered
-first-kept-is p [] a o i h f = absurd (clash i (elem-none a))
-first-kept-is p (y ∷ l) a o i h f =
+first-kept-least p [] a o i h f = absurd (clash i (elem-none a))
+first-kept-least p (y ∷ l) a o i h f =
     ⊎-elim
     (λ e. ap (λ (k : List ℕ). getD k 0 0) (keep-true p y l (ap p (sym e) ∙ h)) ∙ sym e)
     (λ e. ap (λ (k : List ℕ). getD k 0 0) (keep-false p y l (f y (elem-head y l) (ltb-true y a (all-elem (ltb y) l a (and-left (all (ltb y) l) _ o) e))))
-    ∙ first-kept-is p l a (and-right (all (ltb y) l) _ o) e h (λ x g. f x (elem-tail x y l g)))
+    ∙ first-kept-least p l a (and-right (all (ltb y) l) _ o) e h (λ x g. f x (elem-tail x y l g)))
     (elem-cases a y l i)
 
 -- what stands behind a new front

@@ -58,9 +58,6 @@ or-odd a b =
 pub and-half : (a b : ℕ) → bitAnd a b / 2 ≡ bitAnd (a / 2) (b / 2)
 and-half a b = omega (arith, and-step a b)
 
-pub or-half : (a b : ℕ) → bitOr a b / 2 ≡ bitOr (a / 2) (b / 2)
-or-half a b = omega (arith, or-step a b)
-
 pub bit-and : (i a b : ℕ) → bit i (bitAnd a b) ≡ min (bit i a) (bit i b)
 bit-and i a b = ap (λ (x : ℕ). x % 2) (and-shr a b i) ∙ and-odd (a / 2 ^ i) (b / 2 ^ i)
 

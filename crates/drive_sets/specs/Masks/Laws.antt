@@ -8,7 +8,7 @@ use lib.Arith.{lt-one}
 use lib.Pow.{pow-lt, pow-pos, pow-mono, ones-lt}
 use lib.Bits.{bitAnd, and-le-l, and-le-r, and-comm, and-self, and-zero-l, or-lt, or-zero-r, or-add-and}
 use lib.Dec.{eqb, ltb, leb}
-use borrow.Author.Tests.{eqb-true, eqb-false, eq-eqb, ne-eqb, lt-ltb, le-leb, leb-true, leb-false, not-true, not-false}
+use borrow.Author.Tests.{eqb-true, eqb-false, eq-eqb, ne-eqb, lt-ltb, le-leb, leb-true, leb-false, not-true}
 use Rattle.drive_sets.specs.Bools.{clash, by-test, false-of, true-of, same-test, and-intro, and-left, and-right, or-left, cond-true}
 use Rattle.drive_sets.specs.Masks.{has, single, full, union, common, minus, meets, subset}
 use Rattle.drive_sets.specs.Masks.Bits.{bit, bit-lt, bit-zero, bit-suc, bit-none, bit-above, half-lt, bit-ext, bit-and, bit-or, bit-minus, bit-one, bit-ones, on-digits, digit-ext}
@@ -246,7 +246,3 @@ meets-sym a b = ap (λ (x : ℕ). not (eqb x 0)) (and-comm a b)
 -- what a part of m meets, m meets
 pub meets-subset : (n s a b : ℕ) → a < 2 ^ n → subset a b ≡ true → meets s a ≡ true → meets s b ≡ true
 meets-subset n s a b h e p = let w = meets-has n a s h (meets-sym a s ∙ p) in has-meets (w .0) s b (w .2) (subset-has (w .0) a b e (w .1))
-
-pub meets-none : (a b : ℕ) → meets a b ≡ false → common a b ≡ 0
-unfolding meets common
-meets-none a b e = eqb-true (bitAnd a b) 0 (not-false (eqb (bitAnd a b) 0) e)

@@ -1,13 +1,13 @@
 -- How many drives a set has, its lowest drive, and its drives as a rising list and back.
 use mathlib.Core.Path.{_≡_, refl, sym, ap, ap₂, _∙_}
-use mathlib.Core.Bool.{Bool, true, false, not, _&&_, _||_}
+use mathlib.Core.Bool.{Bool, true, false, not, _&&_, _||_, and-true}
 use mathlib.Core.List.{List, [], _∷_}
 use Prim.Native.Nat.{ℕ, zero, suc, _+_, _-_, _*_, _/_, _%_, _^_, _≤_, _<_, zero-le, suc-le-suc}
 use native.Mathlib.Nat.{mod-lt, zero-lt-suc, div-one, pow-suc, div-div-eq-div-mul}
 use native.Mathlib.Omega.{arith}
 use lib.Arith.{lt-one}
 use lib.Pow.{pow-pos, pow-lt, pow-mono}
-use lib.Bits.{bitAnd, bitOr, and-comm, and-le-l}
+use lib.Bits.{bitAnd, and-comm, and-le-l}
 use lib.Count.{ones, onesIn, ones-step, ones-cat, ones-ones, trailingZeros, under}
 use lib.Dec.{eqb, ltb}
 use lib.ListN.{length}
@@ -16,16 +16,11 @@ use Rattle.drive_sets.specs.Bools.{clash, by-test, same-test, and-intro,
 use Rattle.drive_sets.specs.Lists.{range, keep, any, elem, ordered, distinct}
 use Rattle.drive_sets.specs.Lists.Laws.{elem-head, elem-tail, all-intro, keep-true, keep-false, elem-keep, range-elem, ordered-keep, ordered-range, ordered-unique}
 use Rattle.drive_sets.specs.Lists.Distinct.{ordered-distinct}
-use Rattle.drive_sets.specs.Masks.{has, single, full, union, common, minus, subset, size, lowest, drives, ofDrives}
-use Rattle.drive_sets.specs.Masks.Bits.{bit, bit-lt, bit-zero, bit-suc, half-lt, and-odd, and-half, or-odd, or-half, minus-half, minus-odd}
+use Rattle.drive_sets.specs.Masks.{has, single, full, common, minus, subset, size, lowest, drives, ofDrives}
+use Rattle.drive_sets.specs.Masks.Bits.{bit, bit-lt, bit-zero, bit-suc, half-lt, and-odd, and-half, minus-half, minus-odd}
 use Rattle.drive_sets.specs.Masks.Laws.{has-none, has-union, has-minus, has-single, has-bounds, has-ext, union-lt, minus-lt, single-lt, full-lt, full-is, has-subset}
 
 -- ---- the count of ones
-
-union-count : (k a b : ℕ) → onesIn k (bitOr a b) + onesIn k (bitAnd a b) ≡ onesIn k a + onesIn k b
-unfolding onesIn
-union-count zero a b = refl
-union-count (suc k) a b = let rest = union-count k (a / 2) (b / 2) in rw (or-half a b, and-half a b, or-odd a b, and-odd a b) (omega arith)
 
 minus-count : (k a b : ℕ) → onesIn k (a - bitAnd a b) + onesIn k (bitAnd a b) ≡ onesIn k a
 unfolding onesIn
@@ -69,10 +64,6 @@ size-le m = count-le 64 m
 pub none-size : (m : ℕ) → m < 2 ^ 64 → size m ≡ 0 → m ≡ 0
 unfolding size
 none-size m h e = count-none 64 m h e
-
-pub size-union : (a b : ℕ) → size (union a b) + size (common a b) ≡ size a + size b
-unfolding size union common
-size-union a b = union-count 64 a b
 
 pub size-minus : (a b : ℕ) → size (minus a b) + size (common a b) ≡ size a
 unfolding size minus common
@@ -242,8 +233,7 @@ drives-lowest m h ne =
 
     joined : (a b : Bool) → (a ≡ true → b ≡ true) → b ≡ (a || (b && not a))
     joined true b f = f refl
-    joined false true f = refl
-    joined false false f = refl
+    joined false b f = sym (and-true b)
 
     same : (x : ℕ) → elem x (drives m) ≡ elem x (low ∷ drives others)
     same x =

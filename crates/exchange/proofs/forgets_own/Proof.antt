@@ -16,6 +16,4 @@ returns-2 : tie.Need-returns-2
 returns-2 c = let a = c .before .before .args in c .before .has .ensures ∙ and-first (has (a .own .0) (a .core)) (not (has (a .own .0) (a .known) && has (a .own .0) (a .start))) (sym (c .before .has .ensures) ∙ c .if1 .left)
 
 pub forgets-own-spec : {M : Type 1} → statement M
-forgets-own-spec = tie.close
-    (tie.spec
-    (λ c κs. search needs) (λ c κs. search needs) returns returns-2)
+forgets-own-spec = tie.close (tie.spec (λ c κs. search needs) (λ c κs. search needs) returns returns-2)

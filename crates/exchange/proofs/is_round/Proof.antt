@@ -15,6 +15,4 @@ returns-2 : tie.Need-returns-2
 returns-2 c = let a = c .before .before .before .args in and-first (leb 1 (a .round .0)) (leb (a .round .0) (size (a .core))) (lt-leb 1 (a .round .0) (c .if1 .left))
 
 pub is-round-spec : {M : Type 1} → statement M
-is-round-spec = tie.close
-    (tie.spec
-    (λ c κs. search needs) (λ c. search needs) returns returns-2)
+is-round-spec = tie.close (tie.spec (λ c κs. search needs) (λ c. search needs) returns returns-2)

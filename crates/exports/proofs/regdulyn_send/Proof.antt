@@ -1,8 +1,7 @@
 -- The refusal of the opening, or the sends of the state after the round.
 use Rattle.exports.proofs.Handing.{opened-as}
 use Rattle.exports.specs.Codes.{codeOf}
-use Rattle.exports.specs.Deliveries.{stateClosed, sendsAccepted, bufferSent, sent, sentBytes}
-use Rattle.tables.specs.Answers.{bufferAfter}
+use Rattle.exports.specs.Deliveries.{bufferOr, stateClosed, sendsAccepted, bufferSent, sent, sentBytes}
 use Rattle.drive_states.specs.declared.Exchange.{Exchange}
 use Prim.Native.Nat.{ℕ}
 use mathlib.Core.List.{List}
@@ -21,7 +20,7 @@ returns c =
     let count : Exchange → ℕ = λ x. sendsAccepted (a .times) x (a .start) (a .out .now) in
     let lent : Exchange → List ℕ = λ x. bufferSent (a .times) x (a .start) (a .out .now) in (
       opened-as (a .n) (a .sets .now) (a .own) (a .number) (o .result) (o .ensures .answer) _ e codeOf (λ x. count (sender x)) _ (c .refusal-code .ensures),
-      opened-as (a .n) (a .sets .now) (a .own) (a .number) (o .result) (o .ensures .answer) _ e (bufferAfter (a .out .now)) (λ x. lent (sender x)) _ refl,
+      opened-as (a .n) (a .sets .now) (a .own) (a .number) (o .result) (o .ensures .answer) _ e (bufferOr (a .out .now)) (λ x. lent (sender x)) _ refl,
     )
 
 returns-2 : tie.Need-returns-2
@@ -36,7 +35,7 @@ returns-2 c =
     let made = c .before .before .send-all .ensures in
     let same = c .before .before .before .before .close-round .ensures in (
       opened-as (a .n) (a .sets .now) (a .own) (a .number) (o .result) (o .ensures .answer) _ e codeOf (λ x. count (sender x)) _ (made .0 ∙ ap count same),
-      opened-as (a .n) (a .sets .now) (a .own) (a .number) (o .result) (o .ensures .answer) _ e (bufferAfter (a .out .now)) (λ x. lent (sender x)) _ (made .1 ∙ ap lent same),
+      opened-as (a .n) (a .sets .now) (a .own) (a .number) (o .result) (o .ensures .answer) _ e (bufferOr (a .out .now)) (λ x. lent (sender x)) _ (made .1 ∙ ap lent same),
     )
 
 pub regdulyn-send-spec : {M : Type 1} → statement M

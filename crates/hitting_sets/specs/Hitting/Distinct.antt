@@ -9,14 +9,13 @@ use Rattle.drive_sets.specs.Bools.{clash, by-test, and-left, and-right, cond-fa
 use Rattle.drive_sets.specs.Lists.{any, elem, distinct}
 use Rattle.drive_sets.specs.Lists.Laws.{elem-head, elem-tail}
 use Rattle.drive_sets.specs.Lists.Distinct.{distinct-append}
-use Rattle.drive_sets.specs.Masks.{has, single, union, meets, drives}
+use Rattle.drive_sets.specs.Masks.{has, single, union, meets, drives, Below}
 use Rattle.drive_sets.specs.Masks.Laws.{has-bounds, meets-not}
 use Rattle.drive_sets.specs.Masks.Sizes.{elem-drives, drives-distinct}
 use Rattle.drive_sets.specs.Masks.OneDrive.{insert-has, insert-new}
-use Rattle.hitting_sets.specs.Hitting.{Minimal, alone, forEach, search, minimals}
-use Rattle.hitting_sets.specs.Hitting.Laws.{Below}
+use Rattle.hitting_sets.specs.Hitting.{Minimal, critical, forEach, search, minimals}
 use Rattle.hitting_sets.specs.Hitting.Growth.{Grown, met, added, grown-minimal, grown-unique}
-use Rattle.hitting_sets.specs.Hitting.Found.{forEach-elem, tried, tried-elem, tried-alone, search-met, search-missed, search-grown, search-end, below-passed, below-now, below-next, none-minimal}
+use Rattle.hitting_sets.specs.Hitting.SearchLaws.{forEach-elem, tried, tried-elem, tried-critical, search-met, search-missed, search-grown, search-end, below-passed, below-now, below-next, none-minimal}
 
 -- what is listed from two minimal hitting sets of those seen is listed from one
 pub search-unique : (seen rest : List ℕ) (m k u : ℕ) → Below 64 (seen ++ rest) → Minimal seen m → Minimal seen k
@@ -50,11 +49,11 @@ forEach-distinct f m (d ∷ ds) h each apart =
     clash (ap (λ (x : ℕ). elem x ds) (apart d (w .0) u (elem-head d ds) (elem-tail (w .0) d ds (w .1)) p (w .2)) ∙ w .1)
     (not-true (elem d ds) (and-left (not (elem d ds)) (distinct ds) h)))
 
-tried-distinct : (now sets : List ℕ) (t : ℕ) → (alone now t ≡ t → distinct (search now sets t) ≡ true) → distinct (tried now sets t) ≡ true
+tried-distinct : (now sets : List ℕ) (t : ℕ) → (critical now t ≡ t → distinct (search now sets t) ≡ true) → distinct (tried now sets t) ≡ true
 unfolding tried distinct
 tried-distinct now sets t f =
-    by-test (eqb (alone now t) t)
-    (λ h. let e = eqb-true (alone now t) t h in ap distinct (tried-alone now sets t e) ∙ f e)
+    by-test (eqb (critical now t) t)
+    (λ h. let e = eqb-true (critical now t) t h in ap distinct (tried-critical now sets t e) ∙ f e)
     (λ h. ap distinct (cond-false (search now sets t) [] h))
 
 -- ---- the whole list
@@ -69,7 +68,7 @@ search-distinct seen (s ∷ sets) m b min =
     by-test (meets s m)
     (λ h. ap distinct (search-met seen s sets m h) ∙ search-distinct now sets m more (grown-minimal seen s upto m m min (met h refl)))
     (λ h. let in-s : (d : ℕ) → elem d (drives s) ≡ true → has d s ≡ true = λ d i. sym (elem-drives d s lt) ∙ i in
-    let grows : (d : ℕ) → elem d (drives s) ≡ true → alone now (union m (single d)) ≡ union m (single d) → Minimal now (union m (single d)) =
+    let grows : (d : ℕ) → elem d (drives s) ≡ true → critical now (union m (single d)) ≡ union m (single d) → Minimal now (union m (single d)) =
     λ d i a. grown-minimal seen s upto m (union m (single d)) min (added d (in-s d i) h refl a) in
     ap distinct (search-missed seen s sets m h)
     ∙ forEach-distinct (tried now sets) m (drives s) (drives-distinct s)

@@ -9,18 +9,19 @@ use borrow.Author.Tests.{eqb-true, eqb-false}
 use Rattle.drive_sets.specs.Bools.{clash, by-test, false-of, and-intro, and-left}
 use Rattle.drive_sets.specs.Lists.{elem}
 use Rattle.drive_sets.specs.Lists.Laws.{elem-head, elem-append-right, elem-append-cases, elem-one}
-use Rattle.drive_sets.specs.Masks.{has, single, union, common, minus, meets, subset}
+use Rattle.drive_sets.specs.Masks.{has, single, union, common, minus, meets, subset, Below}
 use Rattle.drive_sets.specs.Masks.Laws.{has-bounds, minus-lt, subset-refl, subset-union, subset-minus, has-meets, meets-not, not-meets}
 use Rattle.drive_sets.specs.Masks.OneDrive.{insert-has, insert-new, insert-lt, remove-has, insert-remove, remove-insert, shared-has, shared-only, shared-part}
-use Rattle.hitting_sets.specs.Hitting.{hits, Minimal, alone}
-use Rattle.hitting_sets.specs.Hitting.Laws.{hits-meets, hits-append, hits-one, hits-subset, minimal-more, Below, below-left, minimal-word}
-use Rattle.hitting_sets.specs.Hitting.Alone.{Private, private-alone, all-alone, alone-all, not-all-alone}
-use Rattle.hitting_sets.specs.Hitting.Minimality.{remove-hits, minimal-alone, alone-minimal}
+use Rattle.hitting_sets.specs.Hitting.{hits, Minimal, critical}
+use Rattle.hitting_sets.specs.Hitting.Laws.{hits-meets, hits-append, hits-one, hits-subset, minimal-more, minimal-word}
+use Rattle.drive_sets.specs.Masks.Frames.{below-left}
+use Rattle.hitting_sets.specs.Hitting.Critical.{Private, private-critical, all-critical, critical-all, not-all-critical}
+use Rattle.hitting_sets.specs.Hitting.Minimality.{remove-hits, minimal-critical, critical-minimal}
 
 -- t is m where m meets s; where m misses s, t is m with a drive of s, and each drive of t has a private set among `now`
 pub data Grown (now : List ℕ) (s m t : ℕ) : Type 0 where
   met : meets s m ≡ true → t ≡ m → Grown now s m t
-  added : (d : ℕ) → has d s ≡ true → meets s m ≡ false → t ≡ union m (single d) → alone now t ≡ t → Grown now s m t
+  added : (d : ℕ) → has d s ≡ true → meets s m ≡ false → t ≡ union m (single d) → critical now t ≡ t → Grown now s m t
 
 pub grown-subset : (now : List ℕ) (s m t : ℕ) → m < 2 ^ 64 → Grown now s m t → subset m t ≡ true
 grown-subset now s m t h (met p e) = ap (subset m) e ∙ subset-refl m
@@ -49,7 +50,7 @@ module _ (seen : List ℕ) (s : ℕ) (below : Below 64 (seen ++ (s ∷ []))) whe
   pub grown-minimal : (m t : ℕ) → Minimal seen m → Grown (seen ++ (s ∷ [])) s m t → Minimal (seen ++ (s ∷ [])) t
   grown-minimal m t min (met p e) = subst (Minimal (seen ++ (s ∷ []))) (sym e) (minimal-more seen (s ∷ []) m min (hits-one s m p))
   grown-minimal m t min (added d i p e a) =
-      alone-minimal (seen ++ (s ∷ [])) t (subst (λ (x : ℕ). x < 2 ^ 64) (sym e) (insert-lt d low high m (seen-lt m min)))
+      critical-minimal (seen ++ (s ∷ [])) t (subst (λ (x : ℕ). x < 2 ^ 64) (sym e) (insert-lt d low high m (seen-lt m min)))
       (hits-append seen (s ∷ []) t
       ∙ and-intro
       (hits-subset seen m t (seen-lt m min) (grown-subset (seen ++ (s ∷ [])) s m t (seen-lt m min) (added d i p e a)) (min .all-met))
@@ -66,9 +67,9 @@ module _ (seen : List ℕ) (s : ℕ) (below : Below 64 (seen ++ (s ∷ []))) whe
 
   pub minimal-grown : (t : ℕ) → Minimal (seen ++ (s ∷ [])) t → (m : ℕ) × Minimal seen m × Grown (seen ++ (s ∷ [])) s m t
   minimal-grown t min =
-      by-test (eqb (alone seen t) t)
-      (λ e. (t, alone-minimal seen t lt hit (eqb-true (alone seen t) t e), met (hits-meets (seen ++ (s ∷ [])) t s (min .all-met) s-in) refl))
-      (λ e. let w = not-all-alone seen t lt (eqb-false (alone seen t) t e) in from (w .0) (w .1) (w .2))
+      by-test (eqb (critical seen t) t)
+      (λ e. (t, critical-minimal seen t lt hit (eqb-true (critical seen t) t e), met (hits-meets (seen ++ (s ∷ [])) t s (min .all-met) s-in) refl))
+      (λ e. let w = not-all-critical seen t lt (eqb-false (critical seen t) t e) in from (w .0) (w .1) (w .2))
     where
       lt : t < 2 ^ 64
       lt = minimal-word (seen ++ (s ∷ [])) t below min
@@ -77,14 +78,14 @@ module _ (seen : List ℕ) (s : ℕ) (below : Below 64 (seen ++ (s ∷ []))) whe
       hit = and-left (hits seen t) (hits (s ∷ []) t) (sym (hits-append seen (s ∷ []) t) ∙ min .all-met)
 
       own : (d : ℕ) → has d t ≡ true → Private seen t d ⊎ (common s t ≡ single d)
-      own d i = private-cases seen s t d (alone-all (seen ++ (s ∷ [])) t lt (minimal-alone (seen ++ (s ∷ [])) t lt min) d i)
+      own d i = private-cases seen s t d (critical-all (seen ++ (s ∷ [])) t lt (minimal-critical (seen ++ (s ∷ [])) t lt min) d i)
 
       -- the only private set of u is s: t without u is minimal for `seen`
-      from : (u : ℕ) → has u t ≡ true → has u (alone seen t) ≡ false → (m : ℕ) × Minimal seen m × Grown (seen ++ (s ∷ [])) s m t
-      from u i not-alone = (
+      from : (u : ℕ) → has u t ≡ true → has u (critical seen t) ≡ false → (m : ℕ) × Minimal seen m × Grown (seen ++ (s ∷ [])) s m t
+      from u i not-critical = (
         rest,
-        alone-minimal seen rest rest-lt (remove-hits seen u t lt i hit not-alone) (all-alone seen rest rest-lt keeps),
-        added u (shared-has u low high s t alone-in-s .0) misses (sym (insert-remove u low high t lt i)) (minimal-alone (seen ++ (s ∷ [])) t lt min),
+        critical-minimal seen rest rest-lt (remove-hits seen u t lt i hit not-critical) (all-critical seen rest rest-lt keeps),
+        added u (shared-has u low high s t private-s .0) misses (sym (insert-remove u low high t lt i)) (minimal-critical (seen ++ (s ∷ [])) t lt min),
       )
         where
           low : 1 ≤ u
@@ -93,8 +94,8 @@ module _ (seen : List ℕ) (s : ℕ) (below : Below 64 (seen ++ (s ∷ []))) whe
           high : u ≤ 64
           high = has-bounds 64 u t lt i .1
 
-          alone-in-s : common s t ≡ single u
-          alone-in-s = ⊎-elim (λ w. absurd (clash (private-alone u low high seen t lt w) not-alone)) (λ e. e) (own u i)
+          private-s : common s t ≡ single u
+          private-s = ⊎-elim (λ w. absurd (clash (private-critical u low high seen t lt w) not-critical)) (λ e. e) (own u i)
 
           rest : ℕ
           rest = minus t (single u)
@@ -105,7 +106,7 @@ module _ (seen : List ℕ) (s : ℕ) (below : Below 64 (seen ++ (s ∷ []))) whe
           misses : meets s rest ≡ false
           misses =
               not-meets 64 s rest s-lt (λ x p. false-of (has x rest) (λ q.
-              let r = remove-has u low high x t q in r .1 (shared-only u low high s t alone-in-s x p (r .0))))
+              let r = remove-has u low high x t q in r .1 (shared-only u low high s t private-s x p (r .0))))
 
           keeps : (d : ℕ) → has d rest ≡ true → Private seen rest d
           keeps d p =
@@ -113,7 +114,7 @@ module _ (seen : List ℕ) (s : ℕ) (below : Below 64 (seen ++ (s ∷ []))) whe
               let b = has-bounds 64 d t lt (r .0) in
               ⊎-elim
               (λ w. (w .0, w .1, shared-part d (b .0) (b .1) (w .0) t (w .2) rest rest-lt (subset-minus 64 t (single u) lt) p))
-              (λ e. absurd (r .1 (shared-only u low high s t alone-in-s d (shared-has d (b .0) (b .1) s t e .0) (r .0))))
+              (λ e. absurd (r .1 (shared-only u low high s t private-s d (shared-has d (b .0) (b .1) s t e .0) (r .0))))
               (own d (r .0))
 
   -- ---- from one alone

@@ -1,15 +1,13 @@
 -- Hitting sets and minimal ones: of more sets, of the same sets in another list, of sets of the drives 1 to n.
 use mathlib.Core.Path.{_≡_, refl, sym, _∙_, subst}
 use mathlib.Core.Bool.{true, _&&_}
-use mathlib.Core.Logic.{⊎-elim}
 use mathlib.Core.List.{List, [], _∷_, _++_}
-use Prim.Native.Nat.{ℕ, suc, _^_, _≤_, _<_}
+use Prim.Native.Nat.{ℕ, _^_, _≤_, _<_}
 use native.Mathlib.Nat.{le-refl}
-use lib.ListN.{getD}
-use Rattle.drive_sets.specs.Bools.{clash, and-intro, and-left, and-right}
+use Rattle.drive_sets.specs.Bools.{and-intro, and-left, and-right}
 use Rattle.drive_sets.specs.Lists.{all, elem}
-use Rattle.drive_sets.specs.Lists.Laws.{elem-none, elem-cases, elem-append-left, all-elem, all-intro, all-append, all-same-elements}
-use Rattle.drive_sets.specs.Masks.{has, full, common, meets, subset}
+use Rattle.drive_sets.specs.Lists.Laws.{all-elem, all-intro, all-append, all-same-elements}
+use Rattle.drive_sets.specs.Masks.{has, full, common, meets, subset, Below}
 use Rattle.drive_sets.specs.Masks.Laws.{has-common, has-bounds, full-has, common-lt, full-lt, has-subset, has-meets, meets-has, meets-subset}
 use Rattle.hitting_sets.specs.Hitting.{hits, Minimal}
 
@@ -52,19 +50,6 @@ minimal-more l k m min h =
       all-met = hits-append l k m ∙ and-intro (min .all-met) h;
       no-part = λ part p q. min .no-part part p (and-left (hits l part) (hits k part) (sym (hits-append l k part) ∙ q));
     }
-
--- no set has a drive above n
-abbrev pub Below : ℕ → List ℕ → Type 0
-Below n sets = (s : ℕ) → elem s sets ≡ true → s < 2 ^ n
-
--- a list in which no place has a drive above n
-pub below-places : (n : ℕ) (sets : List ℕ) → ((i : ℕ) → getD sets i 0 < 2 ^ n) → Below n sets
-below-places n [] f s e = absurd (clash e (elem-none s))
-below-places n (x ∷ sets) f s e =
-    ⊎-elim (λ q. subst (λ (y : ℕ). y < 2 ^ n) (sym q) (f 0)) (below-places n sets (λ i. f (suc i)) s) (elem-cases s x sets e)
-
-pub below-left : (n : ℕ) (l k : List ℕ) → Below n (l ++ k) → Below n l
-below-left n l k f s e = f s (elem-append-left s l k e)
 
 -- a minimal hitting set has no drive above those of the sets
 pub minimal-lt : (n : ℕ) (sets : List ℕ) (m : ℕ) → n ≤ 64 → Below n sets → Minimal sets m → m < 2 ^ n

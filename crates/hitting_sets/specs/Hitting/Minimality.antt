@@ -13,9 +13,9 @@ use Rattle.drive_sets.specs.Masks.{has, single, common, minus, meets, subset, s
 use Rattle.drive_sets.specs.Masks.Laws.{has-bounds, minus-lt, has-subset, subset-has, subset-refl, subset-trans, subset-antisym, subset-lt, subset-minus, has-meets, meets-has, meets-sym}
 use Rattle.drive_sets.specs.Masks.Sizes.{size-le, size-remove}
 use Rattle.drive_sets.specs.Masks.OneDrive.{remove-keeps, remove-has, share-one, shared-only}
-use Rattle.hitting_sets.specs.Hitting.{hits, Minimal, alone}
+use Rattle.hitting_sets.specs.Hitting.{hits, Minimal, critical}
 use Rattle.hitting_sets.specs.Hitting.Laws.{hits-meets, meets-hits, hits-subset}
-use Rattle.hitting_sets.specs.Hitting.Alone.{private-alone, all-alone, alone-all, not-all-alone}
+use Rattle.hitting_sets.specs.Hitting.Critical.{private-critical, all-critical, critical-all, not-all-critical}
 
 -- a set that m meets and m without d does not is private to d
 pub missed-private : (d s m : ℕ) → m < 2 ^ 64 → has d m ≡ true → meets s m ≡ true → meets s (minus m (single d)) ≡ false → common s m ≡ single d
@@ -35,25 +35,25 @@ missed-private d s m h e p q =
         (λ r. absurd (clash (has-meets x s (minus m (single d)) i (remove-keeps d low high x m j (eqb-false x d r))) q))
 
 -- a hitting set remains one without a drive that has no private set
-pub remove-hits : (sets : List ℕ) (d m : ℕ) → m < 2 ^ 64 → has d m ≡ true → hits sets m ≡ true → has d (alone sets m) ≡ false → hits sets (minus m (single d)) ≡ true
+pub remove-hits : (sets : List ℕ) (d m : ℕ) → m < 2 ^ 64 → has d m ≡ true → hits sets m ≡ true → has d (critical sets m) ≡ false → hits sets (minus m (single d)) ≡ true
 remove-hits sets d m h e p q =
     meets-hits sets (minus m (single d)) (λ s i. true-of (meets s (minus m (single d))) (λ r.
     let b = has-bounds 64 d m h e in
-    clash (private-alone d (b .0) (b .1) sets m h (s, i, missed-private d s m h e (hits-meets sets m s p i) r)) q))
+    clash (private-critical d (b .0) (b .1) sets m h (s, i, missed-private d s m h e (hits-meets sets m s p i) r)) q))
 
 -- ---- the criterion
 
-pub minimal-alone : (sets : List ℕ) (m : ℕ) → m < 2 ^ 64 → Minimal sets m → alone sets m ≡ m
-minimal-alone sets m h min =
-    by-test (eqb (alone sets m) m) (eqb-true (alone sets m) m)
-    (λ e. let w = not-all-alone sets m h (eqb-false (alone sets m) m e) in
+pub minimal-critical : (sets : List ℕ) (m : ℕ) → m < 2 ^ 64 → Minimal sets m → critical sets m ≡ m
+minimal-critical sets m h min =
+    by-test (eqb (critical sets m) m) (eqb-true (critical sets m) m)
+    (λ e. let w = not-all-critical sets m h (eqb-false (critical sets m) m e) in
     let d = w .0 in
     let b = has-bounds 64 d m h (w .1) in
     let same = min .no-part (minus m (single d)) (subset-minus 64 m (single d) h) (remove-hits sets d m h (w .1) (min .all-met) (w .2)) in
     absurd (remove-has d (b .0) (b .1) d m (ap (has d) same ∙ w .1) .1 refl))
 
-pub alone-minimal : (sets : List ℕ) (m : ℕ) → m < 2 ^ 64 → hits sets m ≡ true → alone sets m ≡ m → Minimal sets m
-alone-minimal sets m h p e =
+pub critical-minimal : (sets : List ℕ) (m : ℕ) → m < 2 ^ 64 → hits sets m ≡ true → critical sets m ≡ m → Minimal sets m
+critical-minimal sets m h p e =
     record {
       all-met = p;
       no-part = λ part i q. subset-antisym part m i (has-subset 64 m part h (λ d j. kept part i q d j));
@@ -62,7 +62,7 @@ alone-minimal sets m h p e =
     kept : (part : ℕ) → subset part m ≡ true → hits sets part ≡ true → (d : ℕ) → has d m ≡ true → has d part ≡ true
     kept part i q d j =
         let b = has-bounds 64 d m h j in
-        let w = alone-all sets m h e d j in
+        let w = critical-all sets m h e d j in
         let x = meets-has 64 part (w .0) (subset-lt 64 part m i h) (meets-sym part (w .0) ∙ hits-meets sets part (w .0) q (w .1)) in
         ap (λ (y : ℕ). has y part) (sym (shared-only d (b .0) (b .1) (w .0) m (w .2) (x .0) (x .2) (subset-has (x .0) part m i (x .1)))) ∙ x .1
 
@@ -71,11 +71,11 @@ alone-minimal sets m h p e =
 contains : (k : ℕ) (sets : List ℕ) (m : ℕ) → size m ≤ k → m < 2 ^ 64 → hits sets m ≡ true → (c : ℕ) × (subset c m ≡ true) × Minimal sets c
 contains zero sets m le h p =
     let none : (d : ℕ) → has d m ≡ true → ⊥ = λ d e. let b = has-bounds 64 d m h e in omega (arith, size-remove d m (b .0) (b .1) e) in
-    (m, subset-refl m, alone-minimal sets m h p (all-alone sets m h (λ d e. absurd (none d e))))
+    (m, subset-refl m, critical-minimal sets m h p (all-critical sets m h (λ d e. absurd (none d e))))
 contains (suc k) sets m le h p =
-    by-test (eqb (alone sets m) m)
-    (λ e. (m, subset-refl m, alone-minimal sets m h p (eqb-true (alone sets m) m e)))
-    (λ e. let w = not-all-alone sets m h (eqb-false (alone sets m) m e) in
+    by-test (eqb (critical sets m) m)
+    (λ e. (m, subset-refl m, critical-minimal sets m h p (eqb-true (critical sets m) m e)))
+    (λ e. let w = not-all-critical sets m h (eqb-false (critical sets m) m e) in
     let d = w .0 in
     let b = has-bounds 64 d m h (w .1) in
     let less = minus m (single d) in

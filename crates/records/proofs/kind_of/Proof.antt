@@ -6,39 +6,16 @@ use Rattle.records.specs.Marks.{ascii, markText, mark, kindOf}
 use Rattle.records.proofs.kind_of.Statement.{statement}
 use Rattle.records.proofs.kind_of.Tie as tie
 
-returns : tie.Need-returns
-unfolding kindOf mark markText ascii fromBytes
-returns c = let e : c .before .args .m ≡ 0x5246 = cc in sym (ap kindOf e)
-
-returns-2 : tie.Need-returns-2
-unfolding kindOf mark markText ascii fromBytes
-returns-2 c = let e : c .before .args .m ≡ 0x5653 = cc in sym (ap kindOf e)
-
-returns-3 : tie.Need-returns-3
-unfolding kindOf mark markText ascii fromBytes
-returns-3 c = let e : c .before .args .m ≡ 0x5250 = cc in sym (ap kindOf e)
-
-returns-4 : tie.Need-returns-4
-unfolding kindOf mark markText ascii fromBytes
-returns-4 c = let e : c .before .args .m ≡ 0x5243 = cc in sym (ap kindOf e)
-
-returns-5 : tie.Need-returns-5
-unfolding kindOf mark markText ascii fromBytes
-returns-5 c = let e : c .before .args .m ≡ 0x4e45 = cc in sym (ap kindOf e)
-
-returns-6 : tie.Need-returns-6
-unfolding kindOf mark markText ascii fromBytes
-returns-6 c = let e : c .before .args .m ≡ 0x4e4b = cc in sym (ap kindOf e)
-
-returns-7 : tie.Need-returns-7
-unfolding kindOf mark markText ascii fromBytes
-returns-7 c = let e : c .before .args .m ≡ 0x4344 = cc in sym (ap kindOf e)
-
 returns-8 : tie.Need-returns-8
 unfolding mark markText ascii fromBytes
 returns-8 c = kind-unknown (c .before .args .m) (c .match .rest .0 .0 .0 .0 .0 .0 .1) (c .match .rest .0 .0 .0 .0 .0 .1) (c .match .rest .0 .0 .0 .0 .1) (c .match .rest .0 .0 .0 .1) (c .match .rest .0 .0 .1) (c .match .rest .0 .1) (c .match .rest .1)
 
 pub kind-of-spec : {M : Type 1} → statement M
+unfolding kindOf mark markText ascii fromBytes
 kind-of-spec =
     tie.close
-    (tie.spec returns returns-2 returns-3 returns-4 returns-5 returns-6 returns-7 returns-8)
+    (tie.spec
+    (λ c. let e : c .before .args .m ≡ 0x5246 = cc in sym (ap kindOf e)) (λ c. let e : c .before .args .m ≡ 0x5653 = cc in sym (ap kindOf e))
+    (λ c. let e : c .before .args .m ≡ 0x5250 = cc in sym (ap kindOf e)) (λ c. let e : c .before .args .m ≡ 0x5243 = cc in sym (ap kindOf e))
+    (λ c. let e : c .before .args .m ≡ 0x4e45 = cc in sym (ap kindOf e)) (λ c. let e : c .before .args .m ≡ 0x4e4b = cc in sym (ap kindOf e))
+    (λ c. let e : c .before .args .m ≡ 0x4344 = cc in sym (ap kindOf e)) returns-8)

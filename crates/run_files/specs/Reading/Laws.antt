@@ -18,7 +18,7 @@ use Rattle.drive_sets.specs.Masks.OneDrive.{has-insert, insert-lt}
 use Rattle.drive_sets.specs.Masks.Sizes.{elem-drives, drives-rising, drives-none, rising-unique, ofDrives-drives}
 use Rattle.run_files.specs.declared.crashes.Crashes.{Crashes}
 use Rattle.runs.specs.CrashRecords.{CrashRecord, crashed}
-use Rattle.run_files.specs.Reading.{noRound, roundAt, crashIn, crashesIn, noted}
+use Rattle.run_files.specs.Reading.{noRound, roundAt, crashOfDrive, crashesIn, withCrash}
 
 -- ---- lists
 
@@ -49,10 +49,10 @@ module _ (m d : ℕ) (word : m < 2 ^ 64) (low : 1 ≤ d) (high : d ≤ 64) (abov
 
 pub none-listed : (c : Crashes) → c .crashed ≡ 0 → crashesIn c ≡ []
 unfolding crashesIn
-none-listed c e = ap (λ (m : ℕ). map (crashIn c) (drives m)) e ∙ ap (map (crashIn c)) drives-none
+none-listed c e = ap (λ (m : ℕ). map (crashOfDrive c) (drives m)) e ∙ ap (map (crashOfDrive c)) drives-none
 
-map-drives : (c : Crashes) (l : List ℕ) → map (λ (x : CrashRecord). x .drive) (map (crashIn c) l) ≡ l
-unfolding crashIn
+map-drives : (c : Crashes) (l : List ℕ) → map (λ (x : CrashRecord). x .drive) (map (crashOfDrive c) l) ≡ l
+unfolding crashOfDrive
 map-drives c [] = refl
 map-drives c (d ∷ l) = ap (λ (m : List ℕ). d ∷ m) (map-drives c l)
 
@@ -63,8 +63,8 @@ crashed-in c word = ap ofDrives (map-drives c (drives (c .crashed))) ∙ ofDrive
 
 module _ (c : Crashes) (d : ℕ) (q : Round) (m : ℕ) (word : c .crashed < 2 ^ 64) (rounds : length (c .rounds) ≡ 64) (sends : length (c .sends) ≡ 64)
     (low : 1 ≤ d) (high : d ≤ 64) (above : (e : ℕ) → has e (c .crashed) ≡ true → e < d) where
-  other : (e : ℕ) → elem e (drives (c .crashed)) ≡ true → crashIn (noted c d q m) e ≡ crashIn c e
-  unfolding crashIn noted
+  other : (e : ℕ) → elem e (drives (c .crashed)) ≡ true → crashOfDrive (withCrash c d q m) e ≡ crashOfDrive c e
+  unfolding crashOfDrive withCrash
   other e h =
       let i : has e (c .crashed) ≡ true = sym (elem-drives e (c .crashed) word) ∙ h in
       let b = has-bounds 64 e (c .crashed) word i in
@@ -73,18 +73,18 @@ module _ (c : Crashes) (d : ℕ) (q : Round) (m : ℕ) (word : c .crashed < 2 ^ 
       let s : getD (set (c .sends) (d - 1) m) (e - 1) 0 ≡ getD (c .sends) (e - 1) 0 = getD-set-other (c .sends) (d - 1) (e - 1) m 0 (λ f. omega (arith, b .0)) in
       ap₂ (λ (x y : ℕ). record { drive = e; round = x; sends = y }) r s
 
-  itself : crashIn (noted c d q m) d ≡ record { drive = d; round = q .0; sends = m }
-  unfolding crashIn noted
+  itself : crashOfDrive (withCrash c d q m) d ≡ record { drive = d; round = q .0; sends = m }
+  unfolding crashOfDrive withCrash
   itself =
       ap₂ (λ (x y : ℕ). record { drive = d; round = x; sends = y })
       (ap (λ (x : Round). x .0) (getD-set-same (c .rounds) (d - 1) q noRound (omega arith))) (getD-set-same (c .sends) (d - 1) m 0 (omega arith))
 
-  pub noted-listed : crashesIn (noted c d q m) ≡ crashesIn c ++ (record { drive = d; round = q .0; sends = m } ∷ [])
-  unfolding crashesIn noted
-  noted-listed =
-      ap (map (crashIn (noted c d q m))) mask
-      ∙ (map-append (crashIn (noted c d q m)) (drives (c .crashed)) (d ∷ [])
-      ∙ ap₂ (λ (l : List CrashRecord) (x : CrashRecord). l ++ (x ∷ [])) (map-equal (crashIn (noted c d q m)) (crashIn c) (drives (c .crashed)) other) itself)
+  pub with-crash-listed : crashesIn (withCrash c d q m) ≡ crashesIn c ++ (record { drive = d; round = q .0; sends = m } ∷ [])
+  unfolding crashesIn withCrash
+  with-crash-listed =
+      ap (map (crashOfDrive (withCrash c d q m))) mask
+      ∙ (map-append (crashOfDrive (withCrash c d q m)) (drives (c .crashed)) (d ∷ [])
+      ∙ ap₂ (λ (l : List CrashRecord) (x : CrashRecord). l ++ (x ∷ [])) (map-equal (crashOfDrive (withCrash c d q m)) (crashOfDrive c) (drives (c .crashed)) other) itself)
     where
-      mask : drives (noted c d q m .crashed) ≡ drives (c .crashed) ++ (d ∷ [])
+      mask : drives (withCrash c d q m .crashed) ≡ drives (c .crashed) ++ (d ∷ [])
       mask = drives-above (c .crashed) d word low high above

@@ -21,11 +21,12 @@ use Rattle.drive_sets.specs.declared.Refusal.the-variants.{TrailingBytes, NoneU
 use Rattle.drive_sets.specs.Refusals.{result}
 use Rattle.drive_sets.specs.Refusals.Laws.{same-result, passed, first-result}
 use Rattle.hitting_sets.specs.Hitting.{hits}
-use Rattle.hitting_sets.specs.Order.{normal}
+use Rattle.set_orders.specs.Order.{normal}
 use Rattle.tables.specs.Tables.{isEmpty, chosen, chosenCore}
 use Rattle.tables.specs.Tables.Laws as tables
+use Rattle.records.specs.RecordLists.{readList}
 use Rattle.runs.specs.CrashRecords.{CrashRecord, crashed, mostSends, isRound}
-use Rattle.run_files.specs.RunFiles.{RunFile, crashOf, readProposals, readCrashes, untouchedLeft, readRest, readBehind, readRunFile}
+use Rattle.run_files.specs.RunFiles.{RunFile, crashOf, proposalList, noCrash, crashList, ReadRun, readRecords, untouchedLeft, wholeRun, readBehind, readRunFile}
 use Rattle.run_files.specs.RunFiles.Laws.{Bytes, numbers-read, Passes, next-bounds, AllPass, crashes-read}
 
 -- the drives of CR records
@@ -115,26 +116,27 @@ pub record Accepted (n : ℕ) (sets s : List ℕ) (f : RunFile) : Type 0 where
   pub untouched : (set : ℕ) × (elem set sets ≡ true) × ((d : ℕ) → has d set ≡ true → crashOf (f .crashes) d ≡ none)
 
 pub not-refused : (n : ℕ) (sets s : List ℕ) (f : RunFile) → readRunFile n sets s ≡ result f → Accepted n sets s f
-unfolding readRunFile readBehind readRest untouchedLeft hits
+unfolding readRunFile readBehind readRecords wholeRun untouchedLeft hits
 not-refused n sets s f e =
     let found = first-result (chosenCore n sets) (λ k. readBehind n k sets s) e in
     let given = tables.core-given n sets (found .1) in
-    let first = first-result (readProposals n [] s) (readRest n core sets) (ap (λ (k : ℕ). readBehind n k sets s) (given .1) ∙ found .2) in
+    let read = first-result (readRecords n core s) (wholeRun sets) (ap (λ (k : ℕ). readBehind n k sets s) (given .1) ∙ found .2) in
+    let first = first-result (readList (proposalList n) [] s) _ (read .1) in
     let p = first .0 in
-    let second = first-result (readCrashes (length (p .rest)) n core 0 [] (p .rest)) _ (first .2) in
-    let c = second .0 in
-    let ended = passed (not (isEmpty (c .rest))) TrailingBytes _ (second .2) in
-    let left = passed (hits sets (crashed (c .crashes))) NoneUntouched _ (ended .1) in
+    let second = first-result (readList (crashList n core) noCrash (p .rest)) _ (first .2) in
+    let c = second .0 .list in
+    let is = same-result (second .2) in
+    let ended = passed (not (isEmpty (read .0 .rest))) TrailingBytes (untouchedLeft sets (read .0 .file)) (read .2) in
+    let left = passed (hits sets (crashed (c .crashes))) NoneUntouched _ (ap (λ (r : ReadRun). untouchedLeft sets (r .file)) is ∙ ended .1) in
     let high = given .0 .high in
-    let numbers = numbers-read n [] s (first .1) in
-    let crashes = crashes-read (length (p .rest)) n core 0 [] (p .rest) (second .1) in
+    let numbers = numbers-read n s (first .1) in
+    let all = crashes-read n core (p .rest) (second .1) in
     let same = same-result (left .1) in
-    let all = subst (AllPass n core 0) (sym (crashes .1)) (crashes .2) in
     let set = all-not (λ x. meets x (crashed (c .crashes))) sets (left .0) in
-    let whole : Accepted n sets s (record { numbers = p .numbers; crashes = c .crashes }) = record {
+    let whole : Accepted n sets s (record { numbers = p .list; crashes = c .crashes }) = record {
       table = given .0;
-      many = ap length (numbers .1) ∙ numbers .2 .many;
-      patterns = λ b i. subst (λ (l : List ℕ). getD l i 0 < 65536) (sym (numbers .1)) (numbers .2 .patterns b i);
+      many = numbers .many;
+      patterns = numbers .patterns;
       passes = λ d x h. crash-allowed n core 0 (c .crashes) all d h;
       drives-rise = rising n core 0 (c .crashes) all;
       with-crash = has-crashed n core high (c .crashes) all;

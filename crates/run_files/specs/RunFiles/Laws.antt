@@ -1,35 +1,27 @@
 -- Laws of the PR and CR records that are read: as many numbers as drives, each a pattern number, and crashes that pass 8, 9 and 10.
-use mathlib.Core.Path.{_≡_, refl, sym, ap, _∙_, subst}
-use mathlib.Core.Bool.{true, not, cond, _&&_}
-use mathlib.Core.List.{List, [], _∷_, _++_, append-nil, append-assoc}
-use Prim.Native.Nat.{ℕ, zero, suc, _+_, _-_, _≤_, _<_}
+use mathlib.Core.Path.{_≡_, refl, sym, subst}
+use mathlib.Core.Bool.{true, false, not, _&&_}
+use mathlib.Core.Logic.{⊎-elim}
+use mathlib.Core.List.{List, [], _∷_, _++_, append-nil}
+use Prim.Native.Nat.{ℕ, zero, suc, _+_, _≤_, _<_}
 use native.Mathlib.Omega.{arith}
 use lib.Dec.{eqb, leb, ltb}
-use lib.ListN.{length, getD, take, drop, length-take}
-use lib.Seq.{getD-drop}
-use borrow.Author.Tests.{not-false, leb-true, ltb-true, ltb-false}
-use Rattle.drive_sets.specs.Bools.{by-test, and-left, and-right, cond-true, cond-false}
-use Rattle.drive_sets.specs.declared.Refusal.the-variants.{DriveNumber, CountDiffers, CrashRound, CrashSends}
-use Rattle.drive_sets.specs.Refusals.{Outcome, result, refuseIf, andThen}
-use Rattle.drive_sets.specs.Refusals.Laws.{refused-no-result, same-result, passed, first-result}
-use Rattle.records.specs.declared.Kind.{Kind}
-use Rattle.records.specs.declared.Kind.the-variants.{End}
-use Rattle.records.specs.declared.Due.the-variants.{AtProposal, AtCrashOrEnd}
-use Rattle.records.specs.declared.Head.{Head}
-use Rattle.records.specs.declared.Head.the-variants.{Record, Refused}
-use Rattle.records.specs.Fields.{fieldAt}
+use lib.ListN.{length, getD, take, drop, length-take, length-append}
+use lib.Seq.{getD-drop, append-snoc}
+use borrow.Author.Tests.{not-false, leb-true, leb-false, ltb-true, ltb-false}
+use Rattle.drive_sets.specs.Bools.{clash, and-left, and-right}
+use Rattle.drive_sets.specs.declared.Refusal.the-variants.{DriveNumber, CrashRound, CrashSends}
+use Rattle.drive_sets.specs.Refusals.{result}
+use Rattle.drive_sets.specs.Refusals.Laws.{same-result, passed, first-result}
+use Rattle.records.specs.Fields.{fromBytes, fieldAt}
 use Rattle.records.specs.Fields.Laws.{fromBytes-lt}
-use Rattle.records.specs.Marks.{mark, headOf}
+use Rattle.records.specs.Marks.{ascii, markText, mark, bodyWidth, isKind, isDue}
+use Rattle.records.specs.RecordLists.{ReadList, widthOf, readList}
+use Rattle.records.specs.RecordLists.Laws.{read-keeps}
 use Rattle.records.proofs.Loops.{bytes-take}
-use Rattle.tables.specs.Files.{atRecord}
 use Rattle.drive_states.specs.State.{isDrive}
 use Rattle.runs.specs.CrashRecords.{CrashRecord, isNext, isRound, mostSends, checkedCrash}
-use Rattle.run_files.specs.RunFiles.{ReadProposals, ReadCrashes, readProposals, crashAt, atEnd, readCrashes}
-
--- what was made of a record that stood there
-record-there : {A : Type 0} (h : Head) (f : Kind → Outcome A) {a : A} → atRecord h f ≡ result a → (k : Kind) × (f k ≡ result a)
-record-there (Refused r) f e = absurd (refused-no-result e)
-record-there (Record k) f e = (k, e)
+use Rattle.run_files.specs.RunFiles.{takenProposal, proposalList, crashFields, CrashList, noCrash, takenCrash, crashList}
 
 -- ---- the numbers
 
@@ -39,29 +31,38 @@ Bytes s = (i : ℕ) → getD s i 0 < 256
 bytes-drop : (k : ℕ) (s : List ℕ) → Bytes s → Bytes (drop k s)
 bytes-drop k s b i = subst (λ (x : ℕ). x < 256) (sym (getD-drop k s i 0)) (b (k + i))
 
--- the numbers that are read behind those given: so many, and each a pattern number
-pub record Numbers (more : ℕ) (s new : List ℕ) : Type 0 where
-  pub many : length new ≡ more
-  pub patterns : Bytes s → (i : ℕ) → getD new i 0 < 65536
+-- the numbers that are read: so many, and each a pattern number
+pub record Numbers (n : ℕ) (s numbers : List ℕ) : Type 0 where
+  pub many : length numbers ≡ n
+  pub patterns : Bytes s → (i : ℕ) → getD numbers i 0 < 65536
 
-pub numbers-read : (more : ℕ) (given s : List ℕ) {p : ReadProposals} → readProposals more given s ≡ result p → (new : List ℕ) × (p .numbers ≡ given ++ new) × Numbers more s new
-unfolding readProposals
-numbers-read zero given s e =
-    ([], ap (λ (q : ReadProposals). q .numbers) (sym (same-result e)) ∙ sym (append-nil given), record { many = refl; patterns = λ b i. omega arith })
-numbers-read (suc more) given s {p} e =
-    let there = record-there (headOf AtProposal s) (λ kind. refuseIf (not (eqb (fieldAt 2 1 s) (suc (length given)))) DriveNumber next) e in
-    let w = numbers-read more (given ++ (v ∷ [])) (drop 5 s) (passed (not (eqb (fieldAt 2 1 s) (suc (length given)))) DriveNumber next (there .1) .1) in
-    (v ∷ w .0, w .1 ∙ append-assoc given (v ∷ []) (w .0), record { many = ap suc (w .2 .many); patterns = fits (w .0) (w .2) })
+-- one number more
+patterns-more : (given : List ℕ) (v i : ℕ) → ((j : ℕ) → getD given j 0 < 65536) → v < 65536 → getD (given ++ (v ∷ [])) i 0 < 65536
+patterns-more [] v zero all h = h
+patterns-more [] v (suc i) all h = omega arith
+patterns-more (x ∷ given) v zero all h = all 0
+patterns-more (x ∷ given) v (suc i) all h = patterns-more given v i (λ j. all (suc j)) h
+
+pub pattern-lt : (s : List ℕ) → Bytes s → fieldAt 3 2 s < 65536
+pattern-lt s b = fromBytes-lt 2 (take 2 (drop 3 s)) (omega (arith, length-take 2 (drop 3 s))) (bytes-take 2 (drop 3 s) (bytes-drop 3 s b))
+
+pub numbers-read : (n : ℕ) (s : List ℕ) {p : ReadList (List ℕ)} → readList (proposalList n) [] s ≡ result p → Numbers n s (p .list)
+unfolding readList takenProposal widthOf bodyWidth isDue isKind mark markText ascii fromBytes
+numbers-read n s {p} e =
+    let w = read-keeps (proposalList n) Good (λ given b t g going q. kept given b t g going q) (length s) [] s (omega arith, λ b. (b, λ i. omega arith)) e in
+    let all : n ≤ length (p .list) = leb-true n (length (p .list)) (⊎-elim (λ t. t) (λ t. absurd (clash t refl)) (w .2)) in
+    record { many = omega (arith, w .1 .0); patterns = λ b i. w .1 .1 b .1 i }
   where
-    v : ℕ
-    v = fieldAt 3 2 s
+    Good : List ℕ → List ℕ → Type 0
+    Good given b = (length given ≤ n) × (Bytes s → Bytes b × ((i : ℕ) → getD given i 0 < 65536))
 
-    next : Outcome ReadProposals
-    next = readProposals more (given ++ (v ∷ [])) (drop 5 s)
-
-    fits : (new : List ℕ) → Numbers more (drop 5 s) new → Bytes s → (i : ℕ) → getD (v ∷ new) i 0 < 65536
-    fits new w b zero = fromBytes-lt 2 (take 2 (drop 3 s)) (omega (arith, length-take 2 (drop 3 s))) (bytes-take 2 (drop 3 s) (bytes-drop 3 s b))
-    fits new w b (suc i) = w .patterns (bytes-drop 5 s b) i
+    kept : (given b t : List ℕ) → Good given b → leb n (length given) ≡ false → takenProposal given b ≡ result t → Good t (drop 5 b)
+    kept given b t g going q =
+        let next = passed (not (eqb (fieldAt 2 1 b) (suc (length given)))) DriveNumber (result (given ++ (fieldAt 3 2 b ∷ []))) q in
+        subst (λ (l : List ℕ). Good l (drop 5 b)) (same-result (next .1)) (
+          omega (arith, length-append given (fieldAt 3 2 b ∷ []), leb-false n (length given) going),
+          λ bytes. (bytes-drop 5 b (g .1 bytes .0), λ i. patterns-more given (fieldAt 3 2 b) i (g .1 bytes .1) (pattern-lt b (g .1 bytes .0))),
+        )
 
 -- ---- a CR that passes 8, 9 and 10
 
@@ -97,25 +98,20 @@ abbrev pub AllPass : ℕ → ℕ → ℕ → List CrashRecord → Type 0
 AllPass n core last [] = Unit {0}
 AllPass n core last (c ∷ cs) = Passes n core last c × AllPass n core (c .drive) cs
 
--- the records that are read behind those listed
-pub crashes-read : (bytes n core last : ℕ) (listed : List CrashRecord) (s : List ℕ) {r : ReadCrashes} → readCrashes bytes n core last listed s ≡ result r
-    → (new : List CrashRecord) × (r .crashes ≡ listed ++ new) × AllPass n core last new
-unfolding readCrashes atEnd
-crashes-read zero n core last listed s e = absurd (refused-no-result e)
-crashes-read (suc bytes) n core last listed s {r} e =
-    let there = record-there (headOf AtCrashOrEnd s) (λ kind. cond (eqb (mark kind) (mark End)) (atEnd listed s) checked) e in
-    by-test (eqb (mark (there .0)) (mark End))
-    (λ t. let last-one = passed (not (eqb (fieldAt 2 1 s) (length listed))) CountDiffers _ (sym (cond-true (atEnd listed s) checked t) ∙ there .1) in
-    ([], ap (λ (q : ReadCrashes). q .crashes) (sym (same-result (last-one .1))) ∙ sym (append-nil listed), tt))
-    (λ t. let two = first-result (checkedCrash n core last c) (λ ok. next) (sym (cond-false (atEnd listed s) checked t) ∙ there .1) in
-    let w = crashes-read bytes n core (c .drive) (listed ++ (c ∷ [])) (drop 5 s) (two .2) in
-    (c ∷ w .0, w .1 ∙ append-assoc listed (c ∷ []) (w .0), (checked-passes n core last c (two .1) .1, w .2)))
+-- the records that are read
+pub crashes-read : (n core : ℕ) (s : List ℕ) {r : ReadList CrashList} → readList (crashList n core) noCrash s ≡ result r → AllPass n core 0 (r .list .crashes)
+unfolding readList takenCrash
+crashes-read n core s {r} e =
+    let w = read-keeps (crashList n core) Good (λ l b t g going q. kept l b t g q) (length s) noCrash s (λ new all. all) e in
+    subst (AllPass n core 0) (append-nil (r .list .crashes)) (w .1 [] tt)
   where
-    c : CrashRecord
-    c = crashAt s
+    -- records that pass behind the last pass behind those listed
+    Good : CrashList → List ℕ → Type 0
+    Good l b = (new : List CrashRecord) → AllPass n core (l .last) new → AllPass n core 0 (l .crashes ++ new)
 
-    next : Outcome ReadCrashes
-    next = readCrashes bytes n core (c .drive) (listed ++ (c ∷ [])) (drop 5 s)
-
-    checked : Outcome ReadCrashes
-    checked = andThen (checkedCrash n core last c) (λ ok. next)
+    kept : (l : CrashList) (b : List ℕ) (t : CrashList) → Good l b → takenCrash n core l b ≡ result t → Good t b
+    kept l b t g q =
+        let w = first-result (checkedCrash n core (l .last) (crashFields b)) (λ c. result (record { crashes = l .crashes ++ (c ∷ []); last = c .drive })) q in
+        let c = checked-passes n core (l .last) (crashFields b) (w .1) in
+        subst (λ (x : CrashList). Good x b) (same-result (w .2))
+        (λ new all. subst (AllPass n core 0) (sym (append-snoc (l .crashes) (w .0) new)) (g (w .0 ∷ new) (subst (Passes n core (l .last)) (c .0) (c .1), all)))

@@ -1,6 +1,6 @@
 -- Laws of worlds: a call touches the drive that it names alone, a refused one touches none, and lists of calls one after the other.
 use mathlib.Core.Path.{_≡_, refl, sym, ap, _∙_, subst}
-use mathlib.Core.Bool.{true, false, false≢true}
+use mathlib.Core.Bool.{true, false, cond, false≢true}
 use mathlib.Core.List.{List, [], _∷_, _++_}
 use Prim.Native.Nat.{ℕ}
 use lib.Dec.{eqb}
@@ -70,3 +70,35 @@ module _ (P : Protocol) where
   refused-keeps w (sends d room start) h e = refl
   refused-keeps w (delivers d bytes) h e = put-back w d _ (message-refused d bytes (w d) h) e
   refused-keeps w (closes d) h e = put-back w d _ (close-refused d (w d) h) e
+
+-- ---- the calls that name a drive
+
+unfoldable pub naming : ℕ → List Call → List Call
+naming d [] = []
+naming d (c ∷ cs) =
+    let rest = naming d cs in
+    cond (eqb d (driveOf c)) (c ∷ rest) rest
+
+module _ (P : Protocol) where
+  -- what a call leaves of the drive that it names depends on that drive's state alone
+  apply-here : (w w′ : World) (c : Call) → w (driveOf c) ≡ w′ (driveOf c) → apply P w c (driveOf c) ≡ apply P w′ c (driveOf c)
+  unfolding apply driveOf
+  apply-here w w′ (opens d n sets own number) e = put-same w d _ ∙ (ap (λ slot. afterCall slot (P .opening n sets own number)) e ∙ sym (put-same w′ d _))
+  apply-here w w′ (sends d room start) e = e
+  apply-here w w′ (delivers d bytes) e = put-same w d _ ∙ (ap (onState (λ x. P .receiving x bytes)) e ∙ sym (put-same w′ d _))
+  apply-here w w′ (closes d) e = put-same w d _ ∙ (ap (onState (P .closing)) e ∙ sym (put-same w′ d _))
+
+  named-from : (d : ℕ) (w w′ : World) (cs : List Call) → w d ≡ w′ d → applyAll P w cs d ≡ applyAll P w′ (naming d cs) d
+  unfolding applyAll naming
+  named-from d w w′ [] e = e
+  named-from d w w′ (c ∷ cs) e =
+      by-test (eqb d (driveOf c))
+      (λ h. let is = eqb-true d (driveOf c) h in
+      named-from d (apply P w c) (apply P w′ c) cs
+      (subst (λ (x : ℕ). apply P w c x ≡ apply P w′ c x) (sym is) (apply-here w w′ c (subst (λ (x : ℕ). w x ≡ w′ x) is e)))
+      ∙ sym (ap (λ l. applyAll P w′ l d) (cond-true _ _ h)))
+      (λ h. named-from d (apply P w c) w′ cs (apply-other P w c d h ∙ e) ∙ sym (ap (λ l. applyAll P w′ l d) (cond-false _ _ h)))
+
+  -- what a list of calls leaves of a drive is what those of them that name it leave
+  pub named-alone : (d : ℕ) (w : World) (cs : List Call) → applyAll P w cs d ≡ applyAll P w (naming d cs) d
+  named-alone d w cs = named-from d w w cs refl

@@ -19,17 +19,17 @@ use Rattle.drive_sets.specs.Masks.Sizes.{has-ofDrives}
 use Rattle.drive_sets.specs.Refusals.{Outcome, result}
 use Rattle.drive_sets.specs.Refusals.Laws.{passed, first-result, same-result}
 use Rattle.hitting_sets.specs.Hitting.{hits}
-use Rattle.hitting_sets.specs.Order.{normal}
+use Rattle.set_orders.specs.Order.{normal}
 use Rattle.tables.specs.Tables.{chosen, normalTable}
 use Rattle.tables.specs.Tables.Laws.{Accepted, table-accepted}
-use Rattle.drive_states.specs.State.{isDrive}
+use Rattle.drive_states.specs.State.{isDrive, patternLimit}
 use Rattle.drive_states.specs.State.Laws.{drive-bounds}
 use Rattle.runs.specs.Scenario.{stays, crashes, Scenario, coreOf}
 use Rattle.runs.specs.Scenario.Laws.{stays-crashes}
 use Rattle.runs.specs.CrashRecords.{CrashRecord, crashed, isNext, isRound, mostSends, checkedCrash, crashIn, scenario}
 use Rattle.runs.specs.Statement.{Passes, Valid, Untouched}
 use Rattle.agreement.specs.Simulated.{EndsAgreed, SimulatedAgreement}
-use Rattle.agreement.specs.Simulated.Laws.{simulated-agreement}
+use Rattle.agreement.proofs.SimulatedRuns.{simulated-agreement}
 use Rattle.simulation.specs.Simulation.{checkedCrashes, Simulated, simulatedOf, simulated}
 
 -- ---- what the checks say of the records
@@ -108,7 +108,7 @@ named-bounds n core (c ∷ cs) all d h =
 -- ---- the scenario of an accepted table and records that pass
 
 module _ (n : ℕ) (sets numbers : List ℕ) (crs : List CrashRecord)
-    (accepted : normalTable n sets ≡ result (normal sets)) (patterns : (d : ℕ) → isDrive n d ≡ true → getD numbers (d - 1) 0 < 65536) where
+    (accepted : normalTable n sets ≡ result (normal sets)) (patterns : (d : ℕ) → isDrive n d ≡ true → getD numbers (d - 1) 0 < patternLimit) where
   records-valid : AllChecked n (chosen (normal sets)) crs → Valid (scenario n sets numbers crs)
   unfolding scenario coreOf isRound mostSends
   records-valid records = record { accepted = accepted; patterns = patterns; passes = passes }
@@ -155,7 +155,7 @@ module _ (n : ℕ) (sets numbers : List ℕ) (crs : List CrashRecord) {r : Simul
         gives = sym (same-result (left .1));
       }
 
-  pub simulated-valid : ((d : ℕ) → isDrive n d ≡ true → getD numbers (d - 1) 0 < 65536) → Valid given
+  pub simulated-valid : ((d : ℕ) → isDrive n d ≡ true → getD numbers (d - 1) 0 < patternLimit) → Valid given
   simulated-valid patterns = records-valid n sets numbers crs (accept .accepted) patterns (accept .records)
 
   pub simulated-untouched : Untouched given
@@ -175,6 +175,6 @@ module _ (n : ℕ) (sets numbers : List ℕ) (crs : List CrashRecord) {r : Simul
   simulated-gives = accept .gives
 
   -- so every drive that stays up decides, all on one number, in a round up to f + 1
-  pub simulated-agrees : ((d : ℕ) → isDrive n d ≡ true → getD numbers (d - 1) 0 < 65536) → EndsAgreed given
+  pub simulated-agrees : ((d : ℕ) → isDrive n d ≡ true → getD numbers (d - 1) 0 < patternLimit) → EndsAgreed given
   unfolding SimulatedAgreement
   simulated-agrees patterns = simulated-agreement given (simulated-valid patterns) simulated-untouched

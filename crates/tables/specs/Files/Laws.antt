@@ -1,136 +1,104 @@
 -- Tables read back as written: with anything behind them, and a table that was read, written and read again is the same.
-use mathlib.Core.Path.{_≡_, refl, sym, ap, ap₂, _∙_, subst}
-use mathlib.Core.Bool.{true, not, cond}
+use mathlib.Core.Path.{_≡_, refl, sym, ap, _∙_, subst}
+use mathlib.Core.Bool.{true, not}
 use mathlib.Core.Logic.{⊎-elim}
 use mathlib.Core.List.{List, [], _∷_, _++_, append-nil, append-assoc}
 use Prim.Native.Nat.{ℕ, zero, suc, _+_, _≤_, _<_}
 use native.Mathlib.Nat.{lt-of-lt-of-le}
 use native.Mathlib.Omega.{arith}
 use lib.Pow.{pow-mono}
-use lib.Dec.{eqb, leb, ltb}
-use lib.ListN.{length, take, drop, length-append}
+use lib.Dec.{leb, ltb}
+use lib.ListN.{length, drop, length-append}
 use lib.Seq.{append-snoc}
-use borrow.Author.Tests.{eq-eqb, not-false, leb-true, ltb-false}
-use Rattle.drive_sets.specs.Bools.{clash, by-test, and-left, and-right, cond-true, cond-false}
+use borrow.Author.Tests.{eq-eqb, not-false, leb-true, leb-false, lt-leb, ltb-false}
+use Rattle.drive_sets.specs.Bools.{clash, and-left, and-right}
 use Rattle.drive_sets.specs.Lists.{elem}
 use Rattle.drive_sets.specs.Lists.Laws.{elem-head, elem-tail, elem-none, elem-one, elem-append-cases}
-use Rattle.drive_sets.specs.declared.Refusal.the-variants.{FrameSize, BadSet, TooManyCores, CountDiffers, TrailingBytes}
+use Rattle.drive_sets.specs.declared.Refusal.the-variants.{FrameSize, BadSet, TooManySets, TooManyCores, TrailingBytes}
 use Rattle.drive_sets.specs.Refusals.{Outcome, result, refuseIf, andThen}
-use Rattle.drive_sets.specs.Refusals.Laws.{refused-no-result, passed, first-result, same-result}
-use Rattle.hitting_sets.specs.Order.{normal}
-use Rattle.hitting_sets.specs.Order.Normal.{normal-idempotent}
+use Rattle.drive_sets.specs.Refusals.Laws.{passed, first-result, same-result}
+use Rattle.set_orders.specs.Order.{normal}
+use Rattle.set_orders.specs.Order.Normal.{normal-idempotent}
 use Rattle.records.specs.declared.Kind.the-variants.{Frame, Survivor, End}
-use Rattle.records.specs.declared.Due.the-variants.{AtFrame, AtFirstSet}
-use Rattle.records.specs.declared.Head.{Head}
-use Rattle.records.specs.declared.Head.the-variants.{Record, Refused}
-use Rattle.records.specs.declared.Kind.{Kind}
-use Rattle.records.specs.Fields.{fromBytes}
+use Rattle.records.specs.declared.Due.the-variants.{AtFrame}
+use Rattle.records.specs.Fields.{fromBytes, fieldAt}
 use Rattle.records.specs.Marks.{ascii, markText, mark, bodyWidth, isKind, isDue, headOf, recordBytes}
-use Rattle.records.specs.Marks.Laws.{head-record, head-present, kind-is, record-field, record-rest}
-use Rattle.tables.specs.Tables.{isFrame, isSet, isEmpty, cores, uncrowded}
-use Rattle.tables.specs.Tables.Laws.{Accepted, set-lt, accepted-uncrowded, accepted-frame, accepted-normal}
-use Rattle.tables.specs.Files.{ReadTable, atRecord, dueAfter, atEnd, readSets, readListed, accepted, readTable, readWhole, setRecords, tableBytes}
-
--- ---- the end
-
-end-due : (listed : List ℕ) → 1 ≤ length listed → isDue (dueAfter listed) End ≡ true
-unfolding dueAfter isDue isKind mark markText ascii fromBytes
-end-due [] h = absurd (omega arith)
-end-due (s ∷ listed) h = refl
-
-set-due : (listed : List ℕ) → isDue (dueAfter listed) Survivor ≡ true
-unfolding dueAfter isDue isKind mark markText ascii fromBytes
-set-due [] = refl
-set-due (s ∷ listed) = refl
-
-end-read : (n : ℕ) (listed rest : List ℕ) (other : Outcome ReadTable) → 1 ≤ length listed → length listed < 256
-    → atRecord (headOf (dueAfter listed) (recordBytes (mark End) 1 (length listed) ++ rest))
-    (λ kind. cond (eqb (mark kind) (mark End)) (atEnd n listed (recordBytes (mark End) 1 (length listed) ++ rest)) other)
-    ≡ result (record { n = n; sets = listed; rest = rest })
-unfolding atEnd bodyWidth
-end-read n listed rest other some few =
-    ap (λ (h : Head). atRecord h (λ kind. cond (eqb (mark kind) (mark End)) (atEnd n listed s) other))
-    (head-record (dueAfter listed) End (length listed) rest (end-due listed some))
-    ∙ (cond-true _ _ (eq-eqb (mark End) (mark End) refl)
-    ∙ (cond-false _ _ (ap not (eq-eqb (fromBytes (take 1 (drop 2 s))) (length listed) (record-field (mark End) 1 (length listed) rest few)))
-    ∙ ap (λ (r : List ℕ). result (record { n = n; sets = listed; rest = r })) (record-rest (mark End) 1 (length listed) rest)))
-  where
-    s : List ℕ
-    s = recordBytes (mark End) 1 (length listed) ++ rest
+use Rattle.records.specs.Marks.Laws.{length-record, head-record, kind-is, record-field, record-rest}
+use Rattle.records.specs.RecordLists.{ReadList, widthOf, readList, listBytes}
+use Rattle.records.specs.RecordLists.Laws.{OwnKind, other-kind, Leads, length-list, list-back, read-keeps, record-there}
+use Rattle.tables.specs.Tables.{maxDrives, maxSets, maxCores, isFrame, isSet, isEmpty, cores, withinCoreLimit}
+use Rattle.tables.specs.Tables.Laws.{Accepted, set-lt, accepted-within-limit, accepted-frame, accepted-normal}
+use Rattle.tables.specs.Files.{ReadTable, dueAfter, takenSet, setList, listedTable, readListed, accepted, readTable, readWhole, tableBytes}
 
 -- ---- the sets
 
--- one set more
-set-read : (room n : ℕ) (listed rest : List ℕ) (x : ℕ) → isSet n x ≡ true → n ≤ 64
-    → readSets (suc room) n listed (recordBytes (mark Survivor) 8 x ++ rest) ≡ readSets room n (listed ++ (x ∷ [])) rest
-unfolding readSets bodyWidth mark markText ascii fromBytes
-set-read room n listed rest x good high =
-    ap (λ (h : Head). atRecord h (λ kind. cond (eqb (mark kind) (mark End)) (atEnd n listed s) checked))
-    (head-record (dueAfter listed) Survivor x rest (set-due listed))
-    ∙ (cond-false _ _ (ap not (ap (isSet n) field ∙ good))
-    ∙ ap₂ (λ (y : ℕ) (r : List ℕ). readSets room n (listed ++ (y ∷ [])) r) field (record-rest (mark Survivor) 8 x rest))
-  where
-    s : List ℕ
-    s = recordBytes (mark Survivor) 8 x ++ rest
+pub own-set : (n : ℕ) → OwnKind (setList n)
+unfolding dueAfter isDue
+own-set n [] k d t = kind-is Survivor k d
+own-set n (x ∷ listed) k d t = other-kind Survivor k d t
 
-    set : ℕ
-    set = fromBytes (take 8 (drop 2 s))
+set-due : (count : ℕ) → isDue (dueAfter count) Survivor ≡ true
+unfolding dueAfter isDue isKind mark markText ascii fromBytes
+set-due zero = refl
+set-due (suc count) = refl
 
-    checked : Outcome ReadTable
-    checked = refuseIf (not (isSet n set)) BadSet (readSets room n (listed ++ (set ∷ [])) (drop 10 s))
+-- the end is due where a set is listed
+end-due : (count : ℕ) → 1 ≤ count → isDue (dueAfter count) End ≡ true
+unfolding dueAfter isDue isKind mark markText ascii fromBytes
+end-due zero h = absurd (omega arith)
+end-due (suc count) h = refl
 
-    field : set ≡ x
-    field = record-field (mark Survivor) 8 x rest (lt-of-lt-of-le (set-lt n x good) (pow-mono {i = n} {j = 64} high))
+due-listed : (count : ℕ) → isDue (dueAfter count) End ≡ true → 1 ≤ count
+unfolding dueAfter isDue isKind mark markText ascii fromBytes
+due-listed zero e = absurd (clash e refl)
+due-listed (suc count) e = omega arith
 
-ended : (room n : ℕ) (listed rest : List ℕ) → 1 ≤ length listed → length listed < 256
-    → readSets room n listed (recordBytes (mark End) 1 (length listed) ++ rest) ≡ result (record { n = n; sets = listed; rest = rest })
-unfolding readSets
-ended zero n listed rest some few = end-read n listed rest _ some few
-ended (suc room) n listed rest some few = end-read n listed rest _ some few
+set-taken : (n : ℕ) (listed rest : List ℕ) (x : ℕ) → length listed < maxSets → isSet n x ≡ true → n ≤ maxDrives
+    → takenSet n listed (recordBytes (mark Survivor) 8 x ++ rest) ≡ result (listed ++ (x ∷ []))
+unfolding takenSet
+set-taken n listed rest x few good high =
+    let field = record-field (mark Survivor) 8 x rest (lt-of-lt-of-le (set-lt n x good) (pow-mono {i = n} {j = 64} high)) in
+    rw (lt-leb maxSets (length listed) few, field, good)
 
--- the written sets and their end: behind those listed they make the whole
-sets-read : (sets : List ℕ) (room n : ℕ) (listed whole rest : List ℕ) → whole ≡ listed ++ sets → length sets ≤ room
-    → ((s : ℕ) → elem s sets ≡ true → isSet n s ≡ true) → n ≤ 64 → 1 ≤ length whole → length whole < 256
-    → readSets room n listed (setRecords sets ++ (recordBytes (mark End) 1 (length whole) ++ rest)) ≡ result (record { n = n; sets = whole; rest = rest })
-unfolding setRecords
-sets-read [] room n listed whole rest e fit good high some few =
-    let same = sym (e ∙ append-nil listed) in
-    subst
-    (λ (l : List ℕ). readSets room n listed (recordBytes (mark End) 1 (length l) ++ rest) ≡ result (record { n = n; sets = l; rest = rest })) same
-    (ended room n listed rest (subst (λ (l : List ℕ). 1 ≤ length l) (sym same) some) (subst (λ (l : List ℕ). length l < 256) (sym same) few))
-sets-read (x ∷ sets) zero n listed whole rest e fit good high some few = absurd (omega arith)
-sets-read (x ∷ sets) (suc room) n listed whole rest e fit good high some few =
-    ap (readSets (suc room) n listed) (append-assoc (recordBytes (mark Survivor) 8 x) (setRecords sets) (recordBytes (mark End) 1 (length whole) ++ rest))
-    ∙ (set-read room n listed (setRecords sets ++ (recordBytes (mark End) 1 (length whole) ++ rest)) x (good x (elem-head x sets)) high
-    ∙ sets-read sets room n (listed ++ (x ∷ [])) whole rest (e ∙ sym (append-snoc listed x sets)) (omega arith) (λ s h. good s (elem-tail s x sets h)) high some few)
+-- sets behind those listed lead to the whole
+sets-lead : (sets : List ℕ) (n : ℕ) (listed whole : List ℕ) → whole ≡ listed ++ sets → length whole ≤ maxSets
+    → ((s : ℕ) → elem s sets ≡ true → isSet n s ≡ true) → n ≤ maxDrives → Leads (setList n) listed sets whole
+unfolding bodyWidth
+sets-lead [] n listed whole e few good high = sym (e ∙ append-nil listed)
+sets-lead (x ∷ sets) n listed whole e few good high = (
+  listed ++ (x ∷ []),
+  refl,
+  set-due (length listed),
+  (λ rest. set-taken n listed rest x (omega (arith, ap length e, length-append listed (x ∷ sets))) (good x (elem-head x sets)) high),
+  sets-lead sets n (listed ++ (x ∷ [])) whole (e ∙ sym (append-snoc listed x sets)) few (λ s h. good s (elem-tail s x sets h)) high,
+)
 
 -- ---- the whole table
 
-frame-read : (n : ℕ) (rest : List ℕ) → isFrame n ≡ true → n < 256 → readListed (recordBytes (mark Frame) 1 n ++ rest) ≡ readSets 128 n [] rest
+frame-read : (n : ℕ) (rest : List ℕ) → isFrame n ≡ true → n < 256
+    → readListed (recordBytes (mark Frame) 1 n ++ rest) ≡ andThen (readList (setList n) [] rest) (λ l. result (listedTable n l))
 unfolding readListed bodyWidth isDue isKind
 frame-read n rest good few =
-    ap (λ (h : Head). atRecord h (λ kind. refuseIf (not (isFrame (fromBytes (take 1 (drop 2 s))))) FrameSize (readSets 128 (fromBytes (take 1 (drop 2 s))) [] (drop 3 s))))
-    (head-record AtFrame Frame n rest (eq-eqb (mark Frame) (mark Frame) refl))
-    ∙ (cond-false _ _ (ap not (ap isFrame field ∙ good)) ∙ ap₂ (λ (k : ℕ) (r : List ℕ). readSets 128 k [] r) field (record-rest (mark Frame) 1 n rest))
-  where
-    s : List ℕ
-    s = recordBytes (mark Frame) 1 n ++ rest
-
-    field : fromBytes (take 1 (drop 2 s)) ≡ n
-    field = record-field (mark Frame) 1 n rest few
+    rw (head-record AtFrame Frame n rest (eq-eqb (mark Frame) (mark Frame) refl), record-field (mark Frame) 1 n rest few, good, record-rest (mark Frame) 1 n rest)
 
 listed-read : (n : ℕ) (sets rest : List ℕ) → Accepted n sets → readListed (tableBytes n sets ++ rest) ≡ result (record { n = n; sets = sets; rest = rest })
-unfolding tableBytes
+unfolding tableBytes readList isKind mark markText ascii fromBytes
 listed-read n sets rest a =
     ap readListed
-    (append-assoc (recordBytes (mark Frame) 1 n) (setRecords sets ++ recordBytes (mark End) 1 (length sets)) rest
-    ∙ ap (λ (r : List ℕ). recordBytes (mark Frame) 1 n ++ r) (append-assoc (setRecords sets) (recordBytes (mark End) 1 (length sets)) rest))
-    ∙ (frame-read n (setRecords sets ++ (recordBytes (mark End) 1 (length sets) ++ rest)) (accepted-frame n sets a) (omega (arith, a .high))
-    ∙ sets-read sets 128 n [] sets rest refl (a .most) (a .good) (a .high) (a .some) (omega (arith, a .most)))
+    (append-assoc (recordBytes (mark Frame) 1 n) (listBytes Survivor sets ++ recordBytes (mark End) 1 (length sets)) rest
+    ∙ ap (λ (r : List ℕ). recordBytes (mark Frame) 1 n ++ r) (append-assoc (listBytes Survivor sets) (recordBytes (mark End) 1 (length sets)) rest))
+    ∙ (frame-read n (listBytes Survivor sets ++ end) (accepted-frame n sets a) (omega (arith, a .high))
+    ∙ ap (λ (o : Outcome (ReadList (List ℕ))). andThen o (λ l. result (listedTable n l)))
+    (list-back (setList n) refl sets (length (listBytes Survivor sets ++ end)) [] sets rest
+    (omega (arith, length-append (listBytes Survivor sets) end, length-list Survivor sets, length-append (recordBytes (mark End) 1 (length sets)) rest, length-record (mark End) 1 (length sets)))
+    (sets-lead sets n [] sets refl (a .most) (a .good) (a .high)) refl (end-due (length sets) (a .some)) (omega (arith, a .most))))
+  where
+    end : List ℕ
+    end = recordBytes (mark End) 1 (length sets) ++ rest
 
 accepted-read : (n : ℕ) (sets rest : List ℕ) → Accepted n sets → accepted (record { n = n; sets = sets; rest = rest }) ≡ result (record { n = n; sets = normal sets; rest = rest })
 unfolding accepted
-accepted-read n sets rest a = ap (λ (o : Outcome (List ℕ)). andThen o (λ table. result (record { n = n; sets = table; rest = rest }))) (accepted-uncrowded n sets a)
+accepted-read n sets rest a = ap (λ (o : Outcome (List ℕ)). andThen o (λ table. result (record { n = n; sets = table; rest = rest }))) (accepted-within-limit n sets a)
 
 -- reading what the writer wrote, with anything behind it, gives the normal table and what stands behind
 pub read-written : (n : ℕ) (sets rest : List ℕ) → Accepted n sets
@@ -143,81 +111,62 @@ read-written n sets rest a =
 
 -- ---- what is read is a table
 
-record-read : (h : Head) (f : Kind → Outcome ReadTable) {t : ReadTable} → atRecord h f ≡ result t → (k : Kind) × (h ≡ Record k) × (f k ≡ result t)
-record-read (Refused r) f e = absurd (refused-no-result e)
-record-read (Record k) f e = (k, refl, e)
+-- what reading the sets gives: sets of the frame, at least one, and no more than 128
+record Sets (n : ℕ) (sets : List ℕ) : Type 0 where
+  good : (x : ℕ) → elem x sets ≡ true → isSet n x ≡ true
+  some : 1 ≤ length sets
+  few : length sets ≤ maxSets
 
--- after FR the end is not due
-end-listed : (listed s : List ℕ) (k : Kind) → headOf (dueAfter listed) s ≡ Record k → eqb (mark k) (mark End) ≡ true → 1 ≤ length listed
-unfolding dueAfter isDue isKind mark markText ascii fromBytes
-end-listed [] s k e h =
-    let wrong = subst (λ (j : Kind). isDue AtFirstSet j ≡ true) (kind-is End k h) (head-present AtFirstSet s k e .is-due) in
-    absurd (clash wrong refl)
-end-listed (x ∷ listed) s k e h = omega arith
-
--- what reading the sets gives: sets of the frame, at least one, and no more than those listed and the room
-record Sets (n most : ℕ) (t : ReadTable) : Type 0 where
-  same : t .n ≡ n
-  good : (x : ℕ) → elem x (t .sets) ≡ true → isSet n x ≡ true
-  some : 1 ≤ length (t .sets)
-  few : length (t .sets) ≤ most
-
-sets-ended : (n most : ℕ) (listed s : List ℕ) {t : ReadTable} → atEnd n listed s ≡ result t → ((x : ℕ) → elem x listed ≡ true → isSet n x ≡ true)
-    → 1 ≤ length listed → length listed ≤ most → Sets n most t
-unfolding atEnd
-sets-ended n most listed s e good some few =
-    let is = same-result (passed (not (eqb (fromBytes (take 1 (drop 2 s))) (length listed))) CountDiffers (result (record { n = n; sets = listed; rest = drop 3 s })) e .1) in
-    subst (Sets n most) is (record { same = refl; good = good; some = some; few = few })
-
-sets-good : (room n : ℕ) (listed s : List ℕ) (t : ReadTable) → readSets room n listed s ≡ result t → ((x : ℕ) → elem x listed ≡ true → isSet n x ≡ true)
-    → Sets n (length listed + room) t
-unfolding readSets
-sets-good zero n listed s t e good =
-    let w = record-read (headOf (dueAfter listed) s) _ e in
-    by-test (eqb (mark (w .0)) (mark End))
-    (λ h. sets-ended n (length listed + 0) listed s (sym (cond-true _ _ h) ∙ w .2) good (end-listed listed s (w .0) (w .1) h) (omega arith))
-    (λ h. absurd (refused-no-result (sym (cond-false _ _ h) ∙ w .2)))
-sets-good (suc room) n listed s t e good =
-    let w = record-read (headOf (dueAfter listed) s) _ e in
-    by-test (eqb (mark (w .0)) (mark End))
-    (λ h. sets-ended n (length listed + suc room) listed s (sym (cond-true _ _ h) ∙ w .2) good (end-listed listed s (w .0) (w .1) h) (omega arith))
-    (λ h. let p = passed (not (isSet n set)) BadSet _ (sym (cond-false _ _ h) ∙ w .2) in
-    subst (λ (k : ℕ). Sets n k t) count
-    (sets-good room n (listed ++ (set ∷ [])) (drop 10 s) t (p .1) (λ x m. ⊎-elim (λ i. good x i) (λ i. ap (isSet n) (elem-one x set i) ∙ not-false (isSet n set) (p .0)) (elem-append-cases x listed (set ∷ []) m))))
+sets-good : (n : ℕ) (s : List ℕ) {r : ReadList (List ℕ)} → readList (setList n) [] s ≡ result r → Sets n (r .list)
+unfolding readList takenSet
+sets-good n s {r} e =
+    let w = read-keeps (setList n) Good (λ listed b t g going p. kept listed b t g p) (length s) [] s ((λ x h. absurd (clash h (elem-none x))), omega arith) e in
+    record { good = w .1 .0; some = due-listed (length (r .list)) (⊎-elim (λ f. absurd (clash f refl)) (λ d. d) (w .2)); few = w .1 .1 }
   where
-    set : ℕ
-    set = fromBytes (take 8 (drop 2 s))
+    Good : List ℕ → List ℕ → Type 0
+    Good listed b = ((x : ℕ) → elem x listed ≡ true → isSet n x ≡ true) × (length listed ≤ maxSets)
 
-    count : length (listed ++ (set ∷ [])) + room ≡ length listed + suc room
-    count = omega (arith, length-append listed (set ∷ []))
+    kept : (listed b t : List ℕ) → Good listed b → takenSet n listed b ≡ result t → Good t (drop (widthOf (setList n)) b)
+    kept listed b t g p =
+        let few = passed (leb maxSets (length listed)) TooManySets _ p in
+        let good = passed (not (isSet n set)) BadSet (result (listed ++ (set ∷ []))) (few .1) in
+        subst (λ (l : List ℕ). Good l b) (same-result (good .1)) (
+          (λ x h. ⊎-elim (λ i. g .0 x i) (λ i. ap (isSet n) (elem-one x set i) ∙ not-false (isSet n set) (good .0)) (elem-append-cases x listed (set ∷ []) h)),
+          omega (arith, length-append listed (set ∷ []), leb-false maxSets (length listed) (few .0)),
+        )
+      where
+        set : ℕ
+        set = fieldAt 2 8 b
 
 pub table-read : (s : List ℕ) (t : ReadTable) → readTable s ≡ result t → (sets : List ℕ) × Accepted (t .n) sets × (t .sets ≡ normal sets)
-unfolding readTable readListed accepted uncrowded isFrame
+unfolding readTable readListed accepted withinCoreLimit isFrame
 table-read s t e =
     let w = first-result (readListed s) accepted e in
     let u = w .0 in
-    let v = first-result (uncrowded (u .sets)) (λ table. result (record { n = u .n; sets = table; rest = u .rest })) (w .2) in
-    let few = passed (ltb 1024 (length (cores (normal (u .sets))))) TooManyCores (result (normal (u .sets))) (v .1) in
-    let head = record-read (headOf AtFrame s) _ (w .1) in
-    let frame = passed (not (isFrame n)) FrameSize (readSets 128 n [] (drop 3 s)) (head .2) in
-    let sets = sets-good 128 n [] (drop 3 s) u (frame .1) (λ x h. absurd (clash h (elem-none x))) in
+    let v = first-result (withinCoreLimit (u .sets)) (λ table. result (record { n = u .n; sets = table; rest = u .rest })) (w .2) in
+    let few = passed (ltb maxCores (length (cores (normal (u .sets))))) TooManyCores (result (normal (u .sets))) (v .1) in
+    let head = record-there (headOf AtFrame s) _ (w .1) in
+    let frame = passed (not (isFrame n)) FrameSize (andThen (readList (setList n) [] (drop 3 s)) (λ l. result (listedTable n l))) (head .2) in
+    let list = first-result (readList (setList n) [] (drop 3 s)) (λ l. result (listedTable n l)) (frame .1) in
+    let of = same-result (list .2) in
+    let sets = subst (Sets n) (ap (λ (r : ReadTable). r .sets) of) (sets-good n (drop 3 s) (list .1)) in
     let is = same-result (v .2) in
     let good = not-false (isFrame n) (frame .0) in
     let whole : Accepted n (u .sets) = record {
-      low = leb-true 1 n (and-left (leb 1 n) (leb n 64) good);
-      high = leb-true n 64 (and-right (leb 1 n) (leb n 64) good);
+      low = leb-true 1 n (and-left (leb 1 n) (leb n maxDrives) good);
+      high = leb-true n maxDrives (and-right (leb 1 n) (leb n maxDrives) good);
       some = sets .some;
       most = sets .few;
       good = sets .good;
-      few-cores = ltb-false 1024 (length (cores (normal (u .sets)))) (few .0);
+      few-cores = ltb-false maxCores (length (cores (normal (u .sets)))) (few .0);
     } in (
       u .sets,
-      subst (λ (k : ℕ). Accepted k (u .sets)) (sym (sets .same) ∙ ap (λ (r : ReadTable). r .n) is) whole,
+      subst (λ (k : ℕ). Accepted k (u .sets)) (ap (λ (r : ReadTable). r .n) of ∙ ap (λ (r : ReadTable). r .n) is) whole,
       ap (λ (r : ReadTable). r .sets) (sym is) ∙ sym (same-result (few .1)),
     )
   where
     n : ℕ
-    n = fromBytes (take 1 (drop 2 s))
+    n = fieldAt 2 1 s
 
 -- a table that was read, written and read again is the same
 pub read-again : (s : List ℕ) (t : ReadTable) → readTable s ≡ result t → readTable (tableBytes (t .n) (t .sets) ++ t .rest) ≡ result t
@@ -230,7 +179,7 @@ read-again s t e =
 rest-kept : (u t : ReadTable) → accepted u ≡ result t → t .rest ≡ u .rest
 unfolding accepted
 rest-kept u t e =
-    let v = first-result (uncrowded (u .sets)) (λ table. result (record { n = u .n; sets = table; rest = u .rest })) e in
+    let v = first-result (withinCoreLimit (u .sets)) (λ table. result (record { n = u .n; sets = table; rest = u .rest })) e in
     ap (λ (r : ReadTable). r .rest) (sym (same-result (v .2)))
 
 empty-is : (l : List ℕ) → isEmpty l ≡ true → l ≡ []
@@ -252,5 +201,4 @@ pub table-whole : (s : List ℕ) (t : ReadTable) → readTable s ≡ result t �
 unfolding readWhole readTable isEmpty
 table-whole s t e none =
     let w = first-result (readListed s) accepted e in
-    ap (λ (o : Outcome ReadTable). andThen o (λ u. refuseIf (not (isEmpty (u .rest))) TrailingBytes (accepted u))) (w .1)
-    ∙ (cond-false _ _ (ap (λ (l : List ℕ). not (isEmpty l)) (sym (rest-kept (w .0) t (w .2)) ∙ none)) ∙ w .2)
+    rw (w .1, sym (rest-kept (w .0) t (w .2)) ∙ none) (w .2)

@@ -15,30 +15,31 @@ use Rattle.drive_sets.specs.Bools.{clash, and-intro, and-left, and-right, cond-
 use Rattle.drive_sets.specs.Lists.{all, elem, ordered}
 use Rattle.drive_sets.specs.Lists.Laws.{elem-some, all-elem, all-intro}
 use Rattle.drive_sets.specs.Lists.Places.{getD-elem}
-use Rattle.drive_sets.specs.Masks.{has, single, full, common, subset, meets}
+use Rattle.drive_sets.specs.Masks.{has, single, full, common, subset, meets, Below}
 use Rattle.drive_sets.specs.Masks.Laws.{full-lt, full-has, full-subset, has-some, has-bounds, has-meets}
 use Rattle.drive_sets.specs.Refusals.{result}
 use Rattle.drive_sets.specs.Refusals.Laws.{passed, same-result, first-result}
 use Rattle.hitting_sets.specs.Hitting.{hits, Minimal}
-use Rattle.hitting_sets.specs.Hitting.Laws.{Below, hits-meets, meets-hits, hits-same-elements, minimal-lt, minimal-same-hits}
-use Rattle.hitting_sets.specs.Hitting.Alone.{alone-all}
-use Rattle.hitting_sets.specs.Hitting.Minimality.{minimal-alone, hitting-contains}
-use Rattle.hitting_sets.specs.Duality.{back-of-minimals}
-use Rattle.hitting_sets.specs.Order.{byMask, bySize, normal}
-use Rattle.hitting_sets.specs.Order.Strict.{byMask-strict, bySize-strict}
-use Rattle.hitting_sets.specs.Order.Minimals.{listed-minimal, minimal-listed, listed-ordered, listed-unique, listed-same}
-use Rattle.hitting_sets.specs.Order.Normal.{normal-elem, ordered-normal, antichain-normal, normal-idempotent, hits-normal, normal-some, length-normal}
-use Rattle.tables.specs.Tables.{isFrame, isSet, isEmpty, cores, chosen, dual, uncrowded, normalTable, survivorSets, chosenCore}
+use Rattle.hitting_sets.specs.Hitting.Laws.{hits-meets, meets-hits, hits-same-elements, minimal-lt, minimal-same-hits}
+use Rattle.hitting_sets.specs.Hitting.Critical.{critical-all}
+use Rattle.hitting_sets.specs.Hitting.Minimality.{minimal-critical, hitting-contains}
+use Rattle.hitting_sets.specs.Hitting.Duality.{back-of-minimals}
+use Rattle.set_orders.specs.Order.{byMask, bySize, normal}
+use Rattle.set_orders.specs.Order.Strict.{byMask-strict, bySize-strict}
+use Rattle.hitting_sets.specs.Hitting.Listed.{listed-minimal, minimal-listed, listed-ordered, listed-unique, listed-same}
+use Rattle.set_orders.specs.Order.Normal.{normal-elem, ordered-normal, antichain-normal, normal-idempotent, normal-some, length-normal}
+use Rattle.hitting_sets.specs.Hitting.Normal.{hits-normal}
+use Rattle.tables.specs.Tables.{maxDrives, maxSets, maxCores, isFrame, isSet, isEmpty, cores, chosen, dual, withinCoreLimit, normalTable, survivorSets, chosenCore}
 
 -- ---- what it is for n and sets to meet no refusal
 
 pub record Accepted (n : ℕ) (sets : List ℕ) : Type 0 where
   pub low : 1 ≤ n
-  pub high : n ≤ 64
+  pub high : n ≤ maxDrives
   pub some : 1 ≤ length sets
-  pub most : length sets ≤ 128
+  pub most : length sets ≤ maxSets
   pub good : (s : ℕ) → elem s sets ≡ true → isSet n s ≡ true
-  pub few-cores : length (cores (normal sets)) ≤ 1024
+  pub few-cores : length (cores (normal sets)) ≤ maxCores
 
 not-empty : (l : List ℕ) → isEmpty l ≡ false → 1 ≤ length l
 unfolding isEmpty
@@ -51,39 +52,36 @@ some-not-empty [] h = absurd (omega arith)
 some-not-empty (x ∷ l) h = refl
 
 pub table-accepted : (n : ℕ) (sets table : List ℕ) → normalTable n sets ≡ result table → Accepted n sets × (table ≡ normal sets)
-unfolding normalTable uncrowded isFrame
+unfolding normalTable withinCoreLimit isFrame
 table-accepted n sets table e =
     let frame = passed (not (isFrame n)) FrameSize _ e in
     let some = passed (isEmpty sets) WrongMark _ (frame .1) in
-    let most = passed (ltb 128 (length sets)) TooManySets _ (some .1) in
+    let most = passed (ltb maxSets (length sets)) TooManySets _ (some .1) in
     let good = passed (not (all (isSet n) sets)) BadSet _ (most .1) in
-    let few = passed (ltb 1024 (length (cores (normal sets)))) TooManyCores _ (good .1) in (
+    let few = passed (ltb maxCores (length (cores (normal sets)))) TooManyCores _ (good .1) in (
       record {
-        low = leb-true 1 n (and-left (leb 1 n) (leb n 64) (not-false (isFrame n) (frame .0)));
-        high = leb-true n 64 (and-right (leb 1 n) (leb n 64) (not-false (isFrame n) (frame .0)));
+        low = leb-true 1 n (and-left (leb 1 n) (leb n maxDrives) (not-false (isFrame n) (frame .0)));
+        high = leb-true n maxDrives (and-right (leb 1 n) (leb n maxDrives) (not-false (isFrame n) (frame .0)));
         some = not-empty sets (some .0);
-        most = ltb-false 128 (length sets) (most .0);
+        most = ltb-false maxSets (length sets) (most .0);
         good = λ s h. all-elem (isSet n) sets s (not-false (all (isSet n) sets) (good .0)) h;
-        few-cores = ltb-false 1024 (length (cores (normal sets))) (few .0);
+        few-cores = ltb-false maxCores (length (cores (normal sets))) (few .0);
       },
       sym (same-result (few .1)),
     )
 
-pub accepted-uncrowded : (n : ℕ) (sets : List ℕ) → Accepted n sets → uncrowded sets ≡ result (normal sets)
-unfolding uncrowded
-accepted-uncrowded n sets a = cond-false _ _ (le-ltb 1024 (length (cores (normal sets))) (a .few-cores))
+pub accepted-within-limit : (n : ℕ) (sets : List ℕ) → Accepted n sets → withinCoreLimit sets ≡ result (normal sets)
+unfolding withinCoreLimit
+accepted-within-limit n sets a = cond-false _ _ (le-ltb maxCores (length (cores (normal sets))) (a .few-cores))
 
 pub accepted-frame : (n : ℕ) (sets : List ℕ) → Accepted n sets → isFrame n ≡ true
 unfolding isFrame
-accepted-frame n sets a = and-intro (le-leb 1 n (a .low)) (le-leb n 64 (a .high))
+accepted-frame n sets a = and-intro (le-leb 1 n (a .low)) (le-leb n maxDrives (a .high))
 
 pub accepted-table : (n : ℕ) (sets : List ℕ) → Accepted n sets → normalTable n sets ≡ result (normal sets)
 unfolding normalTable
 accepted-table n sets a =
-    cond-false _ _ (ap not (accepted-frame n sets a))
-    ∙ (cond-false _ _ (some-not-empty sets (a .some))
-    ∙ (cond-false _ _ (le-ltb 128 (length sets) (a .most))
-    ∙ (cond-false _ _ (ap not (all-intro (isSet n) sets (a .good))) ∙ accepted-uncrowded n sets a)))
+    rw (accepted-frame n sets a, some-not-empty sets (a .some), le-ltb maxSets (length sets) (a .most), all-intro (isSet n) sets (a .good)) (accepted-within-limit n sets a)
 
 -- a chosen core that is given is that of an accepted table
 pub core-given : (n : ℕ) (sets : List ℕ) {core : ℕ} → chosenCore n sets ≡ result core → Accepted n sets × (chosen (normal sets) ≡ core)
@@ -118,7 +116,7 @@ module _ (n : ℕ) (sets : List ℕ) (a : Accepted n sets) where
     some = normal-some sets sets-word (a .some);
     most = omega (arith, length-normal sets, a .most);
     good = λ s h. a .good s (normal-elem s sets h);
-    few-cores = subst (λ (l : List ℕ). length (cores l) ≤ 1024) (sym (normal-idempotent sets)) (a .few-cores);
+    few-cores = subst (λ (l : List ℕ). length (cores l) ≤ maxCores) (sym (normal-idempotent sets)) (a .few-cores);
   }
 
 -- ---- the list of cores
@@ -183,10 +181,10 @@ unfolding survivorSets isFrame
 survivor-sets-dual n groups sets e =
     let frame = passed (not (isFrame n)) FrameSize _ e in
     let some = passed (isEmpty groups) TooManyCores _ (frame .1) in
-    let few = passed (ltb 1024 (length groups)) TooManyCores _ (some .1) in
+    let few = passed (ltb maxCores (length groups)) TooManyCores _ (some .1) in
     let good = passed (not (all (isSet n) groups)) BadSet _ (few .1) in
-    let found = passed (ltb 128 (length (dual groups))) TooManySets _ (good .1) in
-    let high = leb-true n 64 (and-right (leb 1 n) (leb n 64) (not-false (isFrame n) (frame .0))) in (
+    let found = passed (ltb maxSets (length (dual groups))) TooManySets _ (good .1) in
+    let high = leb-true n maxDrives (and-right (leb 1 n) (leb n maxDrives) (not-false (isFrame n) (frame .0))) in (
       (λ s h. lt-of-lt-of-le (set-lt n s (all-elem (isSet n) groups s (not-false (all (isSet n) groups) (good .0)) h)) (pow-mono {i = n} {j = 64} high)),
       sym (same-result (found .1)),
     )
@@ -224,7 +222,7 @@ unfolding chosen
 chosen-core n sets a = record {
   within = lt;
   meets-all = λ s h. hits-meets sets core s (minimal .all-met) h;
-  alone = λ d h. alone-all sets core word (minimal-alone sets core word minimal) d h;
+  alone = λ d h. critical-all sets core word (minimal-critical sets core word minimal) d h;
 }
   where
     core : ℕ

@@ -3,8 +3,9 @@ use borrow.Author.Needs.{needs}
 use lib.ListN.{length}
 use native.Mathlib.Omega.{arith}
 use mathlib.Core.Path.{_∙_}
+use Rattle.drive_sets.specs.Loops.Scan.{scan-from}
 use Rattle.drive_sets.specs.Masks.{common}
-use Rattle.verdicts.proofs.Loops.{Searching, search-start, pair-is, found-more, found-later, found-end}
+use Rattle.verdicts.proofs.Loops.{Searching, pair-is, found-more, found-later, found-end}
 use Prim.Native.Nat.{ℕ, _-_, _<_}
 use borrow.Fn.Kinds.{In}
 use borrow.Fn.PlainCycle.{Measures, is, falls, and}
@@ -42,83 +43,25 @@ K t = (
   nothing-reads.Learnt,
 )
 
-disjoint-first-pair-requires : (t : ℕ) → disjoint-lts.Need-first-pair-requires (K t) (disjoint-at t) disjoint.Post disjoint-Inv-loop disjoint-μ-loop
-disjoint-first-pair-requires t c κs = search needs
-
 disjoint-returns : (t : ℕ) → disjoint-lts.Need-returns (K t) (disjoint-at t) disjoint.Post disjoint-Inv-loop disjoint-μ-loop
 disjoint-returns t c = let a = c .before .before .before .args in pair-is (a .table .now) (a .k) (a .from) (a .shared) _ (c .before .if1 .taken) (c .first-pair .ensures)
 
 disjoint-loop-holds : (t : ℕ) → disjoint-lts.Need-loop-holds (K t) (disjoint-at t) disjoint.Post disjoint-Inv-loop disjoint-μ-loop
-disjoint-loop-holds t c = search-start _ _ _ _ (c .before .before .pre .1 .1)
-
-disjoint-sub-disjoint : (t : ℕ) → disjoint-lts.Need-sub-disjoint (K t) (disjoint-at t) disjoint.Post disjoint-Inv-loop disjoint-μ-loop
-disjoint-sub-disjoint t c = search needs
-
-disjoint-mul-disjoint : (t : ℕ) → disjoint-lts.Need-mul-disjoint (K t) (disjoint-at t) disjoint.Post disjoint-Inv-loop disjoint-μ-loop
-disjoint-mul-disjoint t c = search needs
-
-disjoint-shared-slice-read-disjoint : (t : ℕ) → disjoint-lts.Need-shared-slice-read-disjoint (K t) (disjoint-at t) disjoint.Post disjoint-Inv-loop disjoint-μ-loop
-disjoint-shared-slice-read-disjoint t c = search needs
-
-disjoint-disjoint-requires : (t : ℕ) → disjoint-lts.Need-disjoint-requires (K t) (disjoint-at t) disjoint.Post disjoint-Inv-loop disjoint-μ-loop
-disjoint-disjoint-requires t c κs = search needs
-
-disjoint-add-t15 : (t : ℕ) → disjoint-lts.Need-add-t15 (K t) (disjoint-at t) disjoint.Post disjoint-Inv-loop disjoint-μ-loop
-disjoint-add-t15 t c = search needs
-
-disjoint-cast-t16 : (t : ℕ) → disjoint-lts.Need-cast-t16 (K t) (disjoint-at t) disjoint.Post disjoint-Inv-loop disjoint-μ-loop
-disjoint-cast-t16 t c = search needs
-
-disjoint-array-read-t19 : (t : ℕ) → disjoint-lts.Need-array-read-t19 (K t) (disjoint-at t) disjoint.Post disjoint-Inv-loop disjoint-μ-loop
-disjoint-array-read-t19 t c = search needs
-
-disjoint-array-read-t22 : (t : ℕ) → disjoint-lts.Need-array-read-t22 (K t) (disjoint-at t) disjoint.Post disjoint-Inv-loop disjoint-μ-loop
-disjoint-array-read-t22 t c = search needs
-
-disjoint-array-read-t25 : (t : ℕ) → disjoint-lts.Need-array-read-t25 (K t) (disjoint-at t) disjoint.Post disjoint-Inv-loop disjoint-μ-loop
-disjoint-array-read-t25 t c = search needs
+disjoint-loop-holds t c = scan-from _ _ _ (c .before .before .pre .1 .1)
 
 disjoint-returns-2 : (t : ℕ) → disjoint-lts.Need-returns-2 (K t) (disjoint-at t) disjoint.Post disjoint-Inv-loop disjoint-μ-loop
 unfolding common
 disjoint-returns-2 t c = let a = c .before .before .before .before .before .before .before .before .args in found-more (a .k) (a .k - 1) (a .table .now) (a .from) (a .shared) (c .before .before .before .before .before .loop .i) (omega arith) (c .before .before .before .before .before .loop .inv) (c .before .before .disjoint .result) (c .before .before .before .before .loop-test .taken) (c .before .before .disjoint .ensures) (c .before .if2 .taken)
 
-disjoint-add-i : (t : ℕ) → disjoint-lts.Need-add-i (K t) (disjoint-at t) disjoint.Post disjoint-Inv-loop disjoint-μ-loop
-disjoint-add-i t c = search needs
-
-disjoint-loop-less : (t : ℕ) → disjoint-lts.Need-loop-less (K t) (disjoint-at t) disjoint.Post disjoint-Inv-loop disjoint-μ-loop
-disjoint-loop-less t c = search needs
-
 disjoint-loop-again : (t : ℕ) → disjoint-lts.Need-loop-again (K t) (disjoint-at t) disjoint.Post disjoint-Inv-loop disjoint-μ-loop
 unfolding common
 disjoint-loop-again t c = let a = c .before .before .before .before .before .before .before .args in found-later (a .k) (a .k - 1) (a .table .now) (a .from) (a .shared) (c .before .before .before .before .loop .i) (omega arith) (c .before .before .before .before .loop .inv) (c .before .disjoint .result) (c .before .before .before .loop-test .taken) (c .before .disjoint .ensures) (c .if2 .left)
-
-disjoint-nothing-requires : (t : ℕ) → disjoint-lts.Need-nothing-requires (K t) (disjoint-at t) disjoint.Post disjoint-Inv-loop disjoint-μ-loop
-disjoint-nothing-requires t c κs = search needs
 
 disjoint-returns-3 : (t : ℕ) → disjoint-lts.Need-returns-3 (K t) (disjoint-at t) disjoint.Post disjoint-Inv-loop disjoint-μ-loop
 disjoint-returns-3 t c = let a = c .before .before .before .before .before .args in c .nothing .ensures ∙ found-end (a .k) (a .k - 1) (a .table .now) (a .from) (a .shared) (c .before .before .loop .i) (omega arith) (c .before .before .loop .inv) (c .before .loop-test .left)
 
 pub +disjoint-spec : {M : Type 1} → statement M
-+disjoint-spec = close μ-disjoint λ t. disjoint-lts.spec (K t)
-    (disjoint-at t)
-    disjoint.Post
-    disjoint-Inv-loop
-    disjoint-μ-loop
-    (disjoint-first-pair-requires t)
-    (disjoint-returns t)
-    (disjoint-loop-holds t)
-    (disjoint-sub-disjoint t)
-    (disjoint-mul-disjoint t)
-    (disjoint-shared-slice-read-disjoint t)
-    (disjoint-disjoint-requires t)
-    (disjoint-add-t15 t)
-    (disjoint-cast-t16 t)
-    (disjoint-array-read-t19 t)
-    (disjoint-array-read-t22 t)
-    (disjoint-array-read-t25 t)
-    (disjoint-returns-2 t)
-    (disjoint-add-i t)
-    (disjoint-loop-less t)
-    (disjoint-loop-again t)
-    (disjoint-nothing-requires t)
-    (disjoint-returns-3 t)
++disjoint-spec = close μ-disjoint λ t. disjoint-lts.spec (K t) (disjoint-at t) disjoint.Post disjoint-Inv-loop disjoint-μ-loop
+    (λ c κs. search needs) (disjoint-returns t) (disjoint-loop-holds t) (λ c. search needs) (λ c. search needs) (λ c. search needs)
+    (λ c κs. search needs) (λ c. search needs) (λ c. search needs) (λ c. search needs) (λ c. search needs) (λ c. search needs) (disjoint-returns-2 t)
+    (λ c. search needs) (λ c. search needs) (disjoint-loop-again t) (λ c κs. search needs) (disjoint-returns-3 t)

@@ -2,8 +2,9 @@
 use borrow.Author.Needs.{needs}
 use Prim.Native.Nat.{_-_}
 use lib.ListN.{length}
+use Rattle.drive_sets.specs.Loops.Scan.{scan-from}
 use Rattle.drive_sets.specs.Masks.{common}
-use Rattle.verdicts.proofs.Loops.{Searching, search-start, apart-found, apart-turn, apart-end}
+use Rattle.verdicts.proofs.Loops.{Searching, apart-found, apart-turn, apart-end}
 use Rattle.verdicts.proofs.first_apart.Statement.{statement}
 use Rattle.verdicts.proofs.first_apart.Tie as tie
 
@@ -14,7 +15,7 @@ abbrev μ-loop : tie.MeasureT-loop
 μ-loop table from shared i₀ i = length table - i
 
 loop-holds : tie.Need-loop-holds Inv-loop μ-loop
-loop-holds c = search-start 1 _ _ _ (c .pre)
+loop-holds c = scan-from _ _ _ (c .pre)
 
 returns : tie.Need-returns Inv-loop μ-loop
 unfolding common

@@ -3,8 +3,9 @@ use borrow.Author.Needs.{needs}
 use Prim.Native.Nat.{_-_}
 use lib.ListN.{length}
 use mathlib.Core.Path.{_∙_}
+use Rattle.drive_sets.specs.Loops.Scan.{scan-from}
 use Rattle.drive_sets.specs.Masks.{common}
-use Rattle.verdicts.proofs.Loops.{Searching, search-start, pair-found, pair-later, pair-end}
+use Rattle.verdicts.proofs.Loops.{Searching, pair-found, pair-later, pair-end}
 use Rattle.verdicts.proofs.first_pair.Statement.{statement}
 use Rattle.verdicts.proofs.first_pair.Tie as tie
 
@@ -15,15 +16,15 @@ abbrev μ-loop : tie.MeasureT-loop
 μ-loop table from shared i₀ i = length table - i
 
 loop-holds : tie.Need-loop-holds Inv-loop μ-loop
-loop-holds c = search-start _ _ _ _ (c .before .pre .0)
+loop-holds c = scan-from _ _ _ (c .before .pre .0)
 
 returns : tie.Need-returns Inv-loop μ-loop
 unfolding common
-returns c = pair-found _ _ _ _ _ (c .before .before .before .before .loop .inv) (c .before .before .before .loop-test .taken) (c .before .first-apart .ensures .1) (c .if1 .taken)
+returns c = pair-found _ _ _ _ (c .before .before .before .before .loop .inv) _ (c .before .before .before .loop-test .taken) (c .before .first-apart .ensures .1) (c .if1 .taken)
 
 loop-again : tie.Need-loop-again Inv-loop μ-loop
 unfolding common
-loop-again c = pair-later _ _ _ _ _ (c .before .before .before .before .loop .inv) (c .before .before .before .loop-test .taken) (c .before .first-apart .ensures .1) (c .if1 .left)
+loop-again c = pair-later _ _ _ _ (c .before .before .before .before .loop .inv) _ (c .before .before .before .loop-test .taken) (c .before .first-apart .ensures .1) (c .if1 .left)
 
 returns-2 : tie.Need-returns-2 Inv-loop μ-loop
 returns-2 c = c .nothing .ensures ∙ pair-end _ _ _ _ (c .before .before .loop .inv) (c .before .loop-test .left)

@@ -1,30 +1,31 @@
 -- The drives that every set has: the sets seen, then those to come.
 use borrow.Author.Needs.{needs}
+use mathlib.Core.Path.{refl}
 use Prim.Native.Nat.{_-_}
 use lib.ListN.{length}
 use Rattle.drive_sets.specs.Masks.{common}
-use Rattle.verdicts.proofs.Narrowing.{Narrowing, narrowing-start, narrowing-turn, narrowing-end}
+use Rattle.drive_sets.specs.Loops.Scan.{Scan, scan-start, scan-turn, scan-end}
+use Rattle.verdicts.specs.Meaning.{inEvery}
 use Rattle.verdicts.proofs.in_every.Statement.{statement}
 use Rattle.verdicts.proofs.in_every.Tie as tie
 
 abbrev Inv-loop : tie.InvT-loop
-Inv-loop table shared common₀ i₀ common i = Narrowing table shared common i
+Inv-loop table shared common₀ i₀ common i = Scan (inEvery shared table) (inEvery common) table i
 
 abbrev μ-loop : tie.MeasureT-loop
 μ-loop table shared common₀ i₀ common i = length table - i
 
 loop-holds : tie.Need-loop-holds Inv-loop μ-loop
-loop-holds c = narrowing-start _ _
+loop-holds c = scan-start _ _
 
 loop-again : tie.Need-loop-again Inv-loop μ-loop
-unfolding common
-loop-again c = narrowing-turn _ _ _ _ (c .before .before .loop .inv) (c .before .loop-test .taken)
+unfolding common inEvery
+loop-again c = scan-turn (c .before .before .loop .inv) (c .before .loop-test .taken) _ refl
 
 returns : tie.Need-returns Inv-loop μ-loop
-returns c = narrowing-end _ _ _ _ (c .before .loop .inv) (c .loop-test .left)
+unfolding inEvery
+returns c = scan-end (c .before .loop .inv) (c .loop-test .left)
 
 pub in-every-spec : {M : Type 1} → statement M
 in-every-spec =
-    tie.close
-    (tie.spec
-    Inv-loop μ-loop loop-holds (λ c. search needs) (λ c. search needs) (λ c. search needs) (λ c. search needs) loop-again returns)
+    tie.close (tie.spec Inv-loop μ-loop loop-holds (λ c. search needs) (λ c. search needs) (λ c. search needs) (λ c. search needs) loop-again returns)

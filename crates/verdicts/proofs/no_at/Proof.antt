@@ -6,21 +6,22 @@ use mathlib.Core.List.{List}
 use mathlib.Core.Path.{sym, ap, _∙_}
 use lib.ListN.{take}
 use native.Mathlib.Omega.{arith}
+use Rattle.drive_sets.specs.Loops.Filling.{filling-start}
 use Rattle.drive_sets.specs.Masks.{union, outside}
 use Rattle.verdicts.specs.Held.{withBlocks}
 use Rattle.verdicts.specs.Verdicts.{setsAt}
-use Rattle.verdicts.proofs.Splitting.{Splitting, splitting-start, splitting-turn, splitting-end, count-named, is-named, position-within}
+use Rattle.verdicts.proofs.Splitting.{Splitting, splitting-turn, splitting-end, count-named, is-named, position-within}
 use Rattle.verdicts.proofs.no_at.Statement.{statement}
 use Rattle.verdicts.proofs.no_at.Tie as tie
 
 abbrev Inv-loop : tie.InvT-loop
-Inv-loop k n table positions blocks₀ taken₀ i₀ blocks taken i = Splitting n k (setsAt table (take k positions)) blocks taken i
+Inv-loop k n table positions blocks₀ taken₀ i₀ blocks taken i = Splitting n (setsAt table (take k positions)) blocks taken i
 
 abbrev μ-loop : tie.MeasureT-loop
 μ-loop k n table positions blocks₀ taken₀ i₀ blocks taken i = k - i
 
 loop-holds : tie.Need-loop-holds Inv-loop μ-loop
-loop-holds c = splitting-start _ _ _
+loop-holds c = filling-start _ _
 
 sub-place : tie.Need-sub-place Inv-loop μ-loop
 sub-place c = let a = c .before .before .before .args in position-within (a .table .now) (a .t4) (a .k) (omega arith) (c .before .loop .i) (c .loop-test .taken) (c .before .before .before .pre .2) .0
@@ -37,7 +38,9 @@ loop-again c =
     let a = c .before .before .before .before .before .args in
     let l = c .before .before .before .loop in
     let h = c .before .before .loop-test .taken in
-    splitting-turn _ _ (setsAt (a .table .now) (take (a .k) (a .t4))) _ _ _ (count-named (a .table .now) (a .t4) (a .k) (omega arith)) (l .inv) (c .before .before .before .before .before .pre .0) h _
+    let named = setsAt (a .table .now) (take (a .k) (a .t4)) in
+    let count = count-named (a .table .now) (a .t4) (a .k) (omega arith) in
+    splitting-turn _ named _ _ _ (omega arith) (l .inv) (omega arith) _
     (c .outside .ensures ∙ ap (λ (s : ℕ). outside (a .n) (union s (l .taken))) (sym (is-named (a .table .now) (a .t4) (a .k) (omega arith) (l .i) h)))
 
 returns : tie.Need-returns Inv-loop μ-loop
@@ -45,7 +48,8 @@ unfolding withBlocks
 returns c =
     let a = c .before .before .before .args in
     ap (λ (l : List ℕ). record { shared = false; positions = a .t4; blocks = l })
-    (splitting-end _ _ _ _ _ _ (count-named (a .table .now) (a .t4) (a .k) (omega arith)) (c .before .loop .inv) (c .before .before .before .pre .0) (c .loop-test .left))
+    (let count = count-named (a .table .now) (a .t4) (a .k) (omega arith) in
+    splitting-end _ (setsAt (a .table .now) (take (a .k) (a .t4))) _ _ _ (omega arith) (c .before .loop .inv) (omega arith))
 
 pub no-at-spec : {M : Type 1} → statement M
 no-at-spec =

@@ -1,7 +1,7 @@
 -- The blocks that come with a no: each holds the drives outside the named set at its place and in no earlier block. So no drive is in
 -- two of them; and where the named sets share no drive, each drive of the frame is in some.
 use mathlib.Core.Path.{_≡_, refl, sym, ap, _∙_, subst}
-use mathlib.Core.Bool.{Bool, true, false, not, _&&_, _||_}
+use mathlib.Core.Bool.{Bool, true, false, not, _&&_, _||_, or-assoc, or-false}
 use mathlib.Core.List.{List, [], _∷_}
 use Prim.Native.Nat.{ℕ, zero, suc, _^_, _≤_, _<_}
 use native.Mathlib.Omega.{arith}
@@ -34,12 +34,7 @@ blocks-lt n taken (s ∷ named) (suc i) h = blocks-lt n (union taken (outside n 
 
 first-block : (a t : Bool) → not (a || t) ≡ (not a && not (t || false))
 first-block true t = refl
-first-block false true = refl
-first-block false false = refl
-
-or-regroup : (a b c : Bool) → ((a || b) || c) ≡ (a || (b || c))
-or-regroup true b c = refl
-or-regroup false b c = refl
+first-block false t = ap not (sym (or-false t))
 
 -- where the drives of `taken` are in earlier blocks
 rule-from : (n d : ℕ) (named : List ℕ) (taken i : ℕ) → i < length named
@@ -53,7 +48,7 @@ rule-from n d (s ∷ named) taken zero h =
 rule-from n d (s ∷ named) taken (suc i) h =
     rule-from n d named (union taken block) i (omega arith)
     ∙ ap (λ (b : Bool). has d (full n) && (not (has d (getD named i 0)) && not b))
-    (ap (λ (b : Bool). b || earlier) (has-union d taken block) ∙ or-regroup (has d taken) (has d block) earlier)
+    (ap (λ (b : Bool). b || earlier) (has-union d taken block) ∙ or-assoc (has d taken) (has d block) earlier)
   where
     block : ℕ
     block = outside n (union s taken)

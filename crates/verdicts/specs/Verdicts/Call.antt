@@ -10,7 +10,7 @@ use Rattle.drive_sets.specs.declared.Refusal.the-variants.{BlockCount}
 use Rattle.drive_sets.specs.Bools.{and-left, and-right}
 use Rattle.drive_sets.specs.Refusals.{result}
 use Rattle.drive_sets.specs.Refusals.Laws.{passed, first-result, same-result}
-use Rattle.hitting_sets.specs.Order.{normal}
+use Rattle.set_orders.specs.Order.{normal}
 use Rattle.tables.specs.Tables.{normalTable}
 use Rattle.tables.specs.Tables.Laws.{Accepted, table-accepted, accepted-normal}
 use Rattle.verdicts.specs.Verdicts.{Verdict, verdictOn, verdict}

@@ -1,6 +1,6 @@
 -- The common part of a list of sets: a drive is in it exactly if it is in each of them, so it is empty where they share none.
-use mathlib.Core.Path.{_≡_, refl, sym, ap, _∙_}
-use mathlib.Core.Bool.{Bool, true, false, _&&_}
+use mathlib.Core.Path.{_≡_, sym, ap, _∙_}
+use mathlib.Core.Bool.{Bool, true, _&&_, and-true, and-assoc}
 use mathlib.Core.List.{List, [], _∷_}
 use Prim.Native.Nat.{ℕ, _^_, _<_}
 use Rattle.drive_sets.specs.Bools.{and-left, and-right}
@@ -15,20 +15,12 @@ unfolding inEvery
 every-lt b m [] h = h
 every-lt b m (s ∷ sets) h = every-lt b (common m s) sets (common-lt b m s h)
 
-and-none : (a : Bool) → a ≡ (a && true)
-and-none true = refl
-and-none false = refl
-
-and-regroup : (a b c : Bool) → ((a && b) && c) ≡ (a && (b && c))
-and-regroup true b c = refl
-and-regroup false b c = refl
-
 pub has-every : (d m : ℕ) (sets : List ℕ) → has d (inEvery m sets) ≡ (has d m && all (has d) sets)
 unfolding inEvery all
-has-every d m [] = and-none (has d m)
+has-every d m [] = sym (and-true (has d m))
 has-every d m (s ∷ sets) =
     has-every d (common m s) sets
-    ∙ (ap (λ (b : Bool). b && all (has d) sets) (has-common d m s) ∙ and-regroup (has d m) (has d s) (all (has d) sets))
+    ∙ (ap (λ (b : Bool). b && all (has d) sets) (has-common d m s) ∙ and-assoc (has d m) (has d s) (all (has d) sets))
 
 pub in-every : (d m : ℕ) (sets : List ℕ) → has d (inEvery m sets) ≡ true → (has d m ≡ true) × ((s : ℕ) → elem s sets ≡ true → has d s ≡ true)
 in-every d m sets h =

@@ -15,7 +15,7 @@ use Rattle.drive_sets.specs.Masks.Laws.{has-bounds, full-has, full-lt, full-wor
 use Rattle.tables.specs.Tables.Laws.{Accepted}
 use Rattle.verdicts.specs.Verdicts.{Verdict, yes, no, setAt, setsAt, disjoint, blocksOf, verdictWith, verdictOn}
 use Rattle.verdicts.specs.Verdicts.Search.{Shared, disjoint-none}
-use Rattle.verdicts.specs.Verdicts.Found.{Names, disjoint-first}
+use Rattle.verdicts.specs.Verdicts.Firsts.{Names, disjoint-first}
 use Rattle.verdicts.specs.Meaning.{SharedDrive, AllFrom, Intersection, Positions, NoneShared, FirstNoneShared}
 
 -- ---- the verdict by what the search finds

@@ -12,8 +12,8 @@ use Rattle.drive_sets.specs.Lists.Places.{getD-elem, elem-getD}
 use Rattle.drive_sets.specs.Masks.{has, full, outside, subset}
 use Rattle.drive_sets.specs.Masks.Laws.{not-meets}
 use Rattle.drive_sets.specs.Masks.Outside.{subset-outside}
-use Rattle.hitting_sets.specs.Duality.{Cores, cores-minimals, holds-core-or-complement}
-use Rattle.hitting_sets.specs.Order.{bySize}
+use Rattle.hitting_sets.specs.Hitting.Duality.{Cores, cores-minimals, holds-core-or-complement}
+use Rattle.set_orders.specs.Order.{bySize}
 use Rattle.tables.specs.Tables.{cores}
 use Rattle.tables.specs.Tables.Laws.{Accepted, sets-below}
 use Rattle.verdicts.specs.Verdicts.{no, setAt, setsAt, blocksOf, verdictOn}

@@ -5,9 +5,6 @@ use borrow.Author.Needs.{needs}
 use Rattle.exchange.proofs.closing.close.Statement.{statement}
 use Rattle.exchange.proofs.closing.close.Tie as tie
 
-is-broken-requires : tie.Need-is-broken-requires
-is-broken-requires c κs = search needs
-
 returns : tie.Need-returns
 returns c = let x = c .before .before .args .x in reply-refused x _ _ (close-broken x _ (c .before .is-broken .ensures) (c .if1 .taken))
 
@@ -21,4 +18,4 @@ returns-3 : tie.Need-returns-3
 returns-3 c = let x = c .before .before .before .before .args .x in reply-result x _ _ _ (close-next x _ (c .before .before .before .is-broken .ensures) (c .before .before .if1 .left) (c .before .if2 .left)) (c .next .ensures)
 
 pub close-spec : {M : Type 1} → statement M
-close-spec = tie.close (tie.spec is-broken-requires returns returns-2 next-requires returns-3)
+close-spec = tie.close (tie.spec (λ c κs. search needs) returns returns-2 next-requires returns-3)

@@ -15,6 +15,4 @@ returns-3 c = halts-last (c .before .before .before .before .before .before .bef
 
 pub halts-spec : {M : Type 1} → statement M
 halts-spec =
-    tie.close
-    (tie.spec
-    (λ c κs. search needs) returns (λ c κs. search needs) returns-2 (λ c κs. search needs) (λ c. search needs) returns-3)
+    tie.close (tie.spec (λ c κs. search needs) returns (λ c κs. search needs) returns-2 (λ c κs. search needs) (λ c. search needs) returns-3)

@@ -16,6 +16,4 @@ unfolding heardAtClose inCore
 returns-2 c = sym (cond-false _ _ (sym (c .before .has .ensures) ∙ c .if1 .left))
 
 pub heard-at-close-spec : {M : Type 1} → statement M
-heard-at-close-spec = tie.close
-    (tie.spec
-    (λ c κs. search needs) (λ c κs. search needs) returns returns-2)
+heard-at-close-spec = tie.close (tie.spec (λ c κs. search needs) (λ c κs. search needs) returns returns-2)

@@ -14,6 +14,4 @@ unfolding isDecided
 returns-2 c = sym (ap isDecided (c .enum-told2 .given .1))
 
 pub is-decided-spec : {M : Type 1} → statement M
-is-decided-spec = tie.close
-    (tie.spec
-    (λ c. search needs) (λ c. search needs) returns returns-2)
+is-decided-spec = tie.close (tie.spec (λ c. search needs) (λ c. search needs) returns returns-2)

@@ -15,6 +15,4 @@ returns-2 c = listener (c .before .before .before .before .before .args .x) _ (c
 
 pub listener-decides-spec : {M : Type 1} → statement M
 listener-decides-spec =
-    tie.close
-    (tie.spec
-    (λ c κs. search needs) returns (λ c κs. search needs) (λ c κs. search needs) returns-2)
+    tie.close (tie.spec (λ c κs. search needs) returns (λ c κs. search needs) (λ c κs. search needs) returns-2)

@@ -8,11 +8,8 @@ use Rattle.exchange.proofs.closing.next_round.Tie as tie
 returns : tie.Need-returns
 returns c = sym (cond-true _ _ (c .if1 .taken))
 
-add-t4 : tie.Need-add-t4
-add-t4 c = search needs
-
 returns-2 : tie.Need-returns-2
 returns-2 c = sym (cond-false _ _ (c .before .if1 .left))
 
 pub next-round-spec : {M : Type 1} → statement M
-next-round-spec = tie.close (tie.spec returns add-t4 returns-2)
+next-round-spec = tie.close (tie.spec returns (λ c. search needs) returns-2)

@@ -5,12 +5,9 @@ use borrow.Author.Needs.{needs}
 use Rattle.exchange.proofs.opening.not_opened.Statement.{statement}
 use Rattle.exchange.proofs.opening.not_opened.Tie as tie
 
-initial-requires : tie.Need-initial-requires
-initial-requires c κs = search needs
-
 returns : tie.Need-returns
 unfolding replyOf notOpened
 returns c = record { answer = refl; state = c .initial .ensures }
 
 pub not-opened-spec : {M : Type 1} → statement M
-not-opened-spec = tie.close (tie.spec initial-requires returns)
+not-opened-spec = tie.close (tie.spec (λ c κs. search needs) returns)

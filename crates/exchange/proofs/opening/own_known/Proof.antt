@@ -12,6 +12,4 @@ returns-2 : tie.Need-returns-2
 returns-2 c = sym (cond-false _ _ (sym (c .before .has .ensures) ∙ c .if1 .left))
 
 pub own-known-spec : {M : Type 1} → statement M
-own-known-spec = tie.close
-    (tie.spec
-    (λ c κs. search needs) (λ c κs. search needs) returns returns-2)
+own-known-spec = tie.close (tie.spec (λ c κs. search needs) (λ c κs. search needs) returns returns-2)

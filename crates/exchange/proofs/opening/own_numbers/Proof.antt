@@ -22,6 +22,4 @@ returns-2 c = sym (cond-true _ _ (sym (c .before .has .ensures) ∙ not-false _ 
 
 pub own-numbers-spec : {M : Type 1} → statement M
 own-numbers-spec =
-    tie.close
-    (tie.spec
-    (λ c κs. search needs) returns sub-numbers (λ c. search needs) (λ c. search needs) array-set-from-numbers returns-2)
+    tie.close (tie.spec (λ c κs. search needs) returns sub-numbers (λ c. search needs) (λ c. search needs) array-set-from-numbers returns-2)

@@ -14,6 +14,4 @@ returns-3 : tie.Need-returns-3
 returns-3 c = let a = c .before .before .before .before .before .before .args in lower-kept (a .announced) (a .d) (a .v) _ _ (c .before .before .before .before .announced .given .1) (c .if1 .left)
 
 pub lower-spec : {M : Type 1} → statement M
-lower-spec = tie.close
-    (tie.spec
-    (λ c. search needs) (λ c. search needs) returns returns-2 returns-3)
+lower-spec = tie.close (tie.spec (λ c. search needs) (λ c. search needs) returns returns-2 returns-3)

@@ -5,7 +5,7 @@ use Rattle.exchange.proofs.sending.outgoing_size.Statement.{statement}
 use Rattle.exchange.proofs.sending.outgoing_size.Tie as tie
 
 returns : tie.Need-returns
-returns c = let x = c .before .before .before .args .x in size-known x _ (c .before .enum-told .given .1) (c .size .ensures)
+returns c = let x = c .before .before .before .args .x in size-known x (c .before .enum-told .given .1) _ (c .size .ensures)
 
 returns-2 : tie.Need-returns-2
 returns-2 c = let x = c .before .before .args .x in size-decide x _ (c .enum-told2 .given .1)

@@ -12,6 +12,4 @@ returns-2 c = code-no (c .before .before .before .before .before .args .v) (c .b
 
 pub verdict-code-spec : {M : Type 1} → statement M
 verdict-code-spec =
-    tie.close
-    (tie.spec
-    returns (λ c. search needs) (λ c κs. search needs) (λ c κs. search needs) returns-2)
+    tie.close (tie.spec returns (λ c. search needs) (λ c κs. search needs) (λ c κs. search needs) returns-2)

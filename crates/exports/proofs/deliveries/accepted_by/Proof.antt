@@ -15,6 +15,4 @@ returns-2 : tie.Need-returns-2
 returns-2 c = ((λ x. ap (λ (a : Answer). oneAccepted (outcomeOf a x)) (sym (c .enum-told2 .given .1))), omega arith)
 
 pub accepted-by-spec : {M : Type 1} → statement M
-accepted-by-spec = tie.close
-    (tie.spec
-    (λ c. search needs) (λ c. search needs) returns returns-2)
+accepted-by-spec = tie.close (tie.spec (λ c. search needs) (λ c. search needs) returns returns-2)

@@ -13,6 +13,4 @@ unfolding stateClosed
 returns c = c .before .close .ensures .state ∙ ap (λ (x : Exchange). stateAfter x (closing x)) (c .before .before .before .deliver-all .ensures .1)
 
 pub close-round-spec : {M : Type 1} → statement M
-close-round-spec = tie.close
-    (tie.spec
-    (λ c κs. search needs) (λ c κs. search needs) returns)
+close-round-spec = tie.close (tie.spec (λ c κs. search needs) (λ c κs. search needs) returns)

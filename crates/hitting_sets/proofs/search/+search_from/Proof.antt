@@ -7,7 +7,7 @@ use lib.ListN.{length}
 use borrow.Author.Needs.{needs}
 use Rattle.drive_sets.specs.Masks.{size}
 use Rattle.hitting_sets.proofs.Places.{passed-minimal}
-use Rattle.hitting_sets.proofs.Walks.{walk-fewer}
+use Rattle.drive_sets.specs.Loops.Drives.{taken, taken-fewer}
 use Rattle.hitting_sets.proofs.Trials.{Trying, try-start, try-minimal, try-on, try-end, try-stop, try-fuel, end-one, searched-from}
 use borrow.Fn.Kinds.{In}
 use borrow.Fn.PlainCycle.{Measures, is, falls, and}
@@ -17,7 +17,7 @@ use Rattle.hitting_sets.proofs.search.+search_from.Lts-search_from as s
 use Rattle.drive_sets.proofs.insert.Reads as insert-reads
 use Rattle.drive_sets.proofs.lowest.Reads as lowest-reads
 use Rattle.drive_sets.proofs.without_lowest.Reads as without-lowest-reads
-use Rattle.hitting_sets.proofs.dead_ends.note.Reads as note-reads
+use Rattle.hitting_sets.proofs.search.note.Reads as note-reads
 use Rattle.hitting_sets.proofs.search.candidates.Reads as candidates-reads
 use Rattle.hitting_sets.proofs.search.goes_on.Reads as goes-on-reads
 use Rattle.hitting_sets.proofs.search.next_missed.Reads as next-missed-reads
@@ -38,11 +38,11 @@ search-from-below t =
     and 3 search-from-kinds.ps (falls 3 search-from-kinds.ps _<_ μ-search-from t) search-from.Pre
 
 abbrev search-from-Inv-loop : search-from-lts.InvT-loop
-search-from-Inv-loop way sets pos m out₀ ends₀ room next look-ahead rest₀ so-far₀ out ends rest so-far =
-    Trying (way .limited) (so-far₀ .left) sets m pos next out₀ out (so-far₀ .found) (so-far .found) (so-far .left) rest × (length ends ≡ length ends₀)
+search-from-Inv-loop mode sets pos m out₀ ends₀ room next look-ahead rest₀ so-far₀ out ends rest so-far =
+    Trying (mode .limited) (so-far₀ .left) sets m pos next out₀ out (so-far₀ .found) (so-far .found) (so-far .left) rest × (length ends ≡ length ends₀)
 
 abbrev search-from-μ-loop : search-from-lts.MeasureT-loop
-search-from-μ-loop way sets pos m out₀ ends₀ room next look-ahead rest₀ so-far₀ out ends rest so-far = size rest
+search-from-μ-loop mode sets pos m out₀ ends₀ room next look-ahead rest₀ so-far₀ out ends rest so-far = size rest
 
 abbrev K : ℕ → search-from-lts.Claims
 K t = (
@@ -88,15 +88,15 @@ search-from-loop-holds t c =
 search-from-search-from-requires : (t : ℕ) → search-from-lts.Need-search-from-requires (K t) (search-from-at t) search-from.Post search-from-Inv-loop search-from-μ-loop
 search-from-search-from-requires t c = λ κs.
     let y = c .before .before .before .before .before .before .before .loop .inv .0 in
-    (search needs, (search needs, try-fuel y (c .before .before .before .before .before .goes-on .ensures) (c .before .before .before .before .if2 .taken) .0, try-minimal y _ (c .before .before .before .before .before .before .loop-test .taken) (c .before .before .before .lowest .ensures) _ (c .before .before .insert .ensures)))
+    (search needs, (search needs, try-fuel y (c .before .before .before .before .before .goes-on .ensures) (c .before .before .before .before .if2 .taken) .0, try-minimal y (taken (y .word) (c .before .before .before .before .before .before .loop-test .taken) (c .before .before .before .lowest .ensures) refl) _ (c .before .before .insert .ensures)))
 
 search-from-loop-less : (t : ℕ) → search-from-lts.Need-loop-less (K t) (search-from-at t) search-from.Post search-from-Inv-loop search-from-μ-loop
-search-from-loop-less t c = walk-fewer _ _ (c .before .before .before .before .before .before .before .before .before .before .before .before .before .loop .inv .0 .word) (c .before .before .before .before .before .before .before .before .before .before .before .before .loop-test .taken) (c .before .before .before .before .before .before .before .before .before .lowest .ensures) _ (c .without-lowest .ensures)
+search-from-loop-less t c = taken-fewer (taken (c .before .before .before .before .before .before .before .before .before .before .before .before .before .loop .inv .0 .word) (c .before .before .before .before .before .before .before .before .before .before .before .before .loop-test .taken) (c .before .before .before .before .before .before .before .before .before .lowest .ensures) (c .without-lowest .ensures))
 
 search-from-loop-again : (t : ℕ) → search-from-lts.Need-loop-again (K t) (search-from-at t) search-from.Post search-from-Inv-loop search-from-μ-loop
 search-from-loop-again t c =
     let y = c .before .before .before .before .before .before .before .before .before .before .before .before .before .loop .inv .0 in
-    (try-on y _ (c .before .before .before .before .before .before .before .before .before .before .before .before .loop-test .taken) (c .before .before .before .before .before .before .before .before .before .lowest .ensures) _ (c .before .before .before .before .before .before .before .before .insert .ensures) _ (c .without-lowest .ensures) (try-fuel y (c .before .before .before .before .before .before .before .before .before .before .before .goes-on .ensures) (c .before .before .before .before .before .before .before .before .before .before .if2 .taken) .1) (c .before .before .before .before .before .search-from .ensures) (search needs), search needs)
+    (try-on y (taken (y .word) (c .before .before .before .before .before .before .before .before .before .before .before .before .loop-test .taken) (c .before .before .before .before .before .before .before .before .before .lowest .ensures) (c .without-lowest .ensures)) _ (c .before .before .before .before .before .before .before .before .insert .ensures) (try-fuel y (c .before .before .before .before .before .before .before .before .before .before .before .goes-on .ensures) (c .before .before .before .before .before .before .before .before .before .before .if2 .taken) .1) (c .before .before .before .before .before .search-from .ensures) (search needs), search needs)
 
 search-from-returns-2 : (t : ℕ) → search-from-lts.Need-returns-2 (K t) (search-from-at t) search-from.Post search-from-Inv-loop search-from-μ-loop
 search-from-returns-2 t c = searched-from (c .before .before .before .before .spend .ensures .0) (c .before .before .before .before .spend .ensures .1) (try-stop (c .before .before .before .loop .inv .0) (c .before .goes-on .ensures) (c .if2 .left))
@@ -106,25 +106,7 @@ search-from-returns-3 t c = searched-from (c .before .before .spend .ensures .0)
 
 pub +search-from-spec : {M : Type 1} → statement M
 +search-from-spec = close μ-search-from λ t. search-from-lts.spec (K t) (search-from-at t) search-from.Post search-from-Inv-loop search-from-μ-loop
-    (λ c κs. search needs)
-    (λ c κs. search needs)
-    (λ c. search needs)
-    (search-from-returns t)
-    (search-from-candidates-requires t)
-    (λ c κs. search needs)
-    (λ c κs. search needs)
-    (search-from-loop-holds t)
-    (λ c κs. search needs)
-    (λ c κs. search needs)
-    (λ c κs. search needs)
-    (λ c. search needs)
-    (search-from-search-from-requires t)
-    (λ c κs. search needs)
-    (search-from-loop-less t)
-    (search-from-loop-again t)
-    (λ c. search needs)
-    (λ c. search needs)
-    (search-from-returns-2 t)
-    (λ c. search needs)
-    (λ c. search needs)
-    (search-from-returns-3 t)
+    (λ c κs. search needs) (λ c κs. search needs) (λ c. search needs) (search-from-returns t) (search-from-candidates-requires t)
+    (λ c κs. search needs) (λ c κs. search needs) (search-from-loop-holds t) (λ c κs. search needs) (λ c κs. search needs) (λ c κs. search needs)
+    (λ c. search needs) (search-from-search-from-requires t) (λ c κs. search needs) (search-from-loop-less t) (search-from-loop-again t)
+    (λ c. search needs) (λ c. search needs) (search-from-returns-2 t) (λ c. search needs) (λ c. search needs) (search-from-returns-3 t)

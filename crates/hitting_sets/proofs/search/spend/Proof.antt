@@ -13,6 +13,4 @@ returns-2 c = (refl, λ e. absurd (clash (c .before .before .if1 .taken) e))
 
 pub spend-spec : {M : Type 1} → statement M
 spend-spec =
-    tie.close
-    (tie.spec
-    (λ c. search needs) returns returns-2 (λ c. search needs))
+    tie.close (tie.spec (λ c. search needs) returns returns-2 (λ c. search needs))

@@ -23,6 +23,4 @@ returns-4 c = let a = c .before .before .before .before .before .before .args in
 
 pub check-crash-spec : {M : Type 1} → statement M
 check-crash-spec =
-    tie.close
-    (tie.spec
-    (λ c κs. search needs) returns (λ c κs. search needs) returns-2 (λ c κs. search needs) returns-3 returns-4)
+    tie.close (tie.spec (λ c κs. search needs) returns (λ c κs. search needs) returns-2 (λ c κs. search needs) returns-3 returns-4)

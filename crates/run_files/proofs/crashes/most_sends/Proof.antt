@@ -14,6 +14,4 @@ returns-3 : tie.Need-returns-3
 returns-3 c = let a = c .before .before .before .args in most-listener (a .n) (a .core) (a .drive .0) _ (c .before .has .ensures) (c .if2 .left)
 
 pub most-sends-spec : {M : Type 1} → statement M
-most-sends-spec = tie.close
-    (tie.spec
-    returns (λ c κs. search needs) (λ c. search needs) returns-2 returns-3)
+most-sends-spec = tie.close (tie.spec returns (λ c κs. search needs) (λ c. search needs) returns-2 returns-3)

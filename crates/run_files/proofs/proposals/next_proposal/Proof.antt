@@ -9,13 +9,17 @@ shared-slice-read-if1 : tie.Need-shared-slice-read-if1
 shared-slice-read-if1 c = let a = c .before .before .before .before .before .args in omega (arith, proposal-long (a .due .0) (a .s .now) _ (c .before .before .before .read-head .ensures) _ (c .before .enum-told .given .1))
 
 returns : tie.Need-returns
-returns c = let a = c .before .before .before .before .before .before .args in not-next (a .due .0) (a .s .now) _ (c .before .before .before .before .read-head .ensures) _ (c .before .before .enum-told .given .1) (c .if1 .taken)
+returns c =
+    let a = c .before .before .before .before .before .before .args in
+    λ n given next. not-next (a .due .0) (a .s .now) _ (c .before .before .before .before .read-head .ensures) _ (c .before .before .enum-told .given .1) n given next (c .if1 .taken)
 
 returns-2 : tie.Need-returns-2
-returns-2 c = let a = c .before .before .before .before .before .args in proposal-refused (a .due .0) (a .s .now) _ (c .before .before .before .read-head .ensures) _ (c .before .head .given .1)
+returns-2 c = let a = c .before .before .before .before .before .args in λ n given next. proposal-refused (a .due .0) (a .s .now) _ (c .before .before .before .read-head .ensures) _ (c .before .head .given .1) n given
 
 returns-3 : tie.Need-returns-3
-returns-3 c = let a = c .before .before .before .before .before .before .before .args in number-given (a .due .0) (a .s .now) _ (c .before .before .before .before .before .read-head .ensures) _ (c .before .before .before .enum-told .given .1) (c .before .if1 .left) _ (c .pattern-at .ensures)
+returns-3 c =
+    let a = c .before .before .before .before .before .before .before .args in
+    λ n given next. number-given (a .due .0) (a .s .now) _ (c .before .before .before .before .before .read-head .ensures) _ (c .before .before .before .enum-told .given .1) n given next (c .before .if1 .left) _ (c .pattern-at .ensures)
 
 pub next-proposal-spec : {M : Type 1} → statement M
 next-proposal-spec =

@@ -24,6 +24,4 @@ returns-2 c =
 
 pub read-run-file-spec : {M : Type 1} → statement M
 read-run-file-spec =
-    tie.close
-    (tie.spec
-    (λ c κs. search needs) (λ c. search needs) (λ c κs. search needs) (λ c. search needs) read-behind-requires returns returns-2)
+    tie.close (tie.spec (λ c κs. search needs) (λ c. search needs) (λ c κs. search needs) (λ c. search needs) read-behind-requires returns returns-2)

@@ -1,8 +1,8 @@
 -- The drives with a CR, from the lowest.
 use borrow.Author.Needs.{needs}
 use Rattle.simulation.proofs.CrashChecks.{Checking, check-start, check-turn, check-refused, check-end}
-use Rattle.exchange.proofs.Least.{lowest-bounds, removed-less}
 use Rattle.drive_sets.specs.Masks.{size}
+use Rattle.drive_sets.specs.Loops.Drives.{removed, taken-fewer, lowest-bounds}
 use Rattle.simulation.proofs.checking.check_all.Statement.{statement}
 use Rattle.simulation.proofs.checking.check_all.Tie as tie
 
@@ -16,7 +16,7 @@ loop-holds : tie.Need-loop-holds Inv-loop μ-loop
 loop-holds c = let a = c .args in check-start (a .n) (a .core) (a .crashes) (search needs)
 
 check-one-requires : tie.Need-check-one-requires Inv-loop μ-loop
-check-one-requires c κs = let l = c .before .before .loop in lowest-bounds (l .rest) _ (l .inv .word) (c .before .loop-test .taken) (c .lowest .ensures)
+check-one-requires c κs = let l = c .before .before .loop in lowest-bounds (l .inv .word) (c .before .loop-test .taken) (c .lowest .ensures)
 
 returns : tie.Need-returns Inv-loop μ-loop
 returns c =
@@ -25,7 +25,7 @@ returns c =
     check-refused (a .n) (a .core) (a .crashes) (l .rest) (l .last .0) _ (l .inv) (c .before .before .before .before .before .loop-test .taken) (c .before .before .before .before .lowest .ensures) _ (c .before .before .before .check-one .ensures) _ (c .before .answer .given .1)
 
 loop-less : tie.Need-loop-less Inv-loop μ-loop
-loop-less c = let l = c .before .before .before .before .before .before .loop in removed-less (l .rest) _ _ (l .inv .word) (c .before .before .before .before .before .loop-test .taken) (c .before .before .before .before .lowest .ensures) (c .remove .ensures)
+loop-less c = let l = c .before .before .before .before .before .before .loop in taken-fewer (removed (l .inv .word) (c .before .before .before .before .before .loop-test .taken) (c .before .before .before .before .lowest .ensures) (c .remove .ensures))
 
 loop-again : tie.Need-loop-again Inv-loop μ-loop
 loop-again c =

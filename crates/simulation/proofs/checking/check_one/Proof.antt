@@ -11,6 +11,4 @@ returns c =
 
 pub check-one-spec : {M : Type 1} → statement M
 check-one-spec =
-    tie.close
-    (tie.spec
-    (λ c κs. search needs) (λ c κs. search needs) (λ c κs. search needs) returns)
+    tie.close (tie.spec (λ c κs. search needs) (λ c κs. search needs) (λ c κs. search needs) returns)

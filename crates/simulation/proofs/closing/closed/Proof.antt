@@ -11,6 +11,4 @@ returns-2 : tie.Need-returns-2
 returns-2 c = let a = c .before .before .before .before .args in closed-now (a .x) _ _ (c .before .before .before .is-closer .ensures) (c .before .before .if1 .left) _ (c .before .close .ensures .state)
 
 pub closed-spec : {M : Type 1} → statement M
-closed-spec = tie.close
-    (tie.spec
-    (λ c κs. search needs) returns (λ c κs. search needs) returns-2)
+closed-spec = tie.close (tie.spec (λ c κs. search needs) returns (λ c κs. search needs) returns-2)

@@ -9,12 +9,9 @@ returns : tie.Need-returns
 unfolding active
 returns c = rw (c .if1 .taken) refl
 
-gone-by-requires : tie.Need-gone-by-requires
-gone-by-requires c κs = search needs
-
 returns-2 : tie.Need-returns-2
 unfolding active
 returns-2 c = rw (c .before .if1 .left, c .gone-by .ensures) refl
 
 pub is-closer-spec : {M : Type 1} → statement M
-is-closer-spec = tie.close (tie.spec returns gone-by-requires returns-2)
+is-closer-spec = tie.close (tie.spec returns (λ c κs. search needs) returns-2)

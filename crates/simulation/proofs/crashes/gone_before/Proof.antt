@@ -6,9 +6,6 @@ use borrow.Author.Needs.{needs}
 use Rattle.simulation.proofs.crashes.gone_before.Statement.{statement}
 use Rattle.simulation.proofs.crashes.gone_before.Tie as tie
 
-has-requires : tie.Need-has-requires
-has-requires c κs = search needs
-
 returns : tie.Need-returns
 returns c = let a = c .before .before .args in not-gone-before (a .crashes) (a .d .0) _ (c .before .has .ensures) (c .if1 .taken) (a .round .0)
 
@@ -22,4 +19,4 @@ returns-2 : tie.Need-returns-2
 returns-2 c = let a = c .before .before .before .before .before .before .args in gone-before-by (a .crashes) (a .d .0) _ (c .before .before .before .before .before .has .ensures) (c .before .before .before .before .if1 .left) (a .round .0) _ (c .before .before .round-at .ensures)
 
 pub gone-before-spec : {M : Type 1} → statement M
-gone-before-spec = tie.close (tie.spec has-requires returns round-at-requires returns-2)
+gone-before-spec = tie.close (tie.spec (λ c κs. search needs) returns round-at-requires returns-2)

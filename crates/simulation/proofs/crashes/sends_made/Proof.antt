@@ -6,9 +6,6 @@ use borrow.Author.Needs.{needs}
 use Rattle.simulation.proofs.crashes.sends_made.Statement.{statement}
 use Rattle.simulation.proofs.crashes.sends_made.Tie as tie
 
-has-requires : tie.Need-has-requires
-has-requires c κs = search needs
-
 returns : tie.Need-returns
 returns c = let a = c .before .before .args in makes-all (a .crashes) (a .d .0) _ (c .before .has .ensures) (c .if1 .taken) (a .round .0)
 
@@ -32,5 +29,4 @@ returns-3 c = let a = c .before .before .before .before .before .before .before 
 
 pub sends-made-spec : {M : Type 1} → statement M
 sends-made-spec =
-    tie.close
-    (tie.spec has-requires returns round-at-requires returns-2 sends-at-requires returns-3)
+    tie.close (tie.spec (λ c κs. search needs) returns round-at-requires returns-2 sends-at-requires returns-3)

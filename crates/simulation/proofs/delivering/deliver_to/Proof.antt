@@ -1,8 +1,8 @@
 -- The drives of the mask from the lowest, until the sends are used up.
 use borrow.Author.Needs.{needs}
 use Rattle.simulation.proofs.Deliveries.{Delivering, deliver-start, deliver-turn, deliver-none, deliver-end}
-use Rattle.exchange.proofs.Least.{lowest-bounds, removed-less}
 use Rattle.drive_sets.specs.Masks.{size}
+use Rattle.drive_sets.specs.Loops.Drives.{removed, taken-fewer, lowest-bounds}
 use native.Mathlib.Omega.{arith}
 use Rattle.simulation.proofs.delivering.deliver_to.Statement.{statement}
 use Rattle.simulation.proofs.delivering.deliver_to.Tie as tie
@@ -20,28 +20,28 @@ returns : tie.Need-returns Inv-loop μ-loop
 returns c = let a = c .before .before .before .before .args in let l = c .before .before .loop in deliver-none (a .bytes .now) (a .m) (a .sends) (a .states) (l .all) (l .rest) (l .left) (l .inv) (c .if1 .taken)
 
 sub-at : tie.Need-sub-at Inv-loop μ-loop
-sub-at c = let l = c .before .before .before .loop in omega (arith, lowest-bounds (l .rest) _ (l .inv .word) (c .before .before .loop-test .taken) (c .lowest .ensures) .0)
+sub-at c = let l = c .before .before .before .loop in omega (arith, lowest-bounds (l .inv .word) (c .before .before .loop-test .taken) (c .lowest .ensures) .0)
 
 mul-x : tie.Need-mul-x Inv-loop μ-loop
-mul-x c = let l = c .before .before .before .loop in omega (arith, lowest-bounds (l .rest) _ (l .inv .word) (c .before .before .loop-test .taken) (c .lowest .ensures) .1)
+mul-x c = let l = c .before .before .before .loop in omega (arith, lowest-bounds (l .inv .word) (c .before .before .loop-test .taken) (c .lowest .ensures) .1)
 
 array-copy-out-x : tie.Need-array-copy-out-x Inv-loop μ-loop
 array-copy-out-x c =
     let l = c .before .before .before .loop in
-    let b = lowest-bounds (l .rest) _ (l .inv .word) (c .before .before .loop-test .taken) (c .lowest .ensures) in
+    let b = lowest-bounds (l .inv .word) (c .before .before .loop-test .taken) (c .lowest .ensures) in
     omega (arith, b .0, b .1)
 
 mul-all : tie.Need-mul-all Inv-loop μ-loop
-mul-all c = let l = c .before .before .before .before .before .before .loop in omega (arith, lowest-bounds (l .rest) _ (l .inv .word) (c .before .before .before .before .before .loop-test .taken) (c .before .before .before .lowest .ensures) .1)
+mul-all c = let l = c .before .before .before .before .before .before .loop in omega (arith, lowest-bounds (l .inv .word) (c .before .before .before .before .before .loop-test .taken) (c .before .before .before .lowest .ensures) .1)
 
 array-set-from-all : tie.Need-array-set-from-all Inv-loop μ-loop
 array-set-from-all c =
     let l = c .before .before .before .before .before .before .loop in
-    let b = lowest-bounds (l .rest) _ (l .inv .word) (c .before .before .before .before .before .loop-test .taken) (c .before .before .before .lowest .ensures) in
+    let b = lowest-bounds (l .inv .word) (c .before .before .before .before .before .loop-test .taken) (c .before .before .before .lowest .ensures) in
     omega (arith, b .0, b .1)
 
 loop-less : tie.Need-loop-less Inv-loop μ-loop
-loop-less c = let l = c .before .before .before .before .before .before .before .loop in removed-less (l .rest) _ _ (l .inv .word) (c .before .before .before .before .before .before .loop-test .taken) (c .before .before .before .before .lowest .ensures) (c .remove .ensures)
+loop-less c = let l = c .before .before .before .before .before .before .before .loop in taken-fewer (removed (l .inv .word) (c .before .before .before .before .before .before .loop-test .taken) (c .before .before .before .before .lowest .ensures) (c .remove .ensures))
 
 loop-again : tie.Need-loop-again Inv-loop μ-loop
 loop-again c =

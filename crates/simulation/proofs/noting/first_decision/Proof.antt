@@ -15,6 +15,4 @@ returns-3 c = let a = c .before .before .before .before .before .args in found-n
 
 pub first-decision-spec : {M : Type 1} → statement M
 first-decision-spec =
-    tie.close
-    (tie.spec
-    returns (λ c. search needs) (λ c. search needs) returns-2 returns-3)
+    tie.close (tie.spec returns (λ c. search needs) (λ c. search needs) returns-2 returns-3)

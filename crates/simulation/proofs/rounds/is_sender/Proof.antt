@@ -24,6 +24,4 @@ unfolding active
 returns-3 c = sends-unless-gone _ _ (c .before .before .before .before .args .x .halted) _ (c .before .before .before .has .ensures) (c .before .before .if1 .left) (c .before .if2 .left) _ (c .gone-before .ensures)
 
 pub is-sender-spec : {M : Type 1} → statement M
-is-sender-spec = tie.close
-    (tie.spec
-    (λ c κs. search needs) returns returns-2 (λ c κs. search needs) returns-3)
+is-sender-spec = tie.close (tie.spec (λ c κs. search needs) returns returns-2 (λ c κs. search needs) returns-3)

@@ -18,6 +18,4 @@ returns c s g =
     ∙ sym (round-made (a .n) (a .core) (a .crashes) s (pre .0) (pre .1) g (a .states) (a .round .0)))
 
 pub one-round-spec : {M : Type 1} → statement M
-one-round-spec = tie.close
-    (tie.spec
-    (λ c κs. search needs) (λ c κs. search needs) returns)
+one-round-spec = tie.close (tie.spec (λ c κs. search needs) (λ c κs. search needs) returns)

@@ -21,6 +21,4 @@ returns c =
     (sym (c .before .sends-made .ensures list (length-list (a .n) (a .core) (a .d .0) (pre .0) (pre .1))))
 
 pub sent-spec : {M : Type 1} → statement M
-sent-spec = tie.close
-    (tie.spec
-    (λ c κs. search needs) (λ c κs. search needs) returns)
+sent-spec = tie.close (tie.spec (λ c κs. search needs) (λ c κs. search needs) returns)

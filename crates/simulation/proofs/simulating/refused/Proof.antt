@@ -5,12 +5,9 @@ use borrow.Author.Needs.{needs}
 use Rattle.simulation.proofs.simulating.refused.Statement.{statement}
 use Rattle.simulation.proofs.simulating.refused.Tie as tie
 
-nothing-requires : tie.Need-nothing-requires
-nothing-requires c κs = search needs
-
 returns : tie.Need-returns
 unfolding simulatedOutcome
 returns c n = refl
 
 pub refused-spec : {M : Type 1} → statement M
-refused-spec = tie.close (tie.spec nothing-requires returns)
+refused-spec = tie.close (tie.spec (λ c κs. search needs) returns)

@@ -19,6 +19,4 @@ returns c s t =
     result-is (a .n) (a .core) (a .crashes) s (t .says) (t .valid) _ (c .before .run .ensures s t) _ (c .size .ensures)
 
 pub result-on-spec : {M : Type 1} → statement M
-result-on-spec = tie.close
-    (tie.spec
-    (λ c κs. search needs) (λ c κs. search needs) cast-t10 returns)
+result-on-spec = tie.close (tie.spec (λ c κs. search needs) (λ c κs. search needs) cast-t10 returns)

@@ -29,6 +29,4 @@ returns-2 c =
 
 pub where-untouched-spec : {M : Type 1} → statement M
 where-untouched-spec =
-    tie.close
-    (tie.spec
-    (λ c κs. search needs) (λ c κs. search needs) returns result-on-requires returns-2)
+    tie.close (tie.spec (λ c κs. search needs) (λ c κs. search needs) returns result-on-requires returns-2)

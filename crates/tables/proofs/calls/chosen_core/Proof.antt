@@ -6,18 +6,6 @@ use borrow.Author.Needs.{needs}
 use Rattle.tables.proofs.calls.chosen_core.Statement.{statement}
 use Rattle.tables.proofs.calls.chosen_core.Tie as tie
 
-accept-requires : tie.Need-accept-requires
-accept-requires c κs = search needs
-
-enum-known-answer : tie.Need-enum-known-answer
-enum-known-answer c = search needs
-
-enum-told : tie.Need-enum-told
-enum-told c = search needs
-
-array-read-t10 : tie.Need-array-read-t10
-array-read-t10 c = search needs
-
 returns : tie.Need-returns
 unfolding chosenCore
 returns c = let a = c .before .before .before .before .before .before .args in asks-refused (a .n) (a .sets .now) (c .before .before .before .before .accept .result) (c .before .before .before .before .accept .ensures .0) (λ table. result (chosen table)) _ (c .before .answer .given .1)
@@ -27,5 +15,4 @@ returns-2 c = let a = c .before .before .before .before .before .args in let t =
 
 pub chosen-core-spec : {M : Type 1} → statement M
 chosen-core-spec =
-    tie.close
-    (tie.spec accept-requires enum-known-answer enum-told array-read-t10 returns returns-2)
+    tie.close (tie.spec (λ c κs. search needs) (λ c. search needs) (λ c. search needs) (λ c. search needs) returns returns-2)

@@ -19,11 +19,11 @@ returns-4 : tie.Need-returns-4
 returns-4 c = let a = c .before .before .before .before .before .before .before .before .args in (c .no-list4 .ensures .0 ∙ back-bad (a .n) (a .groups .now) _ (c .before .before .before .before .before .before .is-frame .ensures) (c .before .before .before .before .before .if1 .left) (c .before .before .before .before .if2 .left) (c .before .before .before .if3 .left) _ (c .before .before .all-sets .ensures) (c .before .if4 .taken), c .no-list4 .ensures .1)
 
 returns-5 : tie.Need-returns-5
-returns-5 c = let a = c .before .before .before .before .before .before .before .before .before .before .before .before .args in (c .no-list5 .ensures .0 ∙ back-more (a .n) (a .groups .now) _ (c .before .before .before .before .before .before .before .before .before .before .is-frame .ensures) (c .before .before .before .before .before .before .before .before .before .if1 .left) (c .before .before .before .before .before .before .before .before .if2 .left) (c .before .before .before .before .before .before .before .if3 .left) _ (c .before .before .before .before .before .before .all-sets .ensures) (c .before .before .before .before .before .if4 .left) _ _ _ refl (c .before .before .before .find .ensures) (c .before .if5 .taken), c .no-list5 .ensures .1)
+returns-5 c = let a = c .before .before .before .before .before .before .before .before .before .before .before .before .args in (c .no-list5 .ensures .0 ∙ back-more (a .n) (a .groups .now) _ (c .before .before .before .before .before .before .before .before .before .before .is-frame .ensures) (c .before .before .before .before .before .before .before .before .before .if1 .left) (c .before .before .before .before .before .before .before .before .if2 .left) (c .before .before .before .before .before .before .before .if3 .left) _ (c .before .before .before .before .before .before .all-sets .ensures) (c .before .before .before .before .before .if4 .left) _ _ _ refl (c .before .before .before .minimal-hitting-sets .ensures) (c .before .if5 .taken), c .no-list5 .ensures .1)
 
 returns-6 : tie.Need-returns-6
 unfolding listOutcome
-returns-6 c = let a = c .before .before .before .before .before .before .before .before .before .before .before .args in (back-found (a .n) (a .groups .now) _ (c .before .before .before .before .before .before .before .before .before .is-frame .ensures) (c .before .before .before .before .before .before .before .before .if1 .left) (c .before .before .before .before .before .before .before .if2 .left) (c .before .before .before .before .before .before .if3 .left) _ (c .before .before .before .before .before .all-sets .ensures) (c .before .before .before .before .if4 .left) _ _ _ refl (c .before .before .find .ensures) (c .if5 .left), c .if5 .left)
+returns-6 c = let a = c .before .before .before .before .before .before .before .before .before .before .before .args in (back-found (a .n) (a .groups .now) _ (c .before .before .before .before .before .before .before .before .before .is-frame .ensures) (c .before .before .before .before .before .before .before .before .if1 .left) (c .before .before .before .before .before .before .before .if2 .left) (c .before .before .before .before .before .before .if3 .left) _ (c .before .before .before .before .before .all-sets .ensures) (c .before .before .before .before .if4 .left) _ _ _ refl (c .before .before .minimal-hitting-sets .ensures) (c .if5 .left), c .if5 .left)
 
 pub survivor-sets-spec : {M : Type 1} → statement M
 survivor-sets-spec =

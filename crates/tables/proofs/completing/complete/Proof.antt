@@ -16,6 +16,4 @@ returns c = let t = c .before .before .before .before .args .t in (c .complete-s
 
 pub complete-spec : {M : Type 1} → statement M
 complete-spec =
-    tie.close
-    (tie.spec
-    (λ c. search needs) (λ c. search needs) part-complete-sets-end (λ c κs. search needs) returns)
+    tie.close (tie.spec (λ c. search needs) (λ c. search needs) part-complete-sets-end (λ c κs. search needs) returns)

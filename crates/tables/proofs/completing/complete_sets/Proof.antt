@@ -8,14 +8,14 @@ use borrow.Author.Needs.{needs}
 use Rattle.tables.proofs.completing.complete_sets.Statement.{statement}
 use Rattle.tables.proofs.completing.complete_sets.Tie as tie
 
-part-find-end : tie.Need-part-find-end
-part-find-end c = omega (arith, count-le (c .before .before .before .before .before .args .sets .now) _ _ _ (c .before .before .before .before .before .pre) refl (c .before .before .normal2 .ensures))
+part-minimal-hitting-sets-end : tie.Need-part-minimal-hitting-sets-end
+part-minimal-hitting-sets-end c = omega (arith, count-le (c .before .before .before .before .before .args .sets .now) _ _ _ (c .before .before .before .before .before .pre) refl (c .before .before .normal2 .ensures))
 
 returns : tie.Need-returns
 unfolding completeOutcome
 returns c =
     let a = c .before .before .before .before .before .before .before .before .before .before .args in (
-      too-many (a .n) (a .sets .now) _ _ _ _ (normal-part (a .sets .now) _ _ _ (c .before .before .before .before .before .before .before .before .before .before .pre) refl (c .before .before .before .before .before .before .before .normal2 .ensures)) refl (c .before .before .find .ensures) (c .if1 .taken),
+      too-many (a .n) (a .sets .now) _ _ _ _ (normal-part (a .sets .now) _ _ _ (c .before .before .before .before .before .before .before .before .before .before .pre) refl (c .before .before .before .before .before .before .before .normal2 .ensures)) refl (c .before .before .minimal-hitting-sets .ensures) (c .if1 .taken),
       record { sets = count-le (a .sets .now) _ _ _ (c .before .before .before .before .before .before .before .before .before .before .pre) refl (c .before .before .before .before .before .before .before .normal2 .ensures); cores = omega arith },
     )
 
@@ -23,7 +23,7 @@ returns-2 : tie.Need-returns-2
 unfolding completeOutcome setsOf
 returns-2 c =
     let a = c .before .before .before .before .before .before .before .before .before .before .args in (
-      completed (a .n) (a .sets .now) _ _ _ _ (normal-part (a .sets .now) _ _ _ (c .before .before .before .before .before .before .before .before .before .before .pre) refl (c .before .before .before .before .before .before .before .normal2 .ensures)) refl (c .before .before .find .ensures) (c .if1 .left)
+      completed (a .n) (a .sets .now) _ _ _ _ (normal-part (a .sets .now) _ _ _ (c .before .before .before .before .before .before .before .before .before .before .pre) refl (c .before .before .before .before .before .before .before .normal2 .ensures)) refl (c .before .before .minimal-hitting-sets .ensures) (c .if1 .left)
           _ (normal-taken (a .sets .now) _ _ _ (c .before .before .before .before .before .before .before .before .before .before .pre) refl (c .before .before .before .before .before .before .before .normal2 .ensures)),
       record { sets = count-le (a .sets .now) _ _ _ (c .before .before .before .before .before .before .before .before .before .before .pre) refl (c .before .before .before .before .before .before .before .normal2 .ensures); cores = c .if1 .left },
     )
@@ -32,5 +32,5 @@ pub complete-sets-spec : {M : Type 1} → statement M
 complete-sets-spec =
     tie.close
     (tie.spec
-    (λ c. search needs) (λ c κs. search needs) (λ c. search needs) (λ c. search needs) part-find-end (λ c. search needs) (λ c κs. search needs)
+    (λ c. search needs) (λ c κs. search needs) (λ c. search needs) (λ c. search needs) part-minimal-hitting-sets-end (λ c. search needs) (λ c κs. search needs)
     returns returns-2)

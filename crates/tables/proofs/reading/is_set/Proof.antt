@@ -19,6 +19,4 @@ unfolding isSet
 returns-2 c = let a = c .before .args in and-first (not (eqb (a .s) 0)) (subset (a .s) (full (a .n))) (ap not (eq-eqb (a .s) 0 (c .if1 .left)))
 
 pub is-set-spec : {M : Type 1} → statement M
-is-set-spec = tie.close
-    (tie.spec
-    (λ c κs. search needs) (λ c κs. search needs) returns returns-2)
+is-set-spec = tie.close (tie.spec (λ c κs. search needs) (λ c κs. search needs) returns returns-2)

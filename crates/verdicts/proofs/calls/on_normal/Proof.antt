@@ -4,9 +4,6 @@ use borrow.Author.Needs.{needs}
 use Rattle.verdicts.proofs.calls.on_normal.Statement.{statement}
 use Rattle.verdicts.proofs.calls.on_normal.Tie as tie
 
-verdict-on-requires : tie.Need-verdict-on-requires
-verdict-on-requires c κs = search needs
-
 returns : tie.Need-returns
 returns c =
     let a = c .before .before .args in
@@ -16,4 +13,4 @@ returns c =
     (judged-on (a .k) (a .n) (a .table .now) v (p .0) (p .1) (p .2) (both .0), held-on (a .k) (a .n) (a .table .now) v (p .0) (p .1) (p .2) (both .1))
 
 pub on-normal-spec : {M : Type 1} → statement M
-on-normal-spec = tie.close (tie.spec verdict-on-requires returns)
+on-normal-spec = tie.close (tie.spec (λ c κs. search needs) returns)

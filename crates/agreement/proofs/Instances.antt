@@ -1,0 +1,103 @@
+-- The instance of a valid scenario is lawful: this is where the order of the sends matters. And what the statements count and name, in terms
+-- of the instance: the core's size, f, the drives that stay up, and the core drive that an untouched survivor set gives.
+use mathlib.Core.Path.{_≡_, sym, ap, _∙_, fun-ext}
+use mathlib.Core.Bool.{Bool, true, not, _&&_, Bool·not-not}
+use mathlib.Core.List.{List}
+use Prim.Native.Nat.{ℕ, suc}
+use lib.ListN.{length}
+use borrow.Author.Tests.{not-true}
+use Rattle.drive_sets.specs.Lists.{range, keep, elem}
+use Rattle.drive_sets.specs.Lists.Laws.{some-elem}
+use Rattle.drive_sets.specs.Lists.Takes.{keep-keep}
+use Rattle.drive_sets.specs.Masks.{has, size}
+use Rattle.drive_sets.specs.Masks.Laws.{meets-has}
+use Rattle.drive_sets.specs.Masks.Frames.{has-range, drives-frame, size-frame}
+use Rattle.tables.specs.Tables.{chosen}
+use Rattle.tables.specs.Tables.Laws.{Accepted, ChosenCore, table-accepted, chosen-core, sets-below}
+use Rattle.drive_states.specs.State.Laws.{isDrive-range}
+use Rattle.set_orders.specs.Order.{normal}
+use Rattle.sync_crash.specs.Rounds.{InFrame, Lawful, StaysUp, failures}
+use Rattle.runs.specs.Scenario.{Crash, stays, Scenario, frame, coreOf, goneBy, hasCrash}
+use Rattle.agreement.specs.Sends.{listOf, reach}
+use Rattle.runs.specs.Scenario.Laws.{no-crash-stays, gone-later}
+use Rattle.agreement.proofs.SendLists.{cut-up, in-listOf, cut-core}
+use Rattle.agreement.specs.Instance.{instanceOf, correct}
+use Rattle.runs.specs.Statement.{Valid, Untouched, Up, coreCrashes}
+
+-- ---- an accepted table
+
+module _ (n : ℕ) (sets : List ℕ) (a : Accepted n sets) where
+  -- a listed set has a drive of the chosen core
+  pub listed-core : (m : ℕ) → elem m sets ≡ true → (d : ℕ) × (has d m ≡ true) × (has d (chosen (normal sets)) ≡ true)
+  listed-core m h = meets-has n m (chosen (normal sets)) (sets-below n sets a m h) (chosen-core n sets a .meets-all m h)
+
+  -- so the chosen core has a drive
+  pub some-core-drive : (d : ℕ) × (has d (chosen (normal sets)) ≡ true)
+  some-core-drive =
+      let set = some-elem sets (a .some) in
+      let d = listed-core (set .0) (set .1) in
+      (d .0, d .2)
+
+-- ---- a valid scenario
+
+module _ {s : Scenario} (ok : Valid s) where
+  pub valid-accepted : Accepted (s .n) (s .sets)
+  valid-accepted = table-accepted (s .n) (s .sets) (normal (s .sets)) (ok .accepted) .0
+
+  pub valid-core : ChosenCore (s .n) (s .sets) (coreOf s)
+  unfolding coreOf
+  valid-core = chosen-core (s .n) (s .sets) valid-accepted
+
+  pub core-frame : (d : ℕ) → has d (coreOf s) ≡ true → elem d (frame s) ≡ true
+  unfolding frame
+  core-frame d h = has-range (s .n) (coreOf s) (valid-core .within) d h
+
+  pub lawful : Lawful (instanceOf s)
+  unfolding reach frame
+  lawful = record {
+    in-frame = λ {d} h. core-frame d h;
+    no-return = λ {k} {d} h. ap not (gone-later (s .crash d) k (not-true _ h));
+    full-reach = λ {k} {d} {e} c h f ne. ap (elem e) (cut-up (s .crash d) (suc k) (listOf s d) (not-true _ h)) ∙ in-listOf s d e f ne;
+    core-first = λ {k} {d} {e} {c} h l i ne. cut-core s d (s .crash d) (suc k) e c (core-frame c i) h l i ne;
+  }
+
+  -- ---- sizes
+
+  pub core-size : size (coreOf s) ≡ length (keep (λ d. has d (coreOf s)) (range 1 (s .n)))
+  core-size = size-frame (s .n) (coreOf s) (valid-core .within) (valid-accepted .high)
+
+  -- f
+  pub crashes-failures : coreCrashes s ≡ failures (instanceOf s) (correct s)
+  unfolding coreCrashes
+  crashes-failures =
+      ap length (ap (keep (λ d. hasCrash (s .crash d))) (drives-frame (s .n) (coreOf s) (valid-core .within) (valid-accepted .high))
+      ∙ (keep-keep (λ d. hasCrash (s .crash d)) (λ d. has d (coreOf s)) (range 1 (s .n))
+      ∙ ap (λ (p : ℕ → Bool). keep p (range 1 (s .n))) (fun-ext (λ d. ap (λ (b : Bool). has d (coreOf s) && b) (sym (Bool·not-not (hasCrash (s .crash d))))))))
+
+  -- ---- where a survivor set is untouched, a drive of the core stays up
+
+  pub untouched-core : Untouched s → (d : ℕ) × (has d (coreOf s) ≡ true) × (s .crash d ≡ stays)
+  unfolding coreOf
+  untouched-core u =
+      let d = listed-core (s .n) (s .sets) valid-accepted (u .set) (u .listed) in
+      (d .0, d .2, u .stay (d .0) (d .1))
+
+-- ---- the drives that stay up
+
+module _ (s : Scenario) where
+  pub stay-correct : (d : ℕ) → s .crash d ≡ stays → correct s d ≡ true
+  unfolding hasCrash
+  stay-correct d h = ap (λ (c : Crash). not (hasCrash c)) h
+
+  pub correct-stay : (d : ℕ) → correct s d ≡ true → s .crash d ≡ stays
+  correct-stay d h = no-crash-stays (s .crash d) (not-true _ h)
+
+  pub correct-staysUp : (d : ℕ) → correct s d ≡ true → StaysUp (instanceOf s) d
+  unfolding goneBy
+  correct-staysUp d h k = ap (λ (c : Crash). not (goneBy c k)) (correct-stay d h)
+
+  pub up-inFrame : {d : ℕ} → Up s d → InFrame (instanceOf s) d
+  up-inFrame {d} u = sym (isDrive-range (s .n) d) ∙ u .inFrame
+
+  pub up-correct : {d : ℕ} → Up s d → correct s d ≡ true
+  up-correct {d} u = stay-correct d (u .stay)

@@ -1,0 +1,3 @@
+-- What the searches leave in a slice, and lists put into another order.
+pub mod Found
+pub mod Rearranged

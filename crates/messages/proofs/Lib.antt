@@ -1,0 +1,4 @@
+-- What the functions' proofs share.
+pub mod Bytes
+pub mod Contents
+pub mod Writes

@@ -1,0 +1,12 @@
+-- The round is one byte.
+use Rattle.drive_states.specs.Messages.{roundOf}
+use borrow.Author.Needs.{needs}
+use Rattle.messages.proofs.reading.round_of.Statement.{statement}
+use Rattle.messages.proofs.reading.round_of.Tie as tie
+
+returns : tie.Need-returns
+unfolding roundOf
+returns c = c .byte-at .ensures
+
+pub round-of-spec : {M : Type 1} → statement M
+round-of-spec = tie.close (tie.spec (λ c κs. search needs) returns)

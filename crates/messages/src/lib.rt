@@ -1,0 +1,12 @@
+// The messages of an exchange as bytes: the fields of one that is read, and one that is written.
+// How many bytes a pattern number takes.
+pub const PATTERN_BYTES: usize = 2;
+
+// How long a DC is.
+pub const DECIDE_BYTES: usize = 4 + PATTERN_BYTES;
+
+// No message is longer: 12 bytes and 64 numbers.
+pub const LONGEST: usize = 12 + PATTERN_BYTES * 64;
+
+pub mod reading;
+pub mod writing;

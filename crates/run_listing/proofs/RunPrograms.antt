@@ -1,0 +1,53 @@
+-- The text of the run program, from what the readers and the simulated exchange give.
+use mathlib.Core.Path.{_≡_, sym, ap, _∙_}
+use mathlib.Core.List.{List, _++_}
+use Prim.Native.Nat.{ℕ}
+use lib.ListN.{take}
+use Rattle.drive_sets.specs.Lists.{range}
+use Rattle.drive_sets.specs.Refusals.{Outcome, andThen, number}
+use Rattle.drive_sets.specs.declared.Refusal.{Refusal}
+use Rattle.tables.specs.Files.{ReadTable}
+use Rattle.tables.specs.Reading.{outcomeOf}
+use Rattle.tables.specs.declared.reading.Answer.{Answer}
+use Rattle.tables.specs.declared.reading.Answer.the-variants as answers
+use Rattle.run_files.specs.RunFiles.{RunFile, readRunFile}
+use Rattle.run_files.specs.Reading.{values, crashesIn, runFileOutcome}
+use Rattle.run_files.specs.declared.reading.RunFile as files
+use Rattle.simulation.specs.Simulation.{Simulated, simulated}
+use Rattle.simulation.specs.Endings.{endingsIn, foundOf, endingBy, simulatedOutcome}
+use Rattle.simulation.specs.declared.simulating.Simulated as simulations
+use Rattle.text.specs.Text.{refusalLine}
+use Rattle.run_listing.specs.RunListing.{coreLine, runText, simulatedWith}
+use Rattle.run_listing.specs.RunParts.{endingFor, endingAt, driveLines}
+use Rattle.run_listing.proofs.RunTexts.{drives-endings}
+
+-- the text behind a table that was read
+abbrev pub textBehind : Outcome ReadTable → List ℕ
+textBehind o = runText (andThen o (λ t. simulatedWith (t .n) (t .sets) (t .rest)))
+
+-- ---- the run file
+
+module _ (n : ℕ) (sets rest : List ℕ) (file : files.RunFile) (e : runFileOutcome n file ≡ readRunFile n sets rest) where
+  abbrev pub textOf : Answer → List ℕ
+  textOf a = runText (andThen (outcomeOf a (record { numbers = take n (values (file .numbers)); crashes = crashesIn (file .crashes) })) (λ (r : RunFile). simulated n sets (r .numbers) (r .crashes)))
+
+  pub run-file-text : {a : Answer} → file .answer ≡ a → runText (simulatedWith n sets rest) ≡ textOf a
+  unfolding runFileOutcome simulatedWith
+  run-file-text f = ap (λ (o : Outcome RunFile). runText (andThen o (λ r. simulated n sets (r .numbers) (r .crashes)))) (sym e) ∙ ap textOf f
+
+-- ---- the simulated exchange
+
+module _ (n : ℕ) (r : simulations.Simulated) where
+  abbrev given : Simulated
+  given = record { endings = endingsIn n r; core = r .core; stops = r .stops }
+
+  pub simulated-refused : (q : Refusal) → r .answer ≡ answers.Refused q → runText (simulatedOutcome n r) ≡ refusalLine (number q)
+  unfolding simulatedOutcome
+  simulated-refused q f = ap (λ (a : Answer). runText (outcomeOf a given)) f
+
+  pub simulated-text : r .answer ≡ answers.Accepted
+      → runText (simulatedOutcome n r) ≡ driveLines (endingAt (r .crashed) (r .found .rounds) (r .found .numbers)) (range 1 n) ++ coreLine (r .core) (r .stops)
+  unfolding simulatedOutcome endingsIn endingAt endingFor foundOf endingBy
+  simulated-text f =
+      ap (λ (a : Answer). runText (outcomeOf a given)) f
+      ∙ ap (λ (l : List ℕ). l ++ coreLine (r .core) (r .stops)) (sym (drives-endings (endingAt (r .crashed) (r .found .rounds) (r .found .numbers)) 1 n))

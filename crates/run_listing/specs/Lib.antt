@@ -1,0 +1,3 @@
+-- The text of the run program, and its parts.
+pub mod RunListing
+pub mod RunParts

@@ -1,0 +1,5 @@
+-- What the functions' proofs share.
+pub mod Copies
+pub mod Halves
+pub mod Keeping
+pub mod Merges

@@ -1,0 +1,4 @@
+-- What the functions' proofs share.
+pub mod Listings
+pub mod Lengths
+pub mod ReadTables

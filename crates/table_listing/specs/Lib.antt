@@ -1,0 +1,2 @@
+-- The text of the table program.
+pub mod TableListing

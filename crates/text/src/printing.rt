@@ -1,0 +1,37 @@
+// A text handed over in a lent buffer.
+ghost use mathlib.Core.Path.{_≡_};
+ghost use Prim.Native.Nat.{_≤_, min};
+ghost use lib.ListN.{length, take};
+ghost use Rattle.text.specs.Printing.{Printed, bytesIn};
+use drive_sets::Refusal;
+use records::Writing;
+
+// No text of a program is longer: 1024 cores and 128 sets take a line of at most 22 bytes each, the rest less than 1024 bytes.
+pub const MAX_TEXT: usize = 32768;
+
+// A text from the starting place on, touching only its own bytes; nothing where it does not fit.
+pub fn print(text: &[u8], out: &mut [u8], start: usize) -> Writing
+    ensures { λ r. ⌜ Printed (now (text .entry)) start (now (out .entry)) (now (out .exit)) r ⌝ }
+{
+    if !records::fits(out.len(), start, text.len()) {
+        return Writing::Refused(Refusal::NoRoom);
+    }
+    bytes::copy(text, &mut out[start..]);
+    Writing::Wrote(text.len())
+}
+
+// How many bytes of the buffer an answer says were written.
+pub fn written(w: Writing, buf: &[u8]) -> usize
+    ensures { λ r. ⌜ (r ≤ length (now (buf .entry))) × (r ≡ length (take r (now (buf .entry)))) ⌝ }
+    ensures { λ r. ⌜ r ≡ min (bytesIn w) (length (now (buf .entry))) ⌝ }
+{
+    match w {
+        Writing::Refused(_) => 0,
+        Writing::Wrote(size) => {
+            if buf.len() < size {
+                return buf.len();
+            }
+            size
+        }
+    }
+}

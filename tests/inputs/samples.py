@@ -1,0 +1,247 @@
+"""Inputs with the answers that document 01 gives them: the refusals of the four
+calls and of run files, each alone and where two faults meet, and what a close
+leaves. Messages and records are written byte by byte. The number 0 stands for a
+call that is not refused.
+"""
+
+from typing import Iterator, NamedTuple, Optional
+
+from regdulyn import Crash, Exchange
+
+from .calls import FILLING, Script
+from .records import crash, end, proposal, table
+
+# Case A's table and case B's pattern numbers.
+A_SETS = [1, 2, 0x3C]
+PATTERNS = [7, 5, 9, 1, 1, 1]
+
+
+# States in the frame of case A, with core 7 and the pattern numbers of its drives
+
+def state(n: int, own: int, core: int, round_number: int, before: int, heard: int, known: int,
+          start: int, halted: bool = False, decision: Optional[int] = None) -> Exchange:
+    return Exchange(n, own, core, round_number, before, heard, known, start,
+                    PATTERNS[:3] + [0] * 61, None, decision, halted)
+
+
+CORE_DRIVE = state(6, 1, 7, 1, 7, 0, 1, 1)
+LISTENER = state(6, 4, 7, 1, 7, 0, 0, 0)
+DECIDED_ON_5 = state(6, 1, 7, 2, 7, 0, 7, 7, decision=5)
+MISSED_2 = state(6, 1, 7, 2, 5, 2, 1, 1)
+HEARD_2 = state(6, 1, 7, 1, 7, 2, 3, 1)
+
+
+def kn(sender: int, round_number: int, low: int, *values: int) -> bytes:
+    """A KN with a mask in the eight lowest drives, and these bytes behind it."""
+    return b"KN" + bytes([sender, round_number, low, 0, 0, 0, 0, 0, 0, 0, *values])
+
+
+def dc(sender: int, round_number: int, *value: int) -> bytes:
+    return b"DC" + bytes([sender, round_number, *value])
+
+
+# The four calls
+
+OPENINGS = [
+    # The table's refusals come before 8: 3, 2, 5, then 4.
+    (6, A_SETS, 1, 7, 0), (0, [], 0, 7, 3), (65, [0], 66, 7, 3), (6, [], 0, 7, 2),
+    (6, [0] * 129, 0, 7, 5), (6, [1] * 128, 1, 7, 0), (6, [1, 0], 0, 7, 4),
+    (6, [1, 64], 7, 7, 4), (6, [1], 0, 7, 8), (6, [1], 7, 7, 8), (6, [1], 6, 65535, 0),
+]
+
+SENDS = [
+    # 14 bytes of KN, and 6 of DC: a place past the end, and one at the end, meet 14 too.
+    (CORE_DRIVE, 14, 0, 0), (CORE_DRIVE, 13, 0, 14), (CORE_DRIVE, 14, 1, 14),
+    (CORE_DRIVE, 20, 6, 0), (CORE_DRIVE, 14, 14, 14), (CORE_DRIVE, 0, 1, 14),
+    (DECIDED_ON_5, 6, 0, 0), (DECIDED_ON_5, 6, 1, 14),
+    # 28, 23, 27, 14.
+    (LISTENER, 0, 0, 27), (state(6, 4, 7, 1, 7, 0, 0, 0, True), 0, 0, 23),
+    (state(6, 7, 7, 1, 7, 0, 0, 0, True), 0, 0, 28),
+    (state(6, 1, 7, 1, 7, 0, 1, 1, True), 14, 0, 23),
+]
+
+MESSAGES = [
+    # The mark cut; unknown, or in the wrong place, though the rest is cut; the rest cut,
+    # though the sender is no drive.
+    (CORE_DRIVE, b"", 1), (CORE_DRIVE, b"K", 1), (CORE_DRIVE, b"XX", 2), (CORE_DRIVE, b"FR", 2),
+    (CORE_DRIVE, b"KN\0\1\2\0\0\0\0\0\0", 1), (CORE_DRIVE, dc(0, 1, 5), 1),
+    # 8, then 15, then the values cut.
+    (CORE_DRIVE, kn(0, 1, 2, 5, 0), 8), (CORE_DRIVE, kn(7, 1, 2), 8),
+    (CORE_DRIVE, dc(7, 1, 5, 0, 0), 8), (CORE_DRIVE, kn(2, 1, 4, 5, 0), 15),
+    (CORE_DRIVE, kn(2, 1, 0), 15), (CORE_DRIVE, kn(2, 1, 66), 15), (CORE_DRIVE, kn(2, 1, 2), 1),
+    (CORE_DRIVE, kn(1, 2, 3, 7, 0, 5), 1),
+    # 7, then 22: oneself, a listener, a known drive outside the core.
+    (CORE_DRIVE, kn(1, 2, 1, 7, 0, 0), 7), (CORE_DRIVE, dc(4, 2, 5, 0, 0), 7),
+    (CORE_DRIVE, kn(1, 2, 1, 7, 0), 22), (CORE_DRIVE, dc(1, 1, 7, 0), 22),
+    (CORE_DRIVE, kn(4, 1, 8, 1, 0), 22), (CORE_DRIVE, dc(4, 2, 5, 0), 22),
+    (CORE_DRIVE, kn(2, 2, 10, 5, 0, 1, 0), 22),
+    # 26, then 24, where drive 2 was missing, then 21, where drive 2 was accepted.
+    (CORE_DRIVE, kn(2, 2, 2, 5, 0), 26), (CORE_DRIVE, dc(3, 0, 5, 0), 26),
+    (MISSED_2, kn(2, 1, 2, 5, 0), 26), (MISSED_2, kn(2, 2, 2, 5, 0), 24),
+    (state(6, 1, 7, 2, 5, 0, 1, 1), dc(2, 2, 5, 0), 24), (HEARD_2, kn(2, 1, 2, 6, 0), 21),
+    (HEARD_2, dc(2, 1, 5, 0), 21),
+    # 25: one's own number, and one learnt in this round; a number that is not known can be any.
+    (CORE_DRIVE, kn(2, 1, 3, 6, 0, 5, 0), 25), (CORE_DRIVE, kn(2, 1, 3, 7, 1, 5, 0), 25),
+    (state(6, 1, 7, 1, 7, 4, 5, 1), kn(2, 1, 6, 5, 0, 8, 0), 25),
+    (CORE_DRIVE, kn(2, 1, 6, 5, 0, 8, 0), 0),
+    # Accepted: a KN, a DC, by a listener, by a decided drive.
+    (CORE_DRIVE, kn(2, 1, 3, 7, 0, 5, 0), 0), (CORE_DRIVE, dc(3, 1, 255, 255), 0),
+    (LISTENER, kn(2, 1, 2, 5, 0), 0), (DECIDED_ON_5, dc(2, 2, 9, 0), 0),
+    # 28, then 23, before anything of the message.
+    (state(6, 1, 7, 1, 7, 0, 1, 1, True), b"", 23), (state(0, 1, 7, 1, 7, 0, 1, 1, True), b"", 28),
+]
+
+CLOSES = [
+    (CORE_DRIVE, 0), (LISTENER, 0), (DECIDED_ON_5, 0), (state(6, 1, 7, 3, 7, 0, 1, 1), 0),
+    (state(6, 1, 7, 3, 7, 0, 1, 1, True), 23),
+    # 28, a rule at a time: n; core empty, above n; own number not known now, at the start; own
+    # drive; round; the four sets.
+    (state(0, 1, 7, 1, 7, 0, 1, 1), 28), (state(65, 1, 7, 1, 7, 0, 1, 1), 28),
+    (state(6, 4, 0, 1, 0, 0, 0, 0, True), 28), (state(2, 1, 7, 1, 7, 0, 1, 1), 28),
+    (state(6, 1, 7, 1, 7, 0, 2, 3), 28), (state(6, 1, 7, 1, 7, 0, 3, 2), 28),
+    (state(6, 0, 7, 1, 7, 0, 0, 0), 28), (state(6, 7, 7, 1, 7, 0, 0, 0), 28),
+    (state(6, 1, 7, 0, 7, 0, 1, 1), 28), (state(6, 1, 7, 4, 7, 0, 1, 1, True), 28),
+    (state(6, 1, 7, 1, 15, 0, 1, 1), 28), (state(6, 1, 7, 1, 7, 8, 1, 1), 28),
+    (state(6, 1, 7, 1, 7, 0, 9, 1), 28), (state(6, 1, 7, 1, 7, 0, 1, 9), 28),
+    # No rule: known at the start and not now, heard and not before, nothing heard before.
+    (state(6, 1, 7, 1, 7, 0, 1, 3), 0), (state(6, 1, 7, 1, 1, 2, 1, 1), 0),
+    (state(6, 4, 7, 1, 0, 0, 0, 0), 0),
+]
+
+# Messages and a close, and what it leaves: the round, whether the drive has halted, its decision.
+ENDS: list[tuple[Exchange, list[bytes], tuple[int, bool, Optional[int]]]] = [
+    # Drives 2 and 3 missing; nobody missing: the smallest of 7, 5, 9; the same in the last round.
+    (CORE_DRIVE, [], (2, False, None)), (state(6, 1, 7, 1, 7, 6, 7, 1), [], (2, False, 5)),
+    (state(6, 1, 7, 3, 7, 6, 7, 1), [], (3, True, 5)),
+    # A core drive that hears only itself, twice.
+    (state(6, 1, 7, 2, 1, 0, 1, 1), [], (3, False, 7)),
+    # The lowest-numbered DC sender, in either order; a decided drive keeps its number.
+    (CORE_DRIVE, [dc(3, 1, 9, 0), dc(2, 1, 8, 1)], (2, False, 264)),
+    (CORE_DRIVE, [dc(2, 1, 8, 1), dc(3, 1, 9, 0)], (2, False, 264)),
+    (DECIDED_ON_5, [dc(2, 2, 9, 0)], (2, True, 5)),
+    # A listener halts on deciding; it goes on where nobody was heard, and where nothing is known.
+    (state(6, 4, 7, 1, 2, 2, 7, 7), [], (1, True, 5)),
+    (state(6, 4, 7, 1, 0, 0, 7, 7), [], (2, False, None)),
+    (state(6, 4, 7, 1, 2, 2, 0, 0), [], (2, False, None)),
+]
+
+# A send into a buffer of a length, from a place on, and what the buffer then holds.
+KEPT = bytes([FILLING])
+BUFFERS = [
+    (state(6, 1, 7, 2, 7, 0, 7, 5), 16, 0, kn(1, 2, 5, 7, 0, 9, 0)),
+    (DECIDED_ON_5, 8, 1, KEPT + dc(1, 2, 5, 0) + KEPT),
+    (DECIDED_ON_5, 8, 3, KEPT * 8),
+]
+
+
+class Answered(NamedTuple):
+    """What the last operation of a script gave, and what document 01 gives."""
+    name: str
+    found: object
+    due: object
+
+
+def refused_with(script: Script) -> int:
+    word, *values = script.lines[-1][0].split()
+    return int(values[0]) if word == "refused" else 0
+
+
+def call_samples(script: Script) -> Iterator[Answered]:
+    """Makes the calls of every sample, one after the other."""
+    for index, (n, sets, own, pattern, due) in enumerate(OPENINGS):
+        script.open(n, sets, own, pattern)
+        yield Answered(f"opening {index}", refused_with(script), due)
+    for index, (x, length, start, due) in enumerate(SENDS):
+        script.load(x)
+        script.send(length, start)
+        yield Answered(f"send {index}", refused_with(script), due)
+    for index, (x, data, due) in enumerate(MESSAGES):
+        script.load(x)
+        script.message(data)
+        yield Answered(f"message {index}", refused_with(script), due)
+    for index, (x, due) in enumerate(CLOSES):
+        script.load(x)
+        script.close()
+        yield Answered(f"close {index}", refused_with(script), due)
+    for index, (x, messages, left) in enumerate(ENDS):
+        script.load(x)
+        taken = [script.message(data) for data in messages] + [script.close()]
+        found = script.state
+        yield Answered(f"end {index}", (taken, (found.round, found.halted, found.decision)),
+                       ([True] * len(taken), left))
+    for index, (x, length, start, buffer) in enumerate(BUFFERS):
+        script.load(x)
+        script.send(length, start)
+        yield Answered(f"buffer {index}", script.lines[-1][1], f"buffer {buffer.hex()}")
+
+
+def make_samples(script: Script) -> None:
+    """The same calls, whatever they give."""
+    for _ in call_samples(script):
+        pass
+
+
+# Run files
+
+PROPOSALS = b"".join(proposal(drive, v) for drive, v in enumerate(PATTERNS, start=1))
+
+# A table, a run file, and the refusal of the call that reads it. The program meets the table's
+# refusals in its file, where 4 comes before 5.
+RunSample = tuple[int, list[int], bytes, int]
+ON_TABLES: list[RunSample] = [
+    (0, [], end(0), 3), (65, [0], b"", 3), (64, [], b"", 2), (6, [0] * 129, b"XX", 5),
+    (6, [1, 0], b"", 4), (6, [64, 1], proposal(2, 7), 4), (64, [1], b"", 1),
+    (1, [1], proposal(1, 4) + crash(1, 1, 0) + end(1), 11),
+]
+
+# A run file for case A's table, which has the chosen core 7, and its refusal.
+ON_A = [
+    # The mark cut; unknown, or in the wrong place; the rest cut, though the drive is not the next.
+    (b"", 1), (b"P", 1), (b"XX", 2), (b"CR", 2), (end(0), 2), (proposal(1, 7) + end(0), 2),
+    (b"PR\2\7", 1),
+    # 8: no drive, one left out, one twice.
+    (proposal(0, 7), 8), (proposal(2, 7), 8), (proposal(1, 7) * 2, 8),
+    (proposal(1, 7) + proposal(3, 7) + b"XX", 8),
+]
+
+# The records behind case B's pattern numbers, and the refusal.
+BEHIND = [
+    # A PR after drive n's, even when cut.
+    (proposal(7, 1), 2), (b"PR", 2), (b"P", 1),
+    (b"", 1), (b"CR\0\0", 1), (b"FR", 2),
+    # 8: outside 1 to n, or not above the last; before 9 and 10.
+    (crash(0, 0, 9), 8), (crash(7, 0, 9), 8), (crash(2, 1, 0) + crash(2, 0, 9), 8),
+    (crash(2, 1, 0) + crash(1, 1, 0), 8),
+    # 9: outside 1 to the core's size; before 10.
+    (crash(2, 0, 9), 9), (crash(2, 4, 9), 9), (crash(2, 3, 0) + end(1), 0),
+    # 10: a core drive, a listener.
+    (crash(2, 1, 6), 10), (crash(2, 1, 5) + end(1), 0), (crash(4, 1, 1), 10),
+    (crash(4, 1, 0) + end(1), 0),
+    # The count cut, then 6, 7, 11; case G is the last but one.
+    (b"EN", 1), (end(0), 0), (end(1) + b"\0", 6), (crash(2, 1, 0) + end(0), 6),
+    (end(0) + b"\0", 7), (crash(1, 1, 0) + crash(2, 1, 0) + crash(3, 1, 0) + end(3) * 2, 7),
+    (crash(1, 1, 0) + crash(2, 1, 0) + crash(3, 1, 0) + end(3), 11),
+    (crash(1, 1, 0) + crash(2, 1, 0) + crash(6, 1, 0) + end(3), 11),
+]
+
+# The run files of the marked cases B, D, E, F and J, and what they say.
+SAID: list[tuple[int, list[int], bytes, list[int], list[Crash]]] = [
+    (6, A_SETS, PROPOSALS + crash(2, 1, 1) + end(1), PATTERNS, [Crash(2, 1, 1)]),
+    (6, A_SETS, PROPOSALS + crash(2, 1, 0) + end(1), PATTERNS, [Crash(2, 1, 0)]),
+    (6, A_SETS, PROPOSALS + crash(2, 1, 3) + end(1), PATTERNS, [Crash(2, 1, 3)]),
+    (6, A_SETS, PROPOSALS + crash(1, 1, 0) + crash(2, 2, 0) + end(2), PATTERNS,
+     [Crash(1, 1, 0), Crash(2, 2, 0)]),
+    (1, [1], proposal(1, 4) + end(0), [4], []),
+]
+
+
+def refused_runs() -> Iterator[RunSample]:
+    yield from ON_TABLES
+    yield from ((6, A_SETS, data, due) for data, due in ON_A)
+    yield from ((6, A_SETS, PROPOSALS + data, due) for data, due in BEHIND)
+
+
+def run_samples() -> Iterator[bytes]:
+    """The tables and run files of all samples, for the run program."""
+    for n, sets, data, *_ in (*refused_runs(), *SAID):
+        yield table(n, sets) + data
