@@ -1,28 +1,33 @@
--- The instance of a valid scenario is lawful: this is where the order of the sends matters. And what the statements count and name, in terms
--- of the instance: the core's size, f, the drives that stay up, and the core drive that an untouched survivor set gives.
-use mathlib.Core.Path.{_≡_, sym, ap, _∙_, fun-ext}
+-- The instance of a valid scenario is lawful, which is where the order of the sends matters, and meets the bounds of an exchange. And what the
+-- statements count and name, in terms of the instance: the core's size, f, the drives that stay up, and the core drive that an untouched
+-- survivor set gives.
+use mathlib.Core.Path.{_≡_, sym, ap, _∙_, subst, fun-ext}
 use mathlib.Core.Bool.{Bool, true, not, _&&_, Bool·not-not}
 use mathlib.Core.List.{List}
-use Prim.Native.Nat.{ℕ, suc}
+use Prim.Native.Nat.{ℕ, suc, _<_}
+use native.Mathlib.Nat.{lt-of-lt-of-le}
+use lib.Pow.{pow-mono}
 use lib.ListN.{length}
 use borrow.Author.Tests.{not-true}
-use Rattle.drive_sets.specs.Lists.{range, keep, elem}
+use Rattle.drive_sets.specs.Lists.{range, filter, elem}
 use Rattle.drive_sets.specs.Lists.Laws.{some-elem}
-use Rattle.drive_sets.specs.Lists.Takes.{keep-keep}
+use Rattle.drive_sets.specs.Lists.Takes.{filter-filter}
 use Rattle.drive_sets.specs.Masks.{has, size}
 use Rattle.drive_sets.specs.Masks.Laws.{meets-has}
 use Rattle.drive_sets.specs.Masks.Frames.{has-range, drives-frame, size-frame}
+use Rattle.drive_sets.specs.Masks.Tests.{setOf, setOf-drives}
 use Rattle.tables.specs.Tables.{chosen}
 use Rattle.tables.specs.Tables.Laws.{Accepted, ChosenCore, table-accepted, chosen-core, sets-below}
-use Rattle.drive_states.specs.State.Laws.{isDrive-range}
+use Rattle.drive_sets.specs.Counts.Laws.{isDrive-range}
 use Rattle.set_orders.specs.Order.{normal}
 use Rattle.sync_crash.specs.Rounds.{InFrame, Lawful, StaysUp, failures}
 use Rattle.runs.specs.Scenario.{Crash, stays, Scenario, frame, coreOf, goneBy, hasCrash}
 use Rattle.agreement.specs.Sends.{listOf, reach}
 use Rattle.runs.specs.Scenario.Laws.{no-crash-stays, gone-later}
-use Rattle.agreement.proofs.SendLists.{cut-up, in-listOf, cut-core}
+use Rattle.agreement.proofs.SendLists.{cut-up, in-listOf, reach-core}
 use Rattle.agreement.specs.Instance.{instanceOf, correct}
 use Rattle.runs.specs.Statement.{Valid, Untouched, Up, coreCrashes}
+use Rattle.agreement.proofs.States.{Bounded}
 
 -- ---- an accepted table
 
@@ -58,21 +63,41 @@ module _ {s : Scenario} (ok : Valid s) where
     in-frame = λ {d} h. core-frame d h;
     no-return = λ {k} {d} h. ap not (gone-later (s .crash d) k (not-true _ h));
     full-reach = λ {k} {d} {e} c h f ne. ap (elem e) (cut-up (s .crash d) (suc k) (listOf s d) (not-true _ h)) ∙ in-listOf s d e f ne;
-    core-first = λ {k} {d} {e} {c} h l i ne. cut-core s d (s .crash d) (suc k) e c (core-frame c i) h l i ne;
+    core-first = λ {k} {d} {e} {c} h l i ne. reach-core s d (suc k) e c (core-frame c i) h l i ne;
   }
+
+  -- ---- the bounds of an exchange
+
+  pub core-mask : setOf (λ d. has d (coreOf s)) ≡ coreOf s
+  core-mask = setOf-drives (coreOf s) (lt-of-lt-of-le (valid-core .within) (pow-mono {i = s .n} {j = 64} (valid-accepted .high)))
+
+  pub bounded : Bounded (instanceOf s)
+  unfolding coreOf
+  bounded =
+      let d = some-core-drive (s .n) (s .sets) valid-accepted in
+      record {
+        low = valid-accepted .low;
+        high = valid-accepted .high;
+        core-drive = d .0;
+        in-core = d .1;
+        patterns = λ d f. ok .patterns d (isDrive-range (s .n) d ∙ f);
+      }
+
+  pub core-round : {k : ℕ} → k < size (coreOf s) → k < size (setOf (instanceOf s .core))
+  core-round {k} h = subst (λ (m : ℕ). k < size m) (sym core-mask) h
 
   -- ---- sizes
 
-  pub core-size : size (coreOf s) ≡ length (keep (λ d. has d (coreOf s)) (range 1 (s .n)))
+  pub core-size : size (coreOf s) ≡ length (filter (λ d. has d (coreOf s)) (range 1 (s .n)))
   core-size = size-frame (s .n) (coreOf s) (valid-core .within) (valid-accepted .high)
 
   -- f
   pub crashes-failures : coreCrashes s ≡ failures (instanceOf s) (correct s)
   unfolding coreCrashes
   crashes-failures =
-      ap length (ap (keep (λ d. hasCrash (s .crash d))) (drives-frame (s .n) (coreOf s) (valid-core .within) (valid-accepted .high))
-      ∙ (keep-keep (λ d. hasCrash (s .crash d)) (λ d. has d (coreOf s)) (range 1 (s .n))
-      ∙ ap (λ (p : ℕ → Bool). keep p (range 1 (s .n))) (fun-ext (λ d. ap (λ (b : Bool). has d (coreOf s) && b) (sym (Bool·not-not (hasCrash (s .crash d))))))))
+      ap length (ap (filter (λ d. hasCrash (s .crash d))) (drives-frame (s .n) (coreOf s) (valid-core .within) (valid-accepted .high))
+      ∙ (filter-filter (λ d. hasCrash (s .crash d)) (λ d. has d (coreOf s)) (range 1 (s .n))
+      ∙ ap (λ (p : ℕ → Bool). filter p (range 1 (s .n))) (fun-ext (λ d. ap (λ (b : Bool). has d (coreOf s) && b) (sym (Bool·not-not (hasCrash (s .crash d))))))))
 
   -- ---- where a survivor set is untouched, a drive of the core stays up
 
@@ -89,12 +114,9 @@ module _ (s : Scenario) where
   unfolding hasCrash
   stay-correct d h = ap (λ (c : Crash). not (hasCrash c)) h
 
-  pub correct-stay : (d : ℕ) → correct s d ≡ true → s .crash d ≡ stays
-  correct-stay d h = no-crash-stays (s .crash d) (not-true _ h)
-
   pub correct-staysUp : (d : ℕ) → correct s d ≡ true → StaysUp (instanceOf s) d
   unfolding goneBy
-  correct-staysUp d h k = ap (λ (c : Crash). not (goneBy c k)) (correct-stay d h)
+  correct-staysUp d h k = ap (λ (c : Crash). not (goneBy c k)) (no-crash-stays (s .crash d) (not-true _ h))
 
   pub up-inFrame : {d : ℕ} → Up s d → InFrame (instanceOf s) d
   up-inFrame {d} u = sym (isDrive-range (s .n) d) ∙ u .inFrame

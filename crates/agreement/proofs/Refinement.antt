@@ -1,5 +1,5 @@
 -- A run follows the abstract rounds (section 4 of docs/AGREEMENT.md, "Refinement"): what the world is when a round begins, and what it is, with
--- the book, at any time in the round's part. Each is stated as equality with a state that the abstract rounds give.
+-- the round's progress, at any time in its part. Each is stated as equality with a state that the abstract rounds give.
 use mathlib.Core.Path.{_≡_}
 use mathlib.Core.Bool.{Bool, true, false, _||_, cond}
 use mathlib.Core.Logic.{_⊎_}
@@ -7,22 +7,19 @@ use Prim.Native.Nat.{ℕ, suc, _<_}
 use Rattle.drive_sets.specs.Masks.{has, size}
 use Rattle.agreement.specs.Calls.{decisionOn, next}
 use Rattle.sync_crash.specs.Rounds.{InFrame, reaches, after, decision, halted}
-use Rattle.sync_crash.specs.Rounds.Steps.{Active, Sender, Closer}
+use Rattle.sync_crash.specs.Rounds.Steps.{Active, Sender}
 use Rattle.runs.specs.World.{Call, opened, World, active, decisionOf}
 use Rattle.agreement.specs.Document01.{refusedIn, due, noted}
 use Rattle.runs.specs.Scenario.{Scenario, coreOf}
-use Rattle.runs.specs.Runs.{Sent, pending, wrote, Book, isCalled}
+use Rattle.runs.specs.Runs.{Sent, pending, wrote, RoundProgress, isCalled}
 use Rattle.agreement.specs.Instance.{instanceOf}
 use Rattle.agreement.proofs.States.{stateOf, messageOf}
-pub mod Bounds
 pub mod Opening
 pub mod Participants
-pub mod Sends
-pub mod Messages
-pub mod Closes
+pub mod Calls
 pub mod Parts
-pub mod Decisions
 pub mod Runs
+pub mod CanonicalRounds
 pub mod Canonical
 pub mod Endings
 
@@ -51,12 +48,11 @@ module _ (s : Scenario) (k : ℕ) where
     pub written : sent d ≡ wrote (messageOf (instanceOf s) k d)
 
   -- e has closed, after its own send and all messages to it
-  pub record HasClosed (b : Book) (e : ℕ) : Type 0 where
-    pub closer : Closer (instanceOf s) k e
+  pub record HasClosed (b : RoundProgress) (e : ℕ) : Type 0 where
     pub all-came : (d : ℕ) → reachesIn d e ≡ true → b .delivered d e ≡ true
     pub own-sent : has e (coreOf s) ≡ true → isCalled (b .sent e) ≡ true
 
-  pub record Follows (w₀ : World) (b : Book) (w : World) : Type 0 where
+  pub record Follows (w₀ : World) (b : RoundProgress) (w : World) : Type 0 where
     pub sent : (d : ℕ) → (b .sent d ≡ pending) ⊎ HasSent (b .sent) d
     pub delivered : (d e : ℕ) → b .delivered d e ≡ true → reachesIn d e ≡ true
     pub closed : (e : ℕ) → b .closed e ≡ true → HasClosed b e
@@ -66,10 +62,10 @@ module _ (s : Scenario) (k : ℕ) where
 
   -- ---- one call of the part
 
-  -- whether it may stand there, being due or refused, and the book after it
+  -- whether it may stand there, being due or refused, and the progress after it
   module _ (w₀ : World) where
-    abbrev pub allowed : Book → World → Call → Bool
+    abbrev pub allowed : RoundProgress → World → Call → Bool
     allowed b w c = due s (suc k) w₀ b w c || refusedIn w c
 
-    abbrev pub bookAfter : Book → World → Call → Book
-    bookAfter b w c = cond (due s (suc k) w₀ b w c) (noted s (suc k) w₀ b w c) b
+    abbrev pub progressAfter : RoundProgress → World → Call → RoundProgress
+    progressAfter b w c = cond (due s (suc k) w₀ b w c) (noted s (suc k) w₀ b w c) b

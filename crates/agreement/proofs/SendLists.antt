@@ -9,9 +9,9 @@ use native.Mathlib.Omega.{arith}
 use lib.Dec.{eqb}
 use lib.ListN.{take}
 use borrow.Author.Tests.{eq-eqb, ne-eqb, le-leb, not-true}
-use Rattle.drive_sets.specs.Bools.{clash, by-test, false-of, and-intro, and-left, and-right, cond-false}
-use Rattle.drive_sets.specs.Lists.{keep, elem, distinct}
-use Rattle.drive_sets.specs.Lists.Laws.{elem-append-left, elem-append-right, elem-append-cases, elem-keep}
+use Rattle.drive_sets.specs.Bools.{clash, by-test, false-of, and-intro, and-left, and-right}
+use Rattle.drive_sets.specs.Lists.{filter, elem, distinct}
+use Rattle.drive_sets.specs.Lists.Laws.{elem-append-left, elem-append-right, elem-append-cases, elem-filter}
 use Rattle.drive_sets.specs.Lists.Distinct.{distinct-append}
 use Rattle.drive_sets.specs.Lists.Takes.{elem-take, take-past, distinct-take}
 use Rattle.drive_sets.specs.Masks.{has}
@@ -19,99 +19,82 @@ use Rattle.runs.specs.Scenario.{Crash, stays, crashes, Scenario, frame, coreOf,
 use Rattle.runs.specs.Scenario.Laws.{kept-distinct}
 use Rattle.agreement.specs.Sends.{listOf, cut, reach}
 
-cut-elem : (c : Crash) (r e : ℕ) (l : List ℕ) → elem e (cut c r l) ≡ true → elem e l ≡ true
+-- what holds of a list and of its first parts holds of how far it gets
+cut-keeps : (K : List ℕ → Type 0) (c : Crash) (r : ℕ) (l : List ℕ) → K l → ((m : ℕ) → K (take m l)) → K (cut c r l)
 unfolding cut
-cut-elem stays r e l h = h
-cut-elem (crashes q m) r e l h = by-test (eqb q r) (λ t. elem-take e m l (rw t at h)) (λ t. rw t at h)
+cut-keeps K stays r l whole part = whole
+cut-keeps K (crashes q m) r l whole part = by-test (eqb q r) (λ t. rw t (part m)) (λ t. rw t whole)
 
 -- a drive with no CR up to the round gets through its list
 pub cut-up : (c : Crash) (r : ℕ) (l : List ℕ) → goneBy c r ≡ false → cut c r l ≡ l
 unfolding cut goneBy
 cut-up stays r l h = refl
-cut-up (crashes q m) r l h = cond-false _ _ (ne-eqb q r (λ e. clash (le-leb q r (omega arith)) h))
+cut-up (crashes q m) r l h = rw (ne-eqb q r (λ e. clash (le-leb q r (omega arith)) h))
 
 -- ---- the list of a sender
 
 module _ (s : Scenario) (d : ℕ) where
   -- the other core drives, which come first, and the listeners
   abbrev toCore : List ℕ
-  toCore = keep (λ e. has e (coreOf s) && not (eqb e d)) (frame s)
+  toCore = filter (λ e. has e (coreOf s) && not (eqb e d)) (frame s)
 
   abbrev toListeners : List ℕ
-  toListeners = keep (λ e. not (has e (coreOf s))) (frame s)
+  toListeners = filter (λ e. not (has e (coreOf s))) (frame s)
 
   in-toCore : (e : ℕ) → elem e (frame s) ≡ true → has e (coreOf s) ≡ true → e ≢ d → elem e toCore ≡ true
-  in-toCore e f c ne = elem-keep _ e (frame s) ∙ and-intro f (and-intro c (ap not (ne-eqb e d ne)))
+  in-toCore e f c ne = elem-filter _ e (frame s) ∙ and-intro f (and-intro c (ap not (ne-eqb e d ne)))
 
   toCore-core : (e : ℕ) → elem e toCore ≡ true → has e (coreOf s) ≡ true
-  toCore-core e h = and-left (has e (coreOf s)) _ (and-right (elem e (frame s)) _ (sym (elem-keep _ e (frame s)) ∙ h))
-
-  -- a first part of the list that has a listener has all the other core drives
-  take-core : (m e c : ℕ) → elem c (frame s) ≡ true → elem e (take m (listOf s d)) ≡ true → has e (coreOf s) ≡ false → has c (coreOf s) ≡ true → c ≢ d
-      → elem c (take m (listOf s d)) ≡ true
-  unfolding listOf
-  take-core m e c f h l i ne =
-      take-past e c m toCore toListeners h (false-of (elem e toCore) (λ t. clash (toCore-core e t) l)) (in-toCore c f i ne)
+  toCore-core e h = and-left (has e (coreOf s)) _ (and-right (elem e (frame s)) _ (sym (elem-filter _ e (frame s)) ∙ h))
 
   pub in-listOf : (e : ℕ) → elem e (frame s) ≡ true → e ≢ d → elem e (listOf s d) ≡ true
   unfolding listOf
   in-listOf e f ne =
       by-test (has e (coreOf s))
       (λ c. elem-append-left e toCore toListeners (in-toCore e f c ne))
-      (λ c. elem-append-right e toCore toListeners (elem-keep _ e (frame s) ∙ and-intro f (ap not c)))
+      (λ c. elem-append-right e toCore toListeners (elem-filter _ e (frame s) ∙ and-intro f (ap not c)))
 
   listOf-frame : (e : ℕ) → elem e (listOf s d) ≡ true → elem e (frame s) ≡ true
   unfolding listOf
   listOf-frame e h =
       ⊎-elim
-      (λ t. and-left (elem e (frame s)) _ (sym (elem-keep _ e (frame s)) ∙ t))
-      (λ t. and-left (elem e (frame s)) _ (sym (elem-keep _ e (frame s)) ∙ t))
+      (λ t. and-left (elem e (frame s)) _ (sym (elem-filter _ e (frame s)) ∙ t))
+      (λ t. and-left (elem e (frame s)) _ (sym (elem-filter _ e (frame s)) ∙ t))
       (elem-append-cases e toCore toListeners h)
 
   listOf-other : has d (coreOf s) ≡ true → elem d (listOf s d) ≡ false
   unfolding listOf
   listOf-other c =
       false-of (elem d (listOf s d)) (λ h. ⊎-elim
-      (λ t. clash (eq-eqb d d refl) (not-true (eqb d d) (and-right (has d (coreOf s)) _ (and-right (elem d (frame s)) _ (sym (elem-keep _ d (frame s)) ∙ t)))))
-      (λ t. clash c (not-true (has d (coreOf s)) (and-right (elem d (frame s)) _ (sym (elem-keep _ d (frame s)) ∙ t))))
+      (λ t. clash (eq-eqb d d refl) (not-true (eqb d d) (and-right (has d (coreOf s)) _ (and-right (elem d (frame s)) _ (sym (elem-filter _ d (frame s)) ∙ t)))))
+      (λ t. clash c (not-true (has d (coreOf s)) (and-right (elem d (frame s)) _ (sym (elem-filter _ d (frame s)) ∙ t))))
       (elem-append-cases d toCore toListeners h))
-
-  pub cut-core : (x : Crash) (r e c : ℕ) → elem c (frame s) ≡ true → elem e (cut x r (listOf s d)) ≡ true → has e (coreOf s) ≡ false → has c (coreOf s) ≡ true → c ≢ d
-      → elem c (cut x r (listOf s d)) ≡ true
-  unfolding cut
-  cut-core stays r e c f h l i ne = in-listOf c f ne
-  cut-core (crashes q m) r e c f h l i ne =
-      by-test (eqb q r)
-      (λ t. rw t (first (rw t at h)))
-      (λ t. rw t (in-listOf c f ne))
-    where
-      first : elem e (take m (listOf s d)) ≡ true → elem c (take m (listOf s d)) ≡ true
-      first h = take-core m e c f h l i ne
 
   listOf-distinct : distinct (listOf s d) ≡ true
   unfolding listOf
   listOf-distinct =
       distinct-append toCore toListeners (kept-distinct s _) (kept-distinct s _)
-      (λ x a b. clash (toCore-core x a) (not-true _ (and-right (elem x (frame s)) _ (sym (elem-keep _ x (frame s)) ∙ b))))
-
-  cut-distinct : (x : Crash) (r : ℕ) → distinct (cut x r (listOf s d)) ≡ true
-  unfolding cut
-  cut-distinct stays r = listOf-distinct
-  cut-distinct (crashes q m) r =
-      by-test (eqb q r)
-      (λ t. rw t (distinct-take m (listOf s d) listOf-distinct))
-      (λ t. rw t listOf-distinct)
+      (λ x a b. clash (toCore-core x a) (not-true _ (and-right (elem x (frame s)) _ (sym (elem-filter _ x (frame s)) ∙ b))))
 
   -- ---- the drives that a sender reaches
 
+  -- who reaches a listener reaches all the other core drives, which come before it
+  pub reach-core : (r e c : ℕ) → elem c (frame s) ≡ true → elem e (reach s r d) ≡ true → has e (coreOf s) ≡ false → has c (coreOf s) ≡ true → c ≢ d → elem c (reach s r d) ≡ true
+  unfolding reach listOf
+  reach-core r e c f h l i ne =
+      cut-keeps (λ m. elem e m ≡ true → elem c m ≡ true) (s .crash d) r (listOf s d) (λ t. in-listOf c f ne)
+      (λ m t. take-past e c m toCore toListeners t (false-of (elem e toCore) (λ u. clash (toCore-core e u) l)) (in-toCore c f i ne)) h
+
   pub reach-distinct : (r : ℕ) → distinct (reach s r d) ≡ true
   unfolding reach
-  reach-distinct r = cut-distinct (s .crash d) r
+  reach-distinct r = cut-keeps (λ m. distinct m ≡ true) (s .crash d) r (listOf s d) listOf-distinct (λ m. distinct-take m (listOf s d) listOf-distinct)
+
+  reach-list : (r e : ℕ) → elem e (reach s r d) ≡ true → elem e (listOf s d) ≡ true
+  unfolding reach
+  reach-list r e = cut-keeps (λ m. elem e m ≡ true → elem e (listOf s d) ≡ true) (s .crash d) r (listOf s d) (λ h. h) (λ m. elem-take e m (listOf s d))
 
   pub reach-frame : (r e : ℕ) → elem e (reach s r d) ≡ true → elem e (frame s) ≡ true
-  unfolding reach
-  reach-frame r e h = listOf-frame e (cut-elem (s .crash d) r e (listOf s d) h)
+  reach-frame r e h = listOf-frame e (reach-list r e h)
 
   pub reach-other : (r : ℕ) → has d (coreOf s) ≡ true → elem d (reach s r d) ≡ false
-  unfolding reach
-  reach-other r c = false-of (elem d (reach s r d)) (λ h. clash (cut-elem (s .crash d) r d (listOf s d) h) (listOf-other c))
+  reach-other r c = false-of (elem d (reach s r d)) (λ h. clash (reach-list r d h) (listOf-other c))

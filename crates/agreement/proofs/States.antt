@@ -24,9 +24,6 @@ pub mod Announcements
 pub mod KnownSets
 pub mod Rules
 pub mod Sending
-pub mod Incoming
-pub mod ReceivingKnown
-pub mod ReceivingDecide
 pub mod Receiving
 pub mod Closing
 

@@ -1,14 +1,13 @@
 -- Demand 3 on whole lists of calls, for every accepted table: agreement by round f + 1 in every run of a scenario with an untouched survivor
 -- set; that every run of a scenario gives what the rules give, and so the same as every other; that there is one; and that round f + 1 is
 -- needed.
-use mathlib.Core.Path.{_≡_, sym, ap, _∙_, subst}
+use mathlib.Core.Path.{_≡_, sym, ap, _∙_}
 use mathlib.Core.Bool.{true}
 use mathlib.Core.List.{List}
 use Prim.Native.Nat.{ℕ, zero, suc, _<_}
 use native.Mathlib.Omega.{arith}
 use Rattle.drive_sets.specs.Masks.{has, size}
 use Rattle.agreement.specs.Calls.{decisionOn}
-use Rattle.sync_crash.specs.Rounds.{DecidesIn}
 use Rattle.sync_crash.specs.Rounds.Agreement as rounds
 use Rattle.sync_crash.specs.Rounds.Agreement.{failures-below-core}
 use Rattle.runs.specs.World.{Call}
@@ -18,7 +17,7 @@ use Rattle.agreement.specs.Instance.{instanceOf, correct}
 use Rattle.runs.specs.Statement.{Valid, Up, coreCrashes, Decides, Agreed, Agreement, Tight, RunsExist, SameResult}
 use Rattle.agreement.specs.Canonical.{canonical}
 use Rattle.agreement.proofs.Instances.{lawful, core-size, crashes-failures, untouched-core, stay-correct, correct-staysUp, up-inFrame, up-correct}
-use Rattle.agreement.proofs.Tight.Laws.{tight-rounds}
+use Rattle.agreement.proofs.Tight.{bound-reached}
 use Rattle.agreement.proofs.Refinement.Canonical.{canonical-run}
 use Rattle.agreement.proofs.Refinement.Runs.{final-decision, rounds-decide, decides-rounds}
 
@@ -85,21 +84,4 @@ runs-exist s ok = (canonical s, canonical-run ok)
 
 pub tight : Tight document01
 unfolding Tight
-tight n sets accepted proposal patterns f few =
-    let r = tight-rounds n sets accepted proposal patterns f few in
-    record {
-      scenario = r .scenario;
-      frameIs = r .frameIs;
-      setsAre = r .setsAre;
-      proposalIs = r .proposalIs;
-      valid = r .valid;
-      untouched = r .untouched;
-      many = r .many;
-      calls = canonical (r .scenario);
-      run = canonical-run (r .valid);
-      drive = r .drive;
-      up = r .up;
-      value = r .value;
-      decides = rounds-decide (r .valid) (canonical-run (r .valid)) (r .drive) (r .value) (coreCrashes (r .scenario))
-          (crashes-below (r .valid) (r .drive) (r .inCore) (r .up .stay)) (subst (DecidesIn (instanceOf (r .scenario)) (r .drive) (r .value)) (sym (r .many)) (r .decides));
-    }
+tight n sets accepted proposal patterns f few = bound-reached n sets accepted proposal patterns f few

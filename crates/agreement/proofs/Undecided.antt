@@ -1,27 +1,28 @@
 -- A drive is undecided exactly if its closes so far left it undecided: only a close decides, and in a run nothing undoes a decision.
 use mathlib.Core.Path.{_≡_, refl, sym, ap, _∙_, subst}
-use mathlib.Core.Bool.{true, false, not, _&&_, _||_, false≢true}
+use mathlib.Core.Bool.{Bool, true, false, not, _||_}
 use mathlib.Core.Logic.{⊎-elim}
 use mathlib.Core.List.{List, [], _∷_, _++_, append-assoc}
 use Prim.Native.Nat.{ℕ, zero, suc}
-use lib.Dec.{eqb}
 use lib.ListN.{take, drop, getD}
-use borrow.Author.Tests.{not-true}
-use Rattle.drive_sets.specs.Bools.{clash, and-intro, and-left, and-right, or-cases, or-right, false-of}
-use Rattle.drive_sets.specs.Refusals.{Outcome, refused, result}
+use borrow.Author.Tests.{eq-eqb, not-true}
+use Rattle.drive_sets.specs.Bools.{clash, by-test, and-intro, and-left, and-right, or-second, or-cases, or-right, false-of}
+use Rattle.drive_sets.specs.Refusals.{result}
 use Rattle.drive_states.specs.declared.Exchange.{Exchange}
+use Rattle.drive_states.specs.declared.Announcement.{Announcement}
 use Rattle.drive_states.specs.declared.Decision.{Decision}
 use Rattle.drive_states.specs.declared.Decision.the-variants.{Undecided, Decided}
 use Rattle.drive_states.specs.State.{isDecided}
-use Rattle.agreement.specs.Calls.{opening, receiving, closing}
-use Rattle.agreement.proofs.CallResults.{OnResult, IsUndecided, opening-undecided, SameDecision, receiving-keeps, IsDecided, closing-keeps}
-use Rattle.runs.specs.World.{Call, opens, sends, delivers, closes, Slot, unopened, opened, World, nothingOpen, afterCall, onState, isRefused, decisionOf}
-use Rattle.agreement.specs.Document01.{document01, apply, applyAll, Run, leaveUndecided}
+use Rattle.agreement.specs.Calls.{initial, receiving, accept, decide, decisionAfter, next}
+use Rattle.agreement.proofs.CallLaws.{opened-initial, closed-next, received}
+use Rattle.runs.specs.World.{Call, opens, driveOf, Slot, opened, World, nothingOpen, decisionOf}
+use Rattle.agreement.specs.Document01.{document01, apply, applyAll, refusedIn, openingPart, due, roundPart, roundParts, Run, leaveUndecided}
 use Rattle.runs.specs.World as worlds
-use Rattle.runs.specs.World.Laws.{put-other, put-cases}
+use Rattle.runs.specs.World.Laws.{Gives, by-opening, by-message, by-close, call-keeps, refused-keeps}
 use Rattle.runs.specs.Scenario.{Scenario}
-use Rattle.runs.specs.Runs.{joined}
-use Rattle.runs.specs.Runs.Laws.{isOpen, reopens, opensOnce, run-opensOnce, opensOnce-before}
+use Rattle.runs.specs.Runs.{dueOpening, RoundProgress, nothingYet, joined}
+use Rattle.runs.specs.Runs as anyRuns
+use Rattle.runs.specs.Runs.Laws.{due-opens, doneAfter, NotYet, not-yet}
 use Rattle.runs.specs.Statement.{isCloseOf, partAt, callsBefore}
 use Rattle.runs.specs.Statement as statements
 
@@ -34,98 +35,130 @@ HasDecided slot = isDecided (decisionOf slot) ≡ true
 undecided-is : (o : Decision) → isDecided o ≡ false → o ≡ Undecided
 unfolding isDecided
 undecided-is Undecided h = refl
-undecided-is (Decided v) h = absurd (false≢true (sym h))
+undecided-is (Decided v) h = absurd (clash refl h)
+
+message-same : {slot : Slot} {x y : Exchange} (bytes : List ℕ) → slot ≡ opened x → receiving x bytes ≡ result y → y .decision ≡ decisionOf slot
+unfolding accept decisionOf
+message-same {x = x} bytes there q = ap (λ (z : Exchange). z .decision) (received x bytes q .2) ∙ sym (ap decisionOf there)
 
 -- ---- only a close decides
 
-opened-undecided : (slot : Slot) (o : Outcome Exchange) → NotDecided slot → OnResult IsUndecided o → NotDecided (afterCall slot o)
-unfolding afterCall decisionOf
-opened-undecided slot (refused r) h p = h
-opened-undecided slot (result x) h p = p
+module _ (d : ℕ) where
+  given-undecided : {w : World} {c : Call} {y : Exchange} → Gives document01 w d c y → isCloseOf d c ≡ false → NotDecided (w d) → y .decision ≡ Undecided
+  unfolding isCloseOf initial
+  given-undecided (by-opening {n} {sets} {own} {number} q) i h = ap (λ (z : Exchange). z .decision) (opened-initial n sets own number q .1)
+  given-undecided (by-message {bytes = bytes} there q) i h = message-same bytes there q ∙ h
+  given-undecided (by-close there q) i h = absurd (clash (eq-eqb d d refl) i)
 
-message-keeps : (x : Exchange) (s : List ℕ) (o : Outcome Exchange) → OnResult (SameDecision x s) o → decisionOf (afterCall (opened x) o) ≡ x .decision
-unfolding afterCall decisionOf
-message-keeps x s (refused r) p = refl
-message-keeps x s (result y) p = p
+  step-undecided : (w : World) (c : Call) → NotDecided (w d) → (not (isCloseOf d c) || not (isDecided (decisionOf (apply w c d)))) ≡ true → NotDecided (apply w c d)
+  unfolding decisionOf
+  step-undecided w c h t =
+      by-test (isCloseOf d c)
+      (λ i. undecided-is _ (not-true _ (or-second _ _ (ap not i) ∙ t)))
+      (λ i. call-keeps document01 NotDecided w c d h (λ y g. given-undecided g i h))
 
-message-same : (s : List ℕ) (slot : Slot) → decisionOf (onState (λ x. receiving x s) slot) ≡ decisionOf slot
-unfolding onState decisionOf
-message-same s unopened = refl
-message-same s (opened x) = message-keeps x s (receiving x s) (receiving-keeps x s)
+  undecided-now : (w : World) (calls : List Call) → NotDecided (w d) → leaveUndecided d w calls ≡ true → NotDecided (applyAll w calls d)
+  unfolding statements.leaveUndecided worlds.applyAll
+  undecided-now w [] h t = h
+  undecided-now w (c ∷ cs) h t =
+      let first = not (isCloseOf d c) || not (isDecided (decisionOf (apply w c d))) in
+      undecided-now (apply w c) cs (step-undecided w c h (and-left first _ t)) (and-right first _ t)
 
-step-undecided : (d : ℕ) (w : World) (c : Call) → NotDecided (w d)
-    → (not (isCloseOf d c) || not (isDecided (decisionOf (apply w c d)))) ≡ true → NotDecided (apply w c d)
-unfolding worlds.apply isCloseOf
-step-undecided d w (opens e n sets own number) h t =
-    put-cases w e _ NotDecided d (λ is. opened-undecided (w e) (opening n sets own number) (subst (λ (y : ℕ). NotDecided (w y)) is h) (opening-undecided n sets own number)) h
-step-undecided d w (sends e room start) h t = h
-step-undecided d w (delivers e bytes) h t =
-    put-cases w e _ NotDecided d (λ is. message-same bytes (w e) ∙ subst (λ (y : ℕ). NotDecided (w y)) is h) h
-step-undecided d w (closes e) h t =
+  -- the closes so far left the drive undecided, so it is undecided
+  pub undecided-so-far : (calls : List Call) → leaveUndecided d nothingOpen calls ≡ true → NotDecided (applyAll nothingOpen calls d)
+  unfolding nothingOpen decisionOf
+  undecided-so-far calls t = undecided-now nothingOpen calls refl t
+
+-- ---- nothing undoes a decision
+
+-- no call of the list does
+abbrev Lasting : World → List Call → Type 0
+Lasting w [] = Unit {0}
+Lasting w (c ∷ cs) = ((d : ℕ) → HasDecided (w d) → HasDecided (apply w c d)) × Lasting (apply w c) cs
+
+lasting-append : (w : World) (a b : List Call) → Lasting w a → Lasting (applyAll w a) b → Lasting w (a ++ b)
+unfolding worlds.applyAll
+lasting-append w [] b p q = q
+lasting-append w (c ∷ a) b p q = (p .0, lasting-append (apply w c) a b (p .1) q)
+
+lasting-before : (w : World) (a b : List Call) → Lasting w (a ++ b) → Lasting w a
+lasting-before w [] b p = tt
+lasting-before w (c ∷ a) b p = (p .0, lasting-before (apply w c) a b (p .1))
+
+decide-keeps : (x : Exchange) (decision : Decision) (announced : Announcement) → isDecided decision ≡ true → isDecided (decide x decision announced) ≡ true
+unfolding isDecided decide
+decide-keeps x Undecided announced h = absurd (clash h refl)
+decide-keeps x (Decided v) announced h = refl
+
+-- a call that opens no decided drive undoes no decision
+given-decided : {w : World} {c : Call} {d : ℕ} {y : Exchange} → Gives document01 w d c y
+    → ((n : ℕ) (sets : List ℕ) (own number : ℕ) → c ≡ opens d n sets own number → ⊥) → HasDecided (w d) → isDecided (y .decision) ≡ true
+unfolding next decisionAfter decisionOf
+given-decided (by-opening {n} {sets} {own} {number} q) none h = absurd (none n sets own number refl)
+given-decided (by-message {bytes = bytes} there q) none h = ap isDecided (message-same bytes there q) ∙ h
+given-decided (by-close {x} there q) none h =
+    ap (λ (z : Exchange). isDecided (z .decision)) (closed-next x q)
+    ∙ decide-keeps x (x .decision) (x .announced) (sym (ap (λ (z : Slot). isDecided (decisionOf z)) there) ∙ h)
+
+call-lasts : (w : World) (c : Call) (is-due : Bool) → (is-due || refusedIn w c) ≡ true
+    → (is-due ≡ true → (d n : ℕ) (sets : List ℕ) (own number : ℕ) → HasDecided (w d) → c ≡ opens d n sets own number → ⊥)
+    → (d : ℕ) → HasDecided (w d) → HasDecided (apply w c d)
+unfolding decisionOf
+call-lasts w c is-due t none d h =
     ⊎-elim
-    (λ other. subst NotDecided (sym (put-other w e _ d (not-true (eqb d e) other))) h)
-    (λ left. undecided-is _ (not-true _ left))
-    (or-cases (not (eqb d e)) _ t)
+    (λ i. call-keeps document01 HasDecided w c d h (λ y g. given-decided g (λ n sets own number. none i d n sets own number h) h))
+    (λ r. ap (λ (z : Slot). isDecided (decisionOf z)) (refused-keeps document01 w c r d) ∙ h)
+    (or-cases is-due (refusedIn w c) t)
 
-undecided-now : (d : ℕ) (w : World) (calls : List Call) → NotDecided (w d) → leaveUndecided d w calls ≡ true → NotDecided (applyAll w calls d)
-unfolding statements.leaveUndecided worlds.applyAll
-undecided-now d w [] h t = h
-undecided-now d w (c ∷ cs) h t =
-    let first = not (isCloseOf d c) || not (isDecided (decisionOf (apply w c d))) in
-    let rest = leaveUndecided d (apply w c) cs in
-    undecided-now d (apply w c) cs (step-undecided d w c h (and-left first rest t)) (and-right first rest t)
+module _ (s : Scenario) where
+  round-lasts : (r : ℕ) (w₀ : World) (b : RoundProgress) (w : World) (cs : List Call) → roundPart s r w₀ b w cs ≡ true → Lasting w cs
+  unfolding anyRuns.roundPart anyRuns.due
+  round-lasts r w₀ b w [] t = tt
+  round-lasts r w₀ b w (c ∷ cs) t =
+      let now = due s r w₀ b w c || refusedIn w c in (
+        call-lasts w c (due s r w₀ b w c) (and-left now _ t) (λ i d n sets own number h is. clash (sym (ap (due s r w₀ b w) is) ∙ i) refl),
+        round-lasts r w₀ _ (apply w c) cs (and-right now _ t),
+      )
 
--- the closes so far left the drive undecided, so it is undecided
-pub undecided-so-far : (d : ℕ) (calls : List Call) → leaveUndecided d nothingOpen calls ≡ true → NotDecided (applyAll nothingOpen calls d)
-unfolding nothingOpen decisionOf
-undecided-so-far d calls t = undecided-now d nothingOpen calls refl t
+  rounds-last : (r : ℕ) (w : World) (ps : List (List Call)) → roundParts s r w ps ≡ true → Lasting w (joined ps)
+  unfolding anyRuns.roundParts joined
+  rounds-last r w [] t = tt
+  rounds-last r w (p ∷ ps) t =
+      let now = roundPart s r w nothingYet w p in
+      lasting-append w p (joined ps) (round-lasts r w nothingYet w p (and-left now _ t)) (rounds-last (suc r) (applyAll w p) ps (and-right now _ t))
 
--- ---- nothing undoes a decision, if no open drive is opened again
+  opening-lasts : (done : ℕ → Bool) (w : World) (cs : List Call) → NotYet done w → openingPart s done w cs ≡ true → Lasting w cs
+  unfolding anyRuns.openingPart decisionOf isDecided driveOf
+  opening-lasts done w [] none t = tt
+  opening-lasts done w (c ∷ cs) none t =
+      let now = dueOpening s done c || refusedIn w c in (
+        call-lasts w c (dueOpening s done c) (and-left now _ t) (λ i d n sets own number h is.
+            let o = due-opens s done c i in
+            clash (sym (ap (λ (z : Slot). isDecided (decisionOf z)) (none d (ap done (sym (ap driveOf is)) ∙ o .new))) ∙ h) refl),
+        opening-lasts (doneAfter s done c) (apply w c) cs (not-yet document01 s done w c none (and-left now _ t)) (and-right now _ t),
+      )
 
-opening-kept : (slot : Slot) (o : Outcome Exchange) → (isOpen slot && not (isRefused o)) ≡ false → HasDecided slot → HasDecided (afterCall slot o)
-unfolding isOpen isRefused afterCall decisionOf isDecided
-opening-kept unopened o e h = absurd (false≢true h)
-opening-kept (opened x) (refused r) e h = h
-opening-kept (opened x) (result y) e h = absurd (false≢true (sym e))
+run-lasts : {s : Scenario} {calls : List Call} → Run s calls → Lasting nothingOpen calls
+unfolding nothingOpen
+run-lasts {s} run =
+    subst (Lasting nothingOpen) (sym (run .whole))
+    (lasting-append nothingOpen (run .first) (joined (run .rounds)) (opening-lasts s (λ d. false) nothingOpen (run .first) (λ d h. refl) (run .opensAll))
+    (rounds-last s 1 (applyAll nothingOpen (run .first)) (run .rounds) (run .keepsRounds)))
 
-close-given : (x : Exchange) (o : Outcome Exchange) → OnResult IsDecided o → isDecided (x .decision) ≡ true → HasDecided (afterCall (opened x) o)
-unfolding afterCall decisionOf
-close-given x (refused r) p h = h
-close-given x (result y) p h = p
+module _ (d : ℕ) where
+  stays-decided : (w : World) (calls : List Call) → Lasting w calls → HasDecided (w d) → HasDecided (applyAll w calls d)
+  unfolding worlds.applyAll
+  stays-decided w [] t h = h
+  stays-decided w (c ∷ cs) t h = stays-decided (apply w c) cs (t .1) (t .0 d h)
 
-close-kept : (slot : Slot) → HasDecided slot → HasDecided (onState closing slot)
-unfolding onState decisionOf
-close-kept unopened h = h
-close-kept (opened x) h = close-given x (closing x) (closing-keeps x h) h
-
-step-decided : (d : ℕ) (w : World) (c : Call) → reopens document01 w c ≡ false → HasDecided (w d) → HasDecided (apply w c d)
-unfolding worlds.apply reopens
-step-decided d w (opens e n sets own number) r h =
-    put-cases w e _ HasDecided d (λ is. opening-kept (w e) (opening n sets own number) r (subst (λ (y : ℕ). HasDecided (w y)) is h)) h
-step-decided d w (sends e room start) r h = h
-step-decided d w (delivers e bytes) r h =
-    put-cases w e _ HasDecided d (λ is. ap isDecided (message-same bytes (w e)) ∙ subst (λ (y : ℕ). HasDecided (w y)) is h) h
-step-decided d w (closes e) r h = put-cases w e _ HasDecided d (λ is. close-kept (w e) (subst (λ (y : ℕ). HasDecided (w y)) is h)) h
-
-stays-decided : (d : ℕ) (w : World) (calls : List Call) → opensOnce document01 w calls ≡ true → HasDecided (w d) → HasDecided (applyAll w calls d)
-unfolding opensOnce worlds.applyAll
-stays-decided d w [] t h = h
-stays-decided d w (c ∷ cs) t h =
-    let first = not (reopens document01 w c) in
-    let rest = opensOnce document01 (apply w c) cs in
-    stays-decided d (apply w c) cs (and-right first rest t) (step-decided d w c (not-true _ (and-left first rest t)) h)
-
--- the drive is undecided, so the closes so far left it so
-left-undecided : (d : ℕ) (w : World) (calls : List Call) → opensOnce document01 w calls ≡ true → NotDecided (applyAll w calls d) → leaveUndecided d w calls ≡ true
-unfolding statements.leaveUndecided worlds.applyAll opensOnce isDecided
-left-undecided d w [] t h = refl
-left-undecided d w (c ∷ cs) t h =
-    let first = not (reopens document01 w c) in
-    let rest = opensOnce document01 (apply w c) cs in
-    let open-once = and-right first rest t in
-    and-intro
-    (or-right (not (isCloseOf d c)) (ap not (false-of _ (λ decided. clash (stays-decided d (apply w c) cs open-once decided) (ap isDecided h)))))
-    (left-undecided d (apply w c) cs open-once h)
+  -- the drive is undecided, so the closes so far left it so
+  left-undecided : (w : World) (calls : List Call) → Lasting w calls → NotDecided (applyAll w calls d) → leaveUndecided d w calls ≡ true
+  unfolding statements.leaveUndecided worlds.applyAll isDecided
+  left-undecided w [] t h = refl
+  left-undecided w (c ∷ cs) t h =
+      and-intro
+      (or-right (not (isCloseOf d c)) (ap not (false-of _ (λ decided. clash (stays-decided (apply w c) cs (t .1) decided) (ap isDecided h)))))
+      (left-undecided (apply w c) cs (t .1) h)
 
 -- ---- in a run
 
@@ -134,22 +167,16 @@ unfolding joined
 joined-at [] zero = refl
 joined-at [] (suc k) = refl
 joined-at (p ∷ ps) zero = refl
-joined-at (p ∷ ps) (suc k) =
-    ap (λ (l : List Call). p ++ l) (joined-at ps k) ∙ sym (append-assoc p (joined (take k ps)) (getD ps k [] ++ joined (drop (suc k) ps)))
+joined-at (p ∷ ps) (suc k) = ap (λ (l : List Call). p ++ l) (joined-at ps k) ∙ simp append-assoc
 
 module _ {s : Scenario} {calls : List Call} (run : Run s calls) (k : ℕ) (a b : List Call) (split : partAt run k ≡ a ++ b) where
   -- the list, taken apart within the part of round k + 1
-  pub calls-split : calls ≡ (callsBefore run k ++ a) ++ (b ++ joined (drop (suc k) (run .rounds)))
+  calls-split : calls ≡ (callsBefore run k ++ a) ++ (b ++ joined (drop (suc k) (run .rounds)))
   unfolding callsBefore partAt
-  calls-split =
-      run .whole
-      ∙ (ap (λ (l : List Call). run .first ++ l)
-      (joined-at (run .rounds) k ∙ ap (λ (l : List Call). joined (take k (run .rounds)) ++ (l ++ joined (drop (suc k) (run .rounds)))) split)
-      ∙ simp append-assoc)
+  calls-split = run .whole ∙ rw (joined-at (run .rounds) k, split) (simp append-assoc)
 
   pub undecided-before : (d : ℕ) → decisionOf (applyAll nothingOpen (callsBefore run k ++ a) d) ≡ Undecided
       → leaveUndecided d nothingOpen (callsBefore run k ++ a) ≡ true
   undecided-before d h =
       left-undecided d nothingOpen (callsBefore run k ++ a)
-      (opensOnce-before document01 nothingOpen (callsBefore run k ++ a) (b ++ joined (drop (suc k) (run .rounds)))
-      (sym (ap (opensOnce document01 nothingOpen) calls-split) ∙ run-opensOnce document01 run)) h
+      (lasting-before nothingOpen (callsBefore run k ++ a) (b ++ joined (drop (suc k) (run .rounds))) (subst (Lasting nothingOpen) calls-split (run-lasts run))) h

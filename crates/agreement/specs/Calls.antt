@@ -18,7 +18,8 @@ use Rattle.drive_states.specs.declared.Announcement.{Announcement}
 use Rattle.drive_states.specs.declared.Announcement.the-variants.{Absent, By}
 use Rattle.drive_states.specs.declared.Decision.{Decision}
 use Rattle.drive_states.specs.declared.Decision.the-variants.{Undecided, Decided}
-use Rattle.drive_states.specs.State.{isDrive, inCore, pattern, numberOf, isDecided, broken}
+use Rattle.drive_sets.specs.Counts.{isDrive}
+use Rattle.drive_states.specs.State.{inCore, pattern, numberOf, isDecided, broken}
 use Rattle.drive_states.specs.Messages.{Entry, Content, known, decided, Message, maskIn, entriesIn, knownOf, messageBytes, readMessage}
 pub mod Evaluated
 
@@ -134,22 +135,22 @@ unfoldable pub heardAtClose : Exchange → ℕ
 heardAtClose x = cond (inCore x) (union (x .heard) (single (x .own .0))) (x .heard)
 
 -- heard is not empty and equals the round before
-unfoldable pub quiet : Exchange → Bool
-quiet x = not (eqb (heardAtClose x) 0) && eqb (heardAtClose x) (x .before)
+unfoldable pub stable : Exchange → Bool
+stable x = not (eqb (heardAtClose x) 0) && eqb (heardAtClose x) (x .before)
 
 unfoldable pub decisionOn : Option ℕ → Decision
 decisionOn none = Undecided
 decisionOn (some v) = Decided (record { 0 = v })
 
 -- if heard is not empty and equals the round before, decide the smallest pattern number known; else go on
-unfoldable pub quietDecision : Exchange → Decision
-quietDecision x = cond (quiet x) (decisionOn (smallest (numberOf x) (drives (x .known)))) Undecided
+unfoldable pub stableDecision : Exchange → Decision
+stableDecision x = cond (stable x) (decisionOn (smallest (numberOf x) (drives (x .known)))) Undecided
 
 -- a decided drive keeps its number; for the others: if a DC came, decide the value of the lowest-numbered DC sender
 unfoldable pub decide : Exchange → Decision → Announcement → Decision
 decide x (Decided v) announced = Decided v
 decide x Undecided (By d v) = Decided v
-decide x Undecided Absent = quietDecision x
+decide x Undecided Absent = stableDecision x
 
 unfoldable pub decisionAfter : Exchange → Decision
 decisionAfter x = decide x (x .decision) (x .announced)

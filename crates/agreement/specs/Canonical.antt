@@ -3,7 +3,7 @@
 use mathlib.Core.Path.{_≡_}
 use mathlib.Core.List.{List, [], _∷_, _++_, map}
 use Prim.Native.Nat.{ℕ, zero, suc}
-use Rattle.drive_sets.specs.Lists.{keep}
+use Rattle.drive_sets.specs.Lists.{filter}
 use Rattle.drive_sets.specs.Masks.{size}
 use Rattle.drive_sets.specs.Refusals.{Outcome, refused, result}
 use Rattle.drive_states.specs.declared.Decision.{Decision}
@@ -35,9 +35,9 @@ messageCalls s r w (d ∷ ds) = deliveries (sendingOf (w d) room 0) (reach s r d
 
 unfoldable pub roundCalls : Scenario → ℕ → World → List Call
 roundCalls s r w =
-    map (λ d. sends d room 0) (keep (sender s r w) (frame s))
-    ++ (messageCalls s r w (keep (sender s r w) (frame s))
-    ++ map closes (keep (closer s r w) (frame s)))
+    map (λ d. sends d room 0) (filter (sender s r w) (frame s))
+    ++ (messageCalls s r w (filter (sender s r w) (frame s))
+    ++ map closes (filter (closer s r w) (frame s)))
 
 -- the parts of so many rounds from round r on
 unfoldable pub roundsFrom : Scenario → ℕ → ℕ → World → List (List Call)

@@ -11,7 +11,7 @@ use Rattle.runs.specs.World as worlds
 use Rattle.runs.specs.World.{Call, Slot, World}
 use Rattle.runs.specs.Scenario.{Scenario, coreOf}
 use Rattle.runs.specs.Runs as anyRuns
-use Rattle.runs.specs.Runs.{Book}
+use Rattle.runs.specs.Runs.{RoundProgress}
 use Rattle.runs.specs.Statement as statements
 use Rattle.runs.specs.Statement.{Valid, DecidesAfter}
 use Rattle.agreement.specs.Calls.{opening, sending, receiving, closing}
@@ -43,19 +43,19 @@ openingPart = anyRuns.openingPart document01
 abbrev pub sendingOf : Slot → ℕ → ℕ → Outcome (List ℕ)
 sendingOf = anyRuns.sendingOf document01
 
-abbrev pub owes : Scenario → ℕ → World → Book → ℕ → List ℕ → ℕ → Bool
-owes = anyRuns.owes document01
+abbrev pub undelivered : Scenario → ℕ → World → RoundProgress → ℕ → List ℕ → ℕ → Bool
+undelivered = anyRuns.undelivered document01
 
-abbrev pub arrived : Scenario → ℕ → World → Book → ℕ → ℕ → Bool
+abbrev pub arrived : Scenario → ℕ → World → RoundProgress → ℕ → ℕ → Bool
 arrived = anyRuns.arrived document01
 
-abbrev pub due : Scenario → ℕ → World → Book → World → Call → Bool
+abbrev pub due : Scenario → ℕ → World → RoundProgress → World → Call → Bool
 due = anyRuns.due document01
 
-abbrev pub noted : Scenario → ℕ → World → Book → World → Call → Book
+abbrev pub noted : Scenario → ℕ → World → RoundProgress → World → Call → RoundProgress
 noted = anyRuns.noted document01
 
-abbrev pub roundPart : Scenario → ℕ → World → Book → World → List Call → Bool
+abbrev pub roundPart : Scenario → ℕ → World → RoundProgress → World → List Call → Bool
 roundPart = anyRuns.roundPart document01
 
 abbrev pub roundParts : Scenario → ℕ → World → List (List Call) → Bool

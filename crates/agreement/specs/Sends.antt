@@ -4,14 +4,14 @@ use mathlib.Core.List.{List, _++_}
 use Prim.Native.Nat.{ℕ}
 use lib.Dec.{eqb}
 use lib.ListN.{take}
-use Rattle.drive_sets.specs.Lists.{keep}
+use Rattle.drive_sets.specs.Lists.{filter}
 use Rattle.drive_sets.specs.Masks.{has}
 use Rattle.runs.specs.Scenario.{Crash, stays, crashes, Scenario, frame, coreOf}
 
 -- a sender sends to the other core drives, rising, then to the listeners, rising
 unfoldable pub listOf : Scenario → ℕ → List ℕ
 listOf s d =
-    keep (λ e. has e (coreOf s) && not (eqb e d)) (frame s) ++ keep (λ e. not (has e (coreOf s))) (frame s)
+    filter (λ e. has e (coreOf s) && not (eqb e d)) (frame s) ++ filter (λ e. not (has e (coreOf s))) (frame s)
 
 -- with a CR for this round, the first so many of them
 unfoldable pub cut : Crash → ℕ → List ℕ → List ℕ

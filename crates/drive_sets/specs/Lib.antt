@@ -5,4 +5,5 @@ pub mod Options
 pub mod Lists
 pub mod Loops
 pub mod Masks
+pub mod Counts
 pub mod Refusals

@@ -10,6 +10,7 @@ pub mod Distinct
 pub mod Counts
 pub mod Smallest
 pub mod FirstSome
+pub mod FirstFailing
 pub mod Places
 pub mod Times
 pub mod Takes
@@ -20,10 +21,10 @@ range a zero = []
 range a (suc k) = a ∷ range (suc a) k
 
 -- the elements that pass the test, in their order
-unfoldable pub keep : (ℕ → Bool) → List ℕ → List ℕ
-keep p [] = []
-keep p (x ∷ l) =
-    let rest = keep p l in
+unfoldable pub filter : (ℕ → Bool) → List ℕ → List ℕ
+filter p [] = []
+filter p (x ∷ l) =
+    let rest = filter p l in
     let more = x ∷ rest in
     cond (p x) more rest
 
@@ -36,6 +37,13 @@ all p (x ∷ l) = p x && all p l
 unfoldable pub any : (ℕ → Bool) → List ℕ → Bool
 any p [] = false
 any p (x ∷ l) = p x || any p l
+
+-- the place of the first element that fails the test; the list's length where none does
+unfoldable pub firstFailing : (ℕ → Bool) → List ℕ → ℕ
+firstFailing p [] = 0
+firstFailing p (x ∷ l) =
+    let later = suc (firstFailing p l) in
+    cond (p x) later 0
 
 -- x stands in the list
 unfoldable pub elem : ℕ → List ℕ → Bool

@@ -7,7 +7,7 @@ use Prim.Native.Nat.{ℕ, zero, suc, _-_, _/_, _%_, _^_, _<_, min}
 use lib.Bits.{bitAnd, bitOr}
 use lib.Count.{onesIn, trailingZeros}
 use lib.Dec.{eqb, ltb}
-use Rattle.drive_sets.specs.Lists.{range, keep, elem}
+use Rattle.drive_sets.specs.Lists.{range, filter, elem}
 pub mod Bits
 pub mod Laws
 pub mod Outside
@@ -67,7 +67,7 @@ lowest m = suc (trailingZeros 64 m)
 
 -- the drives of m, rising, and the set of a list of drives
 unfoldable pub drives : ℕ → List ℕ
-drives m = keep (λ d. has d m) (range 1 64)
+drives m = filter (λ d. has d m) (range 1 64)
 
 unfoldable pub ofDrives : List ℕ → ℕ
 ofDrives [] = 0

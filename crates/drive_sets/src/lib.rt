@@ -2,6 +2,7 @@
 // Each function is total and gives what its definition in specs/ gives.
 ghost use mathlib.Core.Path.{_≡_};
 ghost use lib.Dec.{eqb};
+ghost use Rattle.drive_sets.specs.Counts.{isDrive, isRound};
 ghost use Rattle.drive_sets.specs.Masks.{has, single, full, union, minus, outside, meets, subset, size, lowest};
 ghost use Rattle.drive_sets.specs.Refusals.{number};
 
@@ -193,4 +194,21 @@ pub fn is_single(m: u64) -> bool
         return false;
     }
     without_lowest(m) == 0
+}
+
+// A drive of a frame of n drives.
+pub fn is_drive(n: u8, d: Drive) -> bool
+    ensures { λ r. ⌜ r ≡ isDrive n (d .0) ⌝ }
+{
+    let i = d.0;
+    1 <= i && i <= n
+}
+
+// A round of an exchange whose core this is: 1 to the core's size.
+pub fn is_round(core: u64, round: Round) -> bool
+    ensures { λ r. ⌜ r ≡ isRound core (round .0) ⌝ }
+{
+    let q = round.0;
+    let last = size(core);
+    1 <= q && q as u32 <= last
 }

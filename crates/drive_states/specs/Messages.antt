@@ -14,7 +14,8 @@ use Rattle.records.specs.declared.Kind.the-variants.{Known, Decide}
 use Rattle.records.specs.Fields.{fromBytes, toBytes, fieldAt}
 use Rattle.records.specs.Marks.{mark, isKind, headOf}
 use Rattle.records.specs.RecordLists.{atRecord}
-use Rattle.drive_states.specs.State.{isDrive, patternWidth}
+use Rattle.drive_sets.specs.Counts.{isDrive}
+use Rattle.drive_states.specs.State.{patternWidth}
 pub mod Laws
 
 -- ---- what a message says

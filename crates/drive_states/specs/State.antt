@@ -2,19 +2,15 @@
 use mathlib.Core.Bool.{Bool, true, false, not, _&&_, _||_}
 use mathlib.Core.List.{List}
 use Prim.Native.Nat.{ℕ, _-_}
-use lib.Dec.{leb}
 use lib.ListN.{getD}
 use Rattle.drive_sets.specs.declared.Pattern.{Pattern}
-use Rattle.drive_sets.specs.Masks.{has, subset, size}
+use Rattle.drive_sets.specs.Counts.{isDrive, isRound}
+use Rattle.drive_sets.specs.Masks.{has, subset}
 use Rattle.tables.specs.Tables.{isFrame, isSet}
 use Rattle.drive_states.specs.declared.Exchange.{Exchange}
 use Rattle.drive_states.specs.declared.Decision.{Decision}
 use Rattle.drive_states.specs.declared.Decision.the-variants.{Undecided, Decided}
 pub mod Laws
-
--- d is a drive of a frame of n drives
-unfoldable pub isDrive : ℕ → ℕ → Bool
-isDrive n d = leb 1 d && leb d n
 
 -- the drive is in the core: core drives talk, the others listen
 unfoldable pub inCore : Exchange → Bool
@@ -51,5 +47,5 @@ broken x =
     || not (isSet (x .n) (x .core))
     || (inCore x && not (has (x .own .0) (x .known) && has (x .own .0) (x .start)))
     || not (isDrive (x .n) (x .own .0))
-    || not (leb 1 (x .round .0) && leb (x .round .0) (size (x .core)))
+    || not (isRound (x .core) (x .round .0))
     || not (subset (x .before) (x .core) && subset (x .heard) (x .core) && subset (x .known) (x .core) && subset (x .start) (x .core))

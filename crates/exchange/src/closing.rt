@@ -5,7 +5,7 @@ ghost use Prim.Native.Nat.{_≤_, _+_};
 ghost use Rattle.drive_sets.specs.Lists.{smallest};
 ghost use Rattle.drive_sets.specs.Masks.{drives};
 ghost use Rattle.drive_states.specs.State.{inCore, numberIn, isDecided};
-ghost use Rattle.agreement.specs.Calls.{heardAtClose, decisionOn, quietDecision, decisionAfter, halts, next, closing};
+ghost use Rattle.agreement.specs.Calls.{heardAtClose, decisionOn, stableDecision, decisionAfter, halts, next, closing};
 ghost use Rattle.exchange.specs.Replies.{Replied};
 use crate::Reply;
 use crate::is_broken;
@@ -53,8 +53,8 @@ fn smallest_known(known: u64, numbers: [Pattern; 64]) -> Decision
 }
 
 // Where heard is not empty and equals the round before, the smallest pattern number known.
-fn quiet_decision(x: Exchange) -> Decision
-    ensures { λ r. ⌜ r ≡ quietDecision x ⌝ }
+fn stable_decision(x: Exchange) -> Decision
+    ensures { λ r. ⌜ r ≡ stableDecision x ⌝ }
 {
     let heard = heard_at_close(x);
     if heard == 0 {
@@ -77,7 +77,7 @@ fn decision_after(x: Exchange) -> Decision
         Decision::Decided(v) => Decision::Decided(v),
         Decision::Undecided => match announced {
             Announcement::By(_, v) => Decision::Decided(v),
-            Announcement::Absent => quiet_decision(x),
+            Announcement::Absent => stable_decision(x),
         },
     }
 }

@@ -4,7 +4,8 @@ ghost use mathlib.Core.Path.{_≡_};
 ghost use mathlib.Core.Bool.{not, _&&_};
 ghost use lib.Dec.{leb};
 ghost use Rattle.drive_sets.specs.Masks.{has, subset, size};
-ghost use Rattle.drive_states.specs.State.{isDrive, broken};
+ghost use Rattle.drive_sets.specs.Counts.{isDrive};
+ghost use Rattle.drive_states.specs.State.{broken};
 use drive_sets::Drive;
 use drive_sets::Round;
 use drive_states::Exchange;
@@ -22,27 +23,11 @@ pub struct Reply {
     pub state: Exchange,
 }
 
-// A drive of a frame of n drives.
-pub fn is_drive(n: u8, d: Drive) -> bool
-    ensures { λ r. ⌜ r ≡ isDrive n (d .0) ⌝ }
-{
-    let i = d.0;
-    1 <= i && i <= n
-}
-
 // A core drive that does not know its own number, now or at the round's start.
 fn forgets_own(own: Drive, core: u64, known: u64, start: u64) -> bool
     ensures { λ r. ⌜ r ≡ (has (own .0) core && not (has (own .0) known && has (own .0) start)) ⌝ }
 {
     drive_sets::has(own, core) && !drive_sets::has(own, known & start)
-}
-
-// A round of an exchange whose core this is: 1 to the core's size.
-fn is_round(round: Round, core: u64) -> bool
-    ensures { λ r. ⌜ r ≡ (leb 1 (round .0) && leb (round .0) (size core)) ⌝ }
-{
-    let last = drive_sets::size(core);
-    1 <= round.0 && round.0 as u32 <= last
 }
 
 // The four sets of a state are in the core.
@@ -69,10 +54,10 @@ fn is_broken(x: Exchange) -> bool
     if forgets_own(own, core, x.known, x.start) {
         return true;
     }
-    if !is_drive(n, own) {
+    if !drive_sets::is_drive(n, own) {
         return true;
     }
-    if !is_round(round, core) {
+    if !drive_sets::is_round(core, round) {
         return true;
     }
     !all_inside(x.before, x.heard, x.known, x.start, core)

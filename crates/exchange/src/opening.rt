@@ -9,7 +9,6 @@ ghost use Rattle.drive_states.specs.State.{pattern};
 ghost use Rattle.agreement.specs.Calls.{initial, opening};
 ghost use Rattle.exchange.specs.Replies.{Replied, notOpened};
 use crate::Reply;
-use crate::is_drive;
 use drive_sets::Drive;
 use drive_sets::Pattern;
 use drive_sets::Refusal;
@@ -83,7 +82,7 @@ pub fn open(n: u8, sets: &[u64], own: Drive, number: Pattern) -> Reply
     match chosen {
         Chosen::Refused(r) => not_opened(r),
         Chosen::Core(core) => {
-            if !is_drive(n, own) {
+            if !drive_sets::is_drive(n, own) {
                 return not_opened(Refusal::DriveNumber);
             }
             let state = initial(n, core, own, number);

@@ -137,7 +137,7 @@ fn admit(kind: Kind, x: Exchange, s: &[u8]) -> Reply
 fn receive(kind: Kind, x: Exchange, s: &[u8]) -> Reply
     ensures { λ r. ⌜ Replied (andThen (checked (x .n) (length (now (s .entry))) (messageOf kind (now (s .entry)))) (admitting x)) x r ⌝ }
 {
-    if !crate::is_drive(x.n, reading::sender_of(s)) {
+    if !drive_sets::is_drive(x.n, reading::sender_of(s)) {
         return refused(x, Refusal::DriveNumber);
     }
     if reading::wrong_mask(kind, x.n, s) {

@@ -9,14 +9,13 @@ use lib.ListN.{length, take, drop, drop-of-length-le}
 use lib.Seq.{drop-drop}
 use borrow.Author.Tests.{leb-true, leb-false}
 use Rattle.drive_sets.specs.Bools.{by-test}
-use Rattle.drive_sets.specs.Refusals.{Outcome, refused, result, andThen}
-use Rattle.tables.specs.declared.reading.Answer.{Answer}
+use Rattle.drive_sets.specs.Refusals.{Outcome, refused, result}
 use Rattle.records.specs.declared.Writing.{Writing}
-use Rattle.records.specs.LentBuffers.{writingOutcome, sizeWritten, bufferAfter, Written}
+use Rattle.records.specs.LentBuffers.{writingOutcome, sizeWritten, Written}
 use Rattle.tables.specs.Reading.{outcomeOf}
 use Rattle.drive_states.specs.declared.Exchange.{Exchange}
 use Rattle.exchange.specs.declared.Reply.{Reply}
-use Rattle.agreement.specs.Calls.{opening, sending, receiving, closing}
+use Rattle.agreement.specs.Calls.{sending, receiving, closing}
 use Rattle.exchange.specs.Replies.{Replied, replyOf, stateAfter}
 use Rattle.exports.specs.Deliveries.{oneAccepted, accepted, left, hand, handedOn, messagesAccepted, stateHanded, closesAccepted, sendInto, sentInto, sendsAccepted, bufferSent}
 
@@ -126,12 +125,3 @@ module _ (times : ℕ) (x : Exchange) (start : ℕ) (old : List ℕ) where
       → (done ≡ sendsAccepted times x start old) × (buffer ≡ bufferSent times x start old)
   unfolding sendsAccepted bufferSent
   sending-end i done buffer w h = calling-end (sendInto x start) (sentInto start) times old i done buffer w h
-
--- ---- from an opening on
-
-module _ (n : ℕ) (sets : List ℕ) (own number : ℕ) (r : Reply) (e : replyOf r ≡ opening n sets own number) (a : Answer) (g : r .answer ≡ a) where
-  pub opened-as : {A B : Type 0} (give : Outcome A → B) (f : Exchange → A) (y : B) → y ≡ give (andThen (outcomeOf a (r .state)) (λ x. result (f x)))
-      → y ≡ give (andThen (opening n sets own number) (λ x. result (f x)))
-  unfolding replyOf
-  opened-as give f y h =
-      h ∙ ap (λ (o : Outcome Exchange). give (andThen o (λ x. result (f x)))) (ap (λ (b : Answer). outcomeOf b (r .state)) (sym g) ∙ e)

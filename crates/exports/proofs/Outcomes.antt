@@ -1,5 +1,5 @@
 -- The answers of the calls as numbers and lent lists.
-use mathlib.Core.Path.{_≡_, refl, sym, ap, _∙_}
+use mathlib.Core.Path.{_≡_, sym, ap, _∙_}
 use mathlib.Core.Bool.{true, false}
 use mathlib.Core.List.{List, _++_}
 use Prim.Native.Nat.{ℕ, _-_, _≤_, _<_}
@@ -17,16 +17,13 @@ use Rattle.tables.specs.declared.completing.TableWithCores.{TableWithCores}
 use Rattle.tables.specs.declared.files.TableFile.{TableFile}
 use Rattle.tables.specs.declared.reading.Answer.{Answer}
 use Rattle.tables.specs.declared.reading.Answer.the-variants as answers
-use Rattle.records.specs.declared.Writing.{Writing}
-use Rattle.records.specs.LentBuffers.{writingOutcome}
 use Rattle.tables.specs.Complete.{Complete, ReadComplete, completeTable, completeOutcome, readWholeComplete, fileOutcome}
 use Rattle.tables.specs.Reading.{setsOf, outcomeOf}
 use Rattle.tables.specs.Tables.{cores, coreList}
 use Rattle.tables.proofs.Accepts.{accept-taken, asks-refused, asks-taken}
-use Rattle.verdicts.specs.declared.calls.Judgement.{Judgement}
 use Rattle.verdicts.specs.declared.Verdict.{Verdict as Held}
-use Rattle.verdicts.specs.Held.{verdictOf, judgementOf}
-use Rattle.verdicts.specs.Verdicts.{Verdict, verdict}
+use Rattle.verdicts.specs.Held.{verdictOf}
+use Rattle.verdicts.specs.Verdicts.{Verdict}
 use Rattle.exports.specs.Codes.{codeOf, countOf, fitting, listAfter, setsRead, verdictCode}
 
 -- ---- the first of a list
@@ -58,15 +55,6 @@ module _ (old part first : List ℕ) (e : part ≡ first) where
         ap (λ (q : Outcome (List ℕ)). codeOf (countOf q)) all,
         f ∙ (ap (λ (l : List ℕ). l ++ drop (length part) old) (take-all (length old) part h) ∙ ap (listAfter old) all),
       )
-
-pub told : (o p : Outcome (List ℕ)) → o ≡ p → (r : ℕ) (old new : List ℕ) → r ≡ codeOf (countOf (fitting old o)) → new ≡ listAfter old (fitting old o) → Told old p r new
-told o p e r old new f g =
-    (f ∙ ap (λ (q : Outcome (List ℕ)). codeOf (countOf (fitting old q))) e, g ∙ ap (λ (q : Outcome (List ℕ)). listAfter old (fitting old q)) e)
-
-module _ (q : Refusal) (p : Outcome (List ℕ)) (e : refused q ≡ p) (r : ℕ) (old : List ℕ) (f : r ≡ codeOf (refused q)) where
-  pub told-refused : Told old p r old
-  unfolding fitting listAfter
-  told-refused = told (refused q) p e r old old f refl
 
 module _ (n : ℕ) (sets : List ℕ) (t : TableWithCores) (e : completeOutcome t ≡ completeTable n sets) where
   pub cores-refused : (q : Refusal) → t .answer ≡ answers.Refused q → refused q ≡ coreList n sets
@@ -111,14 +99,3 @@ module _ (v : Held) (k : ℕ) where
       f
       ∙ ap fromBytes (ap (take 8) e ∙ take-all 8 (take k (v .positions)) (omega (arith, length-take k (v .positions))))
       ∙ ap (λ (w : Verdict). codeOf (verdictCode w)) (sym (cond-false _ _ h))
-
-pub judged-as : (j : Judgement) (k n : ℕ) (sets : List ℕ) → judgementOf j k ≡ verdict k n sets → (a : Answer) → j .answer ≡ a → (r : ℕ)
-    → r ≡ codeOf (andThen (outcomeOf a (verdictOf (j .verdict) k)) verdictCode) → r ≡ codeOf (andThen (verdict k n sets) verdictCode)
-unfolding judgementOf
-judged-as j k n sets e a f r g =
-    g ∙ ap (λ (o : Outcome Verdict). codeOf (andThen o verdictCode)) (ap (λ (b : Answer). outcomeOf b (verdictOf (j .verdict) k)) (sym f) ∙ e)
-
--- ---- the writer
-
-pub wrote-as : (w v : Writing) (size : Outcome ℕ) → writingOutcome w ≡ size → w ≡ v → (r : ℕ) → r ≡ codeOf (writingOutcome v) → r ≡ codeOf size
-wrote-as w v size e f r g = g ∙ ap codeOf (ap writingOutcome (sym f) ∙ e)

@@ -9,8 +9,8 @@ use lib.ListN.{length, take, drop, length-drop, take-append-drop}
 use lib.Seq.{take-all}
 use borrow.Author.Tests.{not-true}
 use Rattle.drive_sets.specs.Bools.{clash, false-of, and-right}
-use Rattle.drive_sets.specs.Lists.{keep}
-use Rattle.drive_sets.specs.Lists.Laws.{any-append, any-elem, keep-same}
+use Rattle.drive_sets.specs.Lists.{filter}
+use Rattle.drive_sets.specs.Lists.Laws.{any-append, any-elem, filter-same}
 use Rattle.drive_sets.specs.Masks.{has, union, minus, subset, drives}
 use Rattle.drive_sets.specs.Masks.Laws.{has-minus, subset-has, meets-has, meets-sym}
 use Rattle.hitting_sets.specs.Hitting.{hits, critical}
@@ -39,12 +39,12 @@ module _ (sets : List ℕ) (seen m : ℕ) (word : m < 2 ^ 64) (h : hits (take se
 
   -- the sets ahead as a part of the slice
   pub cannot-extend-ahead : (bar found : ℕ) → bar ≡ forbidden sets m (drives m)
-      → found ≡ critical (keep (λ s. not (covered (take (length sets - seen) (drop seen sets)) m bar s)) sets) m → not (eqb found m) ≡ cannotExtend sets m
+      → found ≡ critical (filter (λ s. not (covered (take (length sets - seen) (drop seen sets)) m bar s)) sets) m → not (eqb found m) ≡ cannotExtend sets m
   unfolding cannotExtend
   cannot-extend-ahead bar found p q = ap (λ (x : ℕ). not (eqb x m)) (q ∙ ap (λ (l : List ℕ). critical l m) same)
     where
-      same : keep (λ s. not (covered (take (length sets - seen) (drop seen sets)) m bar s)) sets ≡ keep (λ s. not (covered sets m (forbidden sets m (drives m)) s)) sets
+      same : filter (λ s. not (covered (take (length sets - seen) (drop seen sets)) m bar s)) sets ≡ filter (λ s. not (covered sets m (forbidden sets m (drives m)) s)) sets
       same =
-          keep-same (λ s. not (covered (take (length sets - seen) (drop seen sets)) m bar s)) (λ s. not (covered sets m (forbidden sets m (drives m)) s)) sets
+          filter-same (λ s. not (covered (take (length sets - seen) (drop seen sets)) m bar s)) (λ s. not (covered sets m (forbidden sets m (drives m)) s)) sets
           (λ s e. ap not (ap (λ (l : List ℕ). covered l m bar s) (take-all (length sets - seen) (drop seen sets) (le-of-eq (length-drop seen sets)))
           ∙ (covered-ahead bar s ∙ ap (λ (x : ℕ). covered sets m x s) p)))

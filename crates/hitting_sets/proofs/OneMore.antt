@@ -7,8 +7,8 @@ use Prim.Native.Nat.{ℕ}
 use lib.Dec.{eqb}
 use borrow.Author.Tests.{eq-eqb, ne-eqb}
 use Rattle.drive_sets.specs.Bools.{by-test, cond-true, cond-false}
-use Rattle.drive_sets.specs.Lists.{keep}
-use Rattle.drive_sets.specs.Lists.Laws.{keep-true, keep-false}
+use Rattle.drive_sets.specs.Lists.{filter}
+use Rattle.drive_sets.specs.Lists.Laws.{filter-true, filter-false}
 use Rattle.drive_sets.specs.Masks.{union, common, subset, size}
 use Rattle.drive_sets.specs.Masks.Laws.{union-subset}
 use Rattle.hitting_sets.specs.Hitting.{critical}
@@ -32,12 +32,12 @@ module _ (s m x : ℕ) where
 
 -- of the sets that pass a test
 module _ (f : List ℕ → ℕ) (p : ℕ → Bool) (s x : ℕ) where
-  pub kept-more : p s ≡ true → (y : ℕ) → ((l : List ℕ) → x ≡ f l → y ≡ f (s ∷ l)) → (l : List ℕ) → x ≡ f (keep p l) → y ≡ f (keep p (s ∷ l))
-  kept-more e y step l h = step (keep p l) h ∙ sym (ap f (keep-true p s l e))
+  pub kept-more : p s ≡ true → (y : ℕ) → ((l : List ℕ) → x ≡ f l → y ≡ f (s ∷ l)) → (l : List ℕ) → x ≡ f (filter p l) → y ≡ f (filter p (s ∷ l))
+  kept-more e y step l h = step (filter p l) h ∙ sym (ap f (filter-true p s l e))
 
-  pub kept-skip : p s ≡ false → (l : List ℕ) → x ≡ f (keep p l) → x ≡ f (keep p (s ∷ l))
-  kept-skip e l h = h ∙ sym (ap f (keep-false p s l e))
+  pub kept-skip : p s ≡ false → (l : List ℕ) → x ≡ f (filter p l) → x ≡ f (filter p (s ∷ l))
+  kept-skip e l h = h ∙ sym (ap f (filter-false p s l e))
 
   -- whether s passes or not
-  pub kept-same : ((l : List ℕ) → x ≡ f l → x ≡ f (s ∷ l)) → (l : List ℕ) → x ≡ f (keep p l) → x ≡ f (keep p (s ∷ l))
+  pub kept-same : ((l : List ℕ) → x ≡ f l → x ≡ f (s ∷ l)) → (l : List ℕ) → x ≡ f (filter p l) → x ≡ f (filter p (s ∷ l))
   kept-same step l h = by-test (p s) (λ e. kept-more e x step l h) (λ e. kept-skip e l h)

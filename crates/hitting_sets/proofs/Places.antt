@@ -2,13 +2,15 @@
 use mathlib.Core.Path.{_≡_, refl, sym, ap, _∙_, subst}
 use mathlib.Core.Bool.{true}
 use mathlib.Core.List.{List, [], _∷_}
-use Prim.Native.Nat.{ℕ, zero, suc, _+_, _≤_, _<_}
+use Prim.Native.Nat.{ℕ, zero, suc, _+_, _-_, _≤_, _<_}
 use native.Mathlib.Omega.{arith}
 use lib.Dec.{eqb}
-use lib.ListN.{length, getD, take, drop, drop-of-length-le}
-use lib.Seq.{take-suc, drop-cons}
+use lib.ListN.{length, getD, take, drop, drop-of-length-le, length-drop}
+use lib.Seq.{take-suc, take-all, drop-cons, getD-drop}
 use borrow.Author.Tests.{eqb-true, eqb-false}
 use Rattle.drive_sets.specs.Bools.{by-test}
+use Rattle.drive_sets.specs.Lists.{firstFailing}
+use Rattle.drive_sets.specs.Lists.FirstFailing.{failing-within, failing-before, failing-there}
 use Rattle.drive_sets.specs.Masks.{meets}
 use Rattle.hitting_sets.specs.Hitting.{Minimal, forEach, search}
 use Rattle.hitting_sets.specs.Hitting.Laws.{hits-one, minimal-more}
@@ -18,6 +20,23 @@ use Rattle.hitting_sets.specs.Missed.{FirstMissed}
 -- what is listed from m, one place behind i, with each of the drives ds
 abbrev pub Each : List ℕ → ℕ → ℕ → List ℕ → List ℕ
 Each sets i m ds = forEach (search (take (i + 1) sets) (drop (i + 1) sets)) m ds
+
+-- the first set that is missed among those from a place on
+pub missed-from : (sets : List ℕ) (pos m r : ℕ) → pos ≤ length sets → r ≡ firstFailing (λ s. meets s m) (take (length sets - pos) (drop pos sets)) → FirstMissed sets pos m (pos + r)
+missed-from sets pos m r h e =
+    let rest = drop pos sets in
+    let is : r ≡ firstFailing (λ s. meets s m) rest = e ∙ ap (firstFailing (λ s. meets s m)) (take-all (length sets - pos) rest (omega (arith, length-drop pos sets))) in
+    record {
+      from = omega arith;
+      within = omega (arith, is, failing-within (λ s. meets s m) rest, length-drop pos sets);
+      met = λ i low high.
+          let at : pos + (i - pos) ≡ i = omega arith in
+          ap (λ (k : ℕ). meets (getD sets k 0) m) (sym at)
+          ∙ (ap (λ (s : ℕ). meets s m) (sym (getD-drop pos sets (i - pos) 0)) ∙ failing-before (λ s. meets s m) rest (i - pos) (omega (arith, is, low, high)));
+      missed = λ few.
+          ap (λ (s : ℕ). meets s m) (sym (getD-drop pos sets r 0))
+          ∙ (ap (λ (k : ℕ). meets (getD rest k 0) m) is ∙ failing-there (λ s. meets s m) rest (omega (arith, is, length-drop pos sets)));
+    }
 
 module _ (sets : List ℕ) (m : ℕ) where
   -- what the search lists from the place i on

@@ -9,7 +9,7 @@ use lib.ListN.{length, getD, set, replicate, length-set, getD-replicate}
 use lib.Seq.{getD-set-same, getD-set-other}
 use borrow.Author.Tests.{eqb-true, eqb-false, eq-eqb, ne-eqb}
 use Rattle.drive_sets.specs.Bools.{by-test}
-use Rattle.drive_sets.specs.Lists.{keep}
+use Rattle.drive_sets.specs.Lists.{filter}
 use Rattle.drive_sets.specs.Masks.{has, single, full, common, size, lowest}
 use Rattle.drive_sets.specs.Masks.Laws.{has-bounds, common-lt-right}
 use Rattle.drive_sets.specs.Masks.Sizes.{size-single}
@@ -28,7 +28,7 @@ pub record Sharing (sets : List ℕ) (m i : ℕ) (of : List ℕ) : Type 0 where
   pub each : (d : ℕ) → 1 ≤ d → d ≤ 64 → Back (Shared m d) sets i (getD of (d - 1) 0)
 
 pub sharing-start : (sets : List ℕ) (m : ℕ) → Sharing sets m (length sets) (replicate 64 0xffff_ffff_ffff_ffff)
-unfolding inAll privates keep full
+unfolding inAll privates filter full
 sharing-start sets m = record {
   within = le-refl (length sets);
   places = refl;

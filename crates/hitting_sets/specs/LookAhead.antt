@@ -3,7 +3,7 @@ use mathlib.Core.Bool.{Bool, not}
 use mathlib.Core.List.{List, [], _∷_}
 use Prim.Native.Nat.{ℕ}
 use lib.Dec.{eqb}
-use Rattle.drive_sets.specs.Lists.{keep, any}
+use Rattle.drive_sets.specs.Lists.{filter, any}
 use Rattle.drive_sets.specs.Masks.{single, full, union, common, minus, subset, drives}
 use Rattle.hitting_sets.specs.Hitting.{critical}
 
@@ -14,7 +14,7 @@ inAll (s ∷ sets) = common s (inAll sets)
 
 -- the sets that are private to drive d of m: they meet m in d alone
 unfoldable pub privates : List ℕ → ℕ → ℕ → List ℕ
-privates sets m d = keep (λ s. eqb (common s m) (single d)) sets
+privates sets m d = filter (λ s. eqb (common s m) (single d)) sets
 
 -- the drives outside m that are in every private set of one of the drives ds: adding one leaves that drive none
 unfoldable pub forbidden : List ℕ → ℕ → List ℕ → ℕ
@@ -29,4 +29,4 @@ covered sets m bar p = any (λ s. subset s (minus (union bar p) m)) sets
 unfoldable pub cannotExtend : List ℕ → ℕ → Bool
 cannotExtend sets m =
     let bar = forbidden sets m (drives m) in
-    not (eqb (critical (keep (λ s. not (covered sets m bar s)) sets) m) m)
+    not (eqb (critical (filter (λ s. not (covered sets m bar s)) sets) m) m)

@@ -5,13 +5,14 @@ ghost use mathlib.Core.Bool.{true, false, not, _&&_};
 ghost use Prim.Native.Nat.{ℕ, _+_, _-_, _≤_, _<_};
 ghost use lib.Dec.{leb, ltb};
 ghost use lib.ListN.{length, getD, take, drop, set};
-ghost use Rattle.drive_sets.specs.Lists.{keep};
+ghost use Rattle.drive_sets.specs.Lists.{filter};
 ghost use Rattle.drive_sets.specs.Masks.{meets, drives};
 ghost use Rattle.hitting_sets.specs.Hitting.{hits, Minimal, critical, search, minimals};
 ghost use Rattle.hitting_sets.specs.LookAhead.{inAll, privates, forbidden, covered, cannotExtend};
 ghost use Rattle.hitting_sets.specs.Missed.{FirstMissed, Candidates};
 ghost use Rattle.hitting_sets.specs.Fuel.{Searched};
 use crate::MOST_COUNT;
+use crate::missed::first_missed;
 use drive_sets::Drive;
 
 // ---- what is forbidden
@@ -84,7 +85,7 @@ fn covered(sets: &[u64], m: u64, bar: u64, p: u64) -> bool
 // The drives of m that are critical among the sets that the sets ahead do not cover. That a set is covered is asked last, and only
 // of one that would add a drive: it is the dearest of the tests.
 fn critical_uncovered(sets: &[u64], ahead: &[u64], m: u64, bar: u64) -> u64
-    ensures { λ r. ⌜ r ≡ critical (keep (λ s. not (covered (now (ahead .entry)) m bar s)) (now (sets .entry))) m ⌝ }
+    ensures { λ r. ⌜ r ≡ critical (filter (λ s. not (covered (now (ahead .entry)) m bar s)) (now (sets .entry))) m ⌝ }
 {
     let mut i = sets.len();
     let mut found = 0;
@@ -119,14 +120,7 @@ fn next_missed(sets: &[u64], pos: usize, m: u64) -> usize
     requires { ⌜ pos ≤ length (now sets) ⌝ }
     ensures { λ r. ⌜ FirstMissed (now (sets .entry)) pos m r ⌝ }
 {
-    let mut i = pos;
-    while i < sets.len() {
-        if !drive_sets::meets(sets[i], m) {
-            return i;
-        }
-        i += 1;
-    }
-    i
+    pos + first_missed(&sets[pos..], m)
 }
 
 // The drives of the set at `next`, which m misses, with which the search goes on from m, a minimal hitting set of the sets before it: those

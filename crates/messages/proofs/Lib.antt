@@ -1,4 +1,3 @@
 -- What the functions' proofs share.
 pub mod Bytes
-pub mod Contents
 pub mod Writes

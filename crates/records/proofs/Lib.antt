@@ -1,6 +1,5 @@
 -- What the functions' proofs share.
 pub mod Buffers
-pub mod Heads
 pub mod Lists
 pub mod Loops
 pub mod Matches

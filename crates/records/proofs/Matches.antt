@@ -1,18 +1,21 @@
--- Marks matched: none of the known ones, and the two tests of a place where two kinds are due.
-use mathlib.Core.Path.{_≡_}
+-- Marks matched: the kind that was read, and the two tests of a place where two kinds are due.
+use mathlib.Core.Path.{_≡_, sym, ap, _∙_}
 use mathlib.Core.Bool.{_||_}
+use mathlib.Core.List.{List}
 use Prim.Native.Nat.{ℕ}
+use native.Mathlib.Omega.{arith}
 use lib.Dec.{eqb}
+use lib.ListN.{take, length-take}
+use lib.Seq.{take-all}
 use Rattle.drive_sets.specs.Bools.{or-first, or-second}
 use borrow.Author.Tests.{eq-eqb, ne-eqb}
-use Rattle.records.specs.declared.Kind.the-variants.{Frame, Survivor, Proposal, Crash, End, Known, Decide, Unknown}
-use Rattle.records.specs.Marks.{mark, kindOf}
+use Rattle.records.specs.declared.Kind.{Kind}
+use Rattle.records.specs.Fields.{fromBytes}
+use Rattle.records.specs.Marks.{kindOf}
 
-pub kind-unknown : (m : ℕ) → (m ≡ mark Frame → ⊥) → (m ≡ mark Survivor → ⊥) → (m ≡ mark Proposal → ⊥) → (m ≡ mark Crash → ⊥)
-    → (m ≡ mark End → ⊥) → (m ≡ mark Known → ⊥) → (m ≡ mark Decide → ⊥) → Unknown ≡ kindOf m
-unfolding kindOf
-kind-unknown m a b c d e f g =
-    rw (ne-eqb m (mark Frame) a, ne-eqb m (mark Survivor) b, ne-eqb m (mark Proposal) c, ne-eqb m (mark Crash) d, ne-eqb m (mark End) e, ne-eqb m (mark Known) f, ne-eqb m (mark Decide) g)
+-- the kind of the first two bytes, read as at most 8
+pub head-kind : (s : List ℕ) {m : ℕ} {k : Kind} → m ≡ fromBytes (take 8 (take 2 s)) → k ≡ kindOf m → kindOf (fromBytes (take 2 s)) ≡ k
+head-kind s e p = sym (p ∙ ap kindOf (e ∙ ap fromBytes (take-all 8 (take 2 s) (omega (arith, length-take 2 s)))))
 
 pub first-due : (m a b : ℕ) → m ≡ a → eqb m a ≡ (eqb m a || eqb m b)
 first-due m a b e = or-first (eqb m a) (eqb m b) (eq-eqb m a e)

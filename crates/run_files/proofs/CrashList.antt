@@ -19,23 +19,18 @@ use Rattle.records.specs.declared.Due.the-variants.{AtCrashOrEnd}
 use Rattle.records.specs.declared.Kind.the-variants as kinds
 use Rattle.records.specs.declared.Next.{Next}
 use Rattle.records.specs.declared.Next.the-variants as nexts
-use Rattle.records.specs.Fields.{fieldAt}
 use Rattle.records.specs.Marks.{bodyWidth, isDue}
 use Rattle.records.specs.RecordLists.{nextOf, ReadList, widthOf, stepOf, readList}
 use Rattle.records.specs.RecordLists.Laws.{OwnKind, other-kind, one-whole}
 use Rattle.records.proofs.Lists.{first-byte, Reading, reading-start, reading-stop, reading-end, end-within, step-taken, reading-turn}
-use Rattle.tables.specs.declared.reading.Answer.{Answer}
-use Rattle.tables.specs.declared.reading.Answer.the-variants as answers
-use Rattle.tables.specs.Reading.{outcomeOf}
 use Rattle.tables.specs.Tables.{maxDrives}
 use Rattle.run_files.specs.declared.crashes.Crashes.{Crashes}
-use Rattle.run_files.specs.declared.crash_records.CrashesRead.{CrashesRead}
 use Rattle.run_files.specs.declared.crash_records.Step.{Step}
 use Rattle.run_files.specs.declared.crash_records.Step.the-variants.{Crash, End, Stop}
 use Rattle.runs.specs.CrashRecords.{CrashRecord, isNext, checkedCrash}
 use Rattle.run_files.specs.RunFiles.{crashFields, CrashList, noCrash, takenCrash, crashList}
 use Rattle.run_files.specs.RunFiles.Laws.{next-bounds, checked-passes}
-use Rattle.run_files.specs.Reading.{crashRecord, stepOutcome, crashesIn, crashesOutcome, withCrash}
+use Rattle.run_files.specs.Reading.{crashRecord, stepOutcome, crashesIn, withCrash}
 use Rattle.run_files.specs.Reading.Laws.{none-listed, with-crash-listed}
 
 -- ---- one record
@@ -44,43 +39,14 @@ own-crash : (n core : ℕ) → OwnKind (crashList n core)
 unfolding isDue
 own-crash n core l k d t = other-kind kinds.Crash k d t
 
-module _ (n core last count : ℕ) (s : List ℕ) (next : Next) (h : next ≡ nextOf AtCrashOrEnd count s) where
-  pub crash-long : next ≡ nexts.One → 5 ≤ length s
-  unfolding widthOf bodyWidth
-  crash-long e = one-whole (crashList n core) (own-crash n core) noCrash count s (sym h ∙ e)
+pub crash-long : (count : ℕ) (s : List ℕ) {next : Next} → next ≡ nextOf AtCrashOrEnd count s → next ≡ nexts.One → 5 ≤ length s
+unfolding widthOf bodyWidth
+crash-long count s h e = one-whole (crashList 0 0) (own-crash 0 0) noCrash count s (sym h ∙ e)
 
-  module _ (l : CrashList) (p : l .last ≡ last) (same : length (l .crashes) ≡ count) where
-    pub step-stop : (q : Refusal) → next ≡ nexts.Stop q → refused q ≡ stepOf (crashList n core) l s
-    unfolding stepOf
-    step-stop q e = rw (same, ← h, e)
-
-    pub step-end : next ≡ nexts.End → stepOutcome l End ≡ stepOf (crashList n core) l s
-    unfolding stepOf
-    step-end e = rw (same, ← h, e)
-
-    module _ (e : next ≡ nexts.One) (drive : Drive) (round : Round) (sends : ℕ) (d : drive .0 ≡ getD s 2 0) (q : round .0 ≡ getD s 3 0) (m : sends ≡ getD s 4 0)
-        (a : Answer) (f : outcomeOf a (crashRecord drive round sends) ≡ checkedCrash n core last (crashRecord drive round sends)) where
-      fields : crashRecord drive round sends ≡ crashFields s
-      unfolding crashRecord crashFields
-      fields =
-          let long = crash-long e in
-          let d′ : drive .0 ≡ fieldAt 2 1 s = d ∙ first-byte s 2 (omega arith) in
-          let q′ : round .0 ≡ fieldAt 3 1 s = q ∙ first-byte s 3 (omega arith) in
-          let m′ : sends ≡ fieldAt 4 1 s = m ∙ first-byte s 4 (omega arith) in
-          cc
-
-      pub step-refused : (r : Refusal) → a ≡ answers.Refused r → refused r ≡ stepOf (crashList n core) l s
-      unfolding stepOf takenCrash
-      step-refused r g = rw (same, ← h, e, p, ← fields, ← f, g)
-
-      pub step-crash : a ≡ answers.Accepted → stepOutcome l (Crash drive round sends) ≡ stepOf (crashList n core) l s
-      unfolding stepOf takenCrash crashRecord
-      step-crash g = rw (same, ← h, e, p, ← fields, ← f, g)
-
--- a refusal's answer
-pub refused-outcome : (r : CrashesRead) (s : List ℕ) (q : Refusal) → r .answer ≡ answers.Refused q → crashesOutcome r s ≡ refused q
-unfolding crashesOutcome
-refused-outcome r s q e = ap (λ (a : Answer). outcomeOf a (record { list = record { crashes = crashesIn (r .crashes); last = r .last .0 }; rest = drop (r .used) s })) e
+-- its fields are its bytes
+pub crash-fields : (s : List ℕ) → 5 ≤ length s → crashFields s ≡ record { drive = getD s 2 0; round = getD s 3 0; sends = getD s 4 0 }
+unfolding crashFields
+crash-fields s long = rw (first-byte s 2 (omega arith), first-byte s 3 (omega arith), first-byte s 4 (omega arith))
 
 -- ---- the loop
 
@@ -115,13 +81,13 @@ listing-start s n core c e q m = record {
       (reading-start (crashList n core) s noCrash 0 (omega arith));
 }
 
-module _ (s : List ℕ) (n core : ℕ) (c : Crashes) (last count at : ℕ) (r : Listing s n core c last count at) (step : Step)
+module _ {s : List ℕ} {n core : ℕ} {c : Crashes} {last count at : ℕ} (r : Listing s n core c last count at) {step : Step}
     (says : (l : CrashList) → l .last ≡ last → length (l .crashes) ≡ count → stepOutcome l step ≡ stepOf (crashList n core) l (take (length s - at) (drop at s))) where
   said : (x : Step) → step ≡ x → stepOutcome (listed c last) x ≡ stepOf (crashList n core) (listed c last) (take (length s - at) (drop at s))
   said x e = ap (stepOutcome (listed c last)) (sym e) ∙ says (listed c last) refl (r .counted)
 
-  pub listing-stop : (q : Refusal) → step ≡ Stop q → refused q ≡ readAll n core s
-  listing-stop q e = reading-stop (crashList n core) (readAll n core s) s (listed c last) at (r .reading) refl q (said (Stop q) e)
+  pub listing-stop : {q : Refusal} → step ≡ Stop q → refused q ≡ readAll n core s
+  listing-stop {q} e = reading-stop (crashList n core) (readAll n core s) s (listed c last) at (r .reading) refl q (said (Stop q) e)
 
   module _ (e : step ≡ End) where
     pub listed-within : at + 3 ≤ length s
@@ -131,7 +97,7 @@ module _ (s : List ℕ) (n core : ℕ) (c : Crashes) (last count at : ℕ) (r : 
     listing-end = reading-end (crashList n core) (readAll n core s) s (listed c last) at (r .reading) refl (said End e)
 
   -- one more crash
-  module _ (d : Drive) (q : Round) (m : ℕ) (e : step ≡ Crash d q m) where
+  module _ {d : Drive} {q : Round} {m : ℕ} (e : step ≡ Crash d q m) where
     pub crash-bounds : (1 ≤ d .0) × (d .0 ≤ n) × (last < d .0)
     unfolding takenCrash crashRecord
     crash-bounds =

@@ -1,5 +1,4 @@
 -- What the functions' proofs share.
-pub mod Checks
 pub mod CrashList
 pub mod ProposalSteps
-pub mod Finishes
+pub mod Returns

@@ -6,10 +6,9 @@ use native.Mathlib.Omega.{arith}
 use native.Mathlib.Numerals.{add-one}
 use lib.ListN.{length, getD, take, drop, set, length-map, length-set}
 use lib.Seq.{take-suc-set, length-take-le}
-use borrow.Author.Tests.{eq-eqb, ne-eqb, le-leb, lt-leb}
+use borrow.Author.Tests.{le-leb, lt-leb}
 use Rattle.drive_sets.specs.declared.Pattern.{Pattern}
 use Rattle.drive_sets.specs.declared.Refusal.{Refusal}
-use Rattle.drive_sets.specs.declared.Refusal.the-variants.{DriveNumber}
 use Rattle.drive_sets.specs.Refusals.{refused, result}
 use Rattle.records.specs.declared.Due.the-variants.{AtProposal}
 use Rattle.records.specs.declared.Kind.{Kind}
@@ -23,15 +22,11 @@ use Rattle.records.specs.Marks.Laws.{kind-is}
 use Rattle.records.specs.RecordLists.{nextOf, widthOf, stepOf, readList}
 use Rattle.records.specs.RecordLists.Laws.{OwnKind, other-next, one-whole}
 use Rattle.records.proofs.Lists.{first-byte, Reading, reading-start, reading-complete, reading-stop, reading-turn}
-use Rattle.tables.specs.declared.reading.Answer.{Answer}
-use Rattle.tables.specs.declared.reading.Answer.the-variants as answers
-use Rattle.tables.specs.Reading.{outcomeOf}
 use Rattle.tables.specs.Tables.{maxDrives}
-use Rattle.run_files.specs.declared.proposals.Proposals.{Proposals}
 use Rattle.run_files.specs.declared.proposals.Proposal.{Proposal}
 use Rattle.run_files.specs.declared.proposals.Proposal.the-variants.{Number, Stop}
-use Rattle.run_files.specs.RunFiles.{takenProposal, proposalList}
-use Rattle.run_files.specs.Reading.{values, proposalOutcome, proposalsOutcome}
+use Rattle.run_files.specs.RunFiles.{proposalList}
+use Rattle.run_files.specs.Reading.{values, proposalOutcome}
 
 -- ---- one record
 
@@ -39,37 +34,18 @@ own-proposal : (n : ℕ) → OwnKind (proposalList n)
 unfolding isDue
 own-proposal n given k d t = kind-is kinds.Proposal k d
 
-module _ (d : ℕ) (s : List ℕ) (head : Head) (h : head ≡ headOf AtProposal s) where
-  pub proposal-refused : (r : Refusal) → head ≡ heads.Refused r → (n : ℕ) (given : List ℕ) → refused r ≡ stepOf (proposalList n) given s
-  unfolding stepOf nextOf
-  proposal-refused r e n given = rw (← h, e)
+module _ (s : List ℕ) {head : Head} (h : head ≡ headOf AtProposal s) {k : Kind} (e : head ≡ heads.Record k) where
+  -- EN is not due
+  pub one : (count : ℕ) → nextOf AtProposal count s ≡ nexts.One
+  unfolding isDue isKind mark markText ascii fromBytes
+  one count = other-next AtProposal count s k refl (sym h ∙ e)
 
-  module _ (k : Kind) (e : head ≡ heads.Record k) where
-    -- EN is not due
-    one : (count : ℕ) → nextOf AtProposal count s ≡ nexts.One
-    unfolding isDue isKind mark markText ascii fromBytes
-    one count = other-next AtProposal count s k refl (sym h ∙ e)
+  pub proposal-long : 5 ≤ length s
+  unfolding widthOf bodyWidth
+  proposal-long = one-whole (proposalList 0) (own-proposal 0) [] 0 s (one 0)
 
-    pub proposal-long : 5 ≤ length s
-    unfolding widthOf bodyWidth
-    proposal-long = one-whole (proposalList 0) (own-proposal 0) [] 0 s (one 0)
-
-    drive-byte : fieldAt 2 1 s ≡ getD s 2 0
-    drive-byte = sym (first-byte s 2 (omega (arith, proposal-long)))
-
-    module _ (n : ℕ) (given : List ℕ) (next : suc (length given) ≡ d) where
-      pub not-next : (getD s 2 0 ≡ d → ⊥) → refused DriveNumber ≡ stepOf (proposalList n) given s
-      unfolding stepOf takenProposal
-      not-next ne = rw (one (length given), next, drive-byte, ne-eqb (getD s 2 0) d ne)
-
-      pub number-given : getD s 2 0 ≡ d → (v : Pattern) → v .0 ≡ fieldAt 3 2 s → proposalOutcome given (Number v) ≡ stepOf (proposalList n) given s
-      unfolding stepOf takenProposal
-      number-given f v g = rw (one (length given), next, drive-byte, eq-eqb (getD s 2 0) d f, g)
-
--- a refusal's answer
-pub refused-outcome : (n : ℕ) (r : Proposals) (s : List ℕ) (q : Refusal) → r .answer ≡ answers.Refused q → proposalsOutcome n r s ≡ refused q
-unfolding proposalsOutcome
-refused-outcome n r s q e = ap (λ (a : Answer). outcomeOf a (record { list = take n (values (r .numbers)); rest = drop (r .used) s })) e
+  pub drive-byte : fieldAt 2 1 s ≡ getD s 2 0
+  drive-byte = sym (first-byte s 2 (omega (arith, proposal-long)))
 
 -- ---- the loop
 
@@ -90,7 +66,7 @@ pub record Proposing (s : List ℕ) (n : ℕ) (numbers : List Pattern) (given at
 pub proposing-start : (s : List ℕ) (n : ℕ) (numbers : List Pattern) → length numbers ≡ maxDrives → Proposing s n numbers 0 0
 proposing-start s n numbers e = record { few = omega arith; room = e; reading = reading-start (proposalList n) s [] 0 (omega arith) }
 
-module _ (s : List ℕ) (n : ℕ) (numbers : List Pattern) (given at : ℕ) (frame : n ≤ maxDrives) (r : Proposing s n numbers given at) where
+module _ {s : List ℕ} {n : ℕ} {numbers : List Pattern} {given at : ℕ} (frame : n ≤ maxDrives) (r : Proposing s n numbers given at) where
   listed : length (take given (values numbers)) ≡ given
   listed = length-take-le given (values numbers) (omega (arith, r .few, r .room, length-values numbers))
 
@@ -100,18 +76,18 @@ module _ (s : List ℕ) (n : ℕ) (numbers : List Pattern) (given at : ℕ) (fra
       ap (λ (k : ℕ). result (record { list = take k (values numbers); rest = drop at s })) (sym all)
       ∙ reading-complete (proposalList n) _ s (take given (values numbers)) at (r .reading) (le-leb n (length (take given (values numbers))) (omega (arith, listed)))
 
-  module _ (h : given < n) (step : Proposal)
+  module _ (h : given < n) {step : Proposal}
       (says : (m : ℕ) (l : List ℕ) → suc (length l) ≡ given + 1 → proposalOutcome l step ≡ stepOf (proposalList m) l (take (length s - at) (drop at s))) where
     said : (x : Proposal) → step ≡ x → proposalOutcome (take given (values numbers)) x ≡ stepOf (proposalList n) (take given (values numbers)) (take (length s - at) (drop at s))
     said x e = ap (proposalOutcome (take given (values numbers))) (sym e) ∙ says n (take given (values numbers)) (ap suc listed ∙ sym (add-one given))
 
-    pub proposing-stop : (q : Refusal) → step ≡ Stop q → refused q ≡ readList (proposalList n) [] s
-    proposing-stop q e =
+    pub proposing-stop : {q : Refusal} → step ≡ Stop q → refused q ≡ readList (proposalList n) [] s
+    proposing-stop {q} e =
         reading-stop (proposalList n) _ s (take given (values numbers)) at (r .reading) (lt-leb n (length (take given (values numbers))) (omega (arith, listed))) q (said (Stop q) e)
 
-    pub proposing-turn : (v : Pattern) → step ≡ Number v → Proposing s n (set numbers given v) (given + 1) (at + 5)
+    pub proposing-turn : {v : Pattern} → step ≡ Number v → Proposing s n (set numbers given v) (given + 1) (at + 5)
     unfolding widthOf bodyWidth
-    proposing-turn v e = record {
+    proposing-turn {v} e = record {
       few = omega arith;
       room = length-set numbers given v ∙ r .room;
       reading =

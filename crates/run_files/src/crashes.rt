@@ -1,7 +1,7 @@
 // Crashes of drives: what a CR says by drive, and refusals 8, 9 and 10.
 ghost use mathlib.Core.Path.{_≡_};
 ghost use Rattle.tables.specs.Reading.{outcomeOf};
-ghost use Rattle.runs.specs.CrashRecords.{isNext, isRound, mostSends, checkedCrash};
+ghost use Rattle.runs.specs.CrashRecords.{isNext, mostSends, checkedCrash};
 ghost use Rattle.run_files.specs.Reading.{crashRecord};
 use drive_sets::Drive;
 use drive_sets::Refusal;
@@ -19,23 +19,10 @@ pub struct Crashes {
 fn is_next(n: u8, last: Drive, drive: Drive) -> bool
     ensures { λ r. ⌜ r ≡ isNext n (last .0) (drive .0) ⌝ }
 {
-    let d = drive.0;
-    if d < 1 {
+    if !drive_sets::is_drive(n, drive) {
         return false;
     }
-    if n < d {
-        return false;
-    }
-    last.0 < d
-}
-
-// A round of an exchange whose core this is.
-fn is_round(core: u64, round: Round) -> bool
-    ensures { λ r. ⌜ r ≡ isRound core (round .0) ⌝ }
-{
-    let q = round.0;
-    let most = drive_sets::size(core);
-    1 <= q && q as u32 <= most
+    last.0 < drive.0
 }
 
 // How many sends a CR of the drive may have.
@@ -59,7 +46,7 @@ pub fn check_crash(n: u8, core: u64, last: Drive, drive: Drive, round: Round, se
     if !is_next(n, last, drive) {
         return Answer::Refused(Refusal::DriveNumber);
     }
-    if !is_round(core, round) {
+    if !drive_sets::is_round(core, round) {
         return Answer::Refused(Refusal::CrashRound);
     }
     if most_sends(n, core, drive) < sends {

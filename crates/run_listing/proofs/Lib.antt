@@ -1,4 +1,3 @@
 -- What the functions' proofs share.
-pub mod RunTexts
 pub mod Lengths
 pub mod RunPrograms

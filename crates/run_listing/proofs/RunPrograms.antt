@@ -1,9 +1,15 @@
--- The text of the run program, from what the readers and the simulated exchange give.
-use mathlib.Core.Path.{_≡_, sym, ap, _∙_}
-use mathlib.Core.List.{List, _++_}
-use Prim.Native.Nat.{ℕ}
-use lib.ListN.{take}
+-- The lines of the drives, and the text of the run program, from what the readers and the simulated exchange give.
+use mathlib.Core.Path.{_≡_, refl, ap, _∙_, sym}
+use mathlib.Core.List.{List, map, _++_}
+use Prim.Native.Nat.{ℕ, zero, suc, _+_, _<_}
+use native.Mathlib.Omega.{arith}
+use lib.ListN.{getD, take}
 use Rattle.drive_sets.specs.Lists.{range}
+use Rattle.simulation.specs.Endings.{endingBy, endingsIn, foundOf, simulatedOutcome}
+use Rattle.agreement.specs.Simulated.{Ending}
+use Rattle.text.specs.Text.{joined, refusalLine}
+use Rattle.run_listing.specs.RunListing.{driveLine, endingLines, coreLine, runText, simulatedWith}
+use Rattle.run_listing.specs.RunParts.{endingFor, driveLines, endingAt}
 use Rattle.drive_sets.specs.Refusals.{Outcome, andThen, number}
 use Rattle.drive_sets.specs.declared.Refusal.{Refusal}
 use Rattle.tables.specs.Files.{ReadTable}
@@ -14,12 +20,24 @@ use Rattle.run_files.specs.RunFiles.{RunFile, readRunFile}
 use Rattle.run_files.specs.Reading.{values, crashesIn, runFileOutcome}
 use Rattle.run_files.specs.declared.reading.RunFile as files
 use Rattle.simulation.specs.Simulation.{Simulated, simulated}
-use Rattle.simulation.specs.Endings.{endingsIn, foundOf, endingBy, simulatedOutcome}
 use Rattle.simulation.specs.declared.simulating.Simulated as simulations
-use Rattle.text.specs.Text.{refusalLine}
-use Rattle.run_listing.specs.RunListing.{coreLine, runText, simulatedWith}
-use Rattle.run_listing.specs.RunParts.{endingFor, endingAt, driveLines}
-use Rattle.run_listing.proofs.RunTexts.{drives-endings}
+
+-- ---- the lines of the drives
+
+-- the lines of the drives are those of the list of endings
+pub drives-endings : (ending : ℕ → Ending) (d k : ℕ) → driveLines ending (range d k) ≡ endingLines d (map ending (range d k))
+unfolding driveLines joined endingLines range
+drives-endings ending d zero = refl
+drives-endings ending d (suc k) = ap (λ (r : List ℕ). driveLine d (ending d) ++ r) (drives-endings ending (suc d) k)
+
+-- the drive at a place of the drives from d on
+pub drive-at : (d k i : ℕ) → i < k → i + d ≡ getD (range d k) i 0
+unfolding range
+drive-at d zero i h = absurd (omega arith)
+drive-at d (suc k) zero h = omega arith
+drive-at d (suc k) (suc i) h = let on = drive-at (suc d) k i (omega arith) in let same : suc i + d ≡ i + suc d = omega arith in same ∙ on
+
+-- ---- the table
 
 -- the text behind a table that was read
 abbrev pub textBehind : Outcome ReadTable → List ℕ

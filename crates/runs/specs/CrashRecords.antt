@@ -7,7 +7,7 @@ use lib.ListN.{getD}
 use Rattle.drive_sets.specs.declared.Refusal.the-variants.{DriveNumber, CrashRound, CrashSends}
 use Rattle.drive_sets.specs.Masks.{has, size, ofDrives}
 use Rattle.drive_sets.specs.Refusals.{Outcome, result, refuseIf}
-use Rattle.drive_states.specs.State.{isDrive}
+use Rattle.drive_sets.specs.Counts.{isDrive, isRound}
 use Rattle.runs.specs.Scenario.{Crash, stays, crashes, Scenario}
 
 -- a CR record: drive, round, sends
@@ -25,10 +25,6 @@ crashed crs = ofDrives (map (λ (c : CrashRecord). c .drive) crs)
 -- a drive of the frame, above the last
 unfoldable pub isNext : ℕ → ℕ → ℕ → Bool
 isNext n last d = isDrive n d && ltb last d
-
--- a round from 1 to the core's size
-unfoldable pub isRound : ℕ → ℕ → Bool
-isRound core round = leb 1 round && leb round (size core)
 
 -- how many sends a CR may have: n − 1 for a core drive, none for a listener
 unfoldable pub mostSends : ℕ → ℕ → ℕ → ℕ

@@ -8,15 +8,14 @@ use Prim.Native.Nat.{ℕ, suc}
 use lib.Dec.{eqb}
 use lib.ListN.{length, getD}
 use Rattle.drive_sets.specs.declared.Refusal.the-variants.{NoRoom}
-use Rattle.drive_sets.specs.Lists.{keep, all, any, elem}
+use Rattle.drive_sets.specs.Lists.{filter, all, any, elem}
 use Rattle.drive_sets.specs.Masks.{has, size}
 use Rattle.drive_sets.specs.Refusals.{Outcome, refused, result, number}
-use Rattle.drive_states.specs.State.{isDrive}
+use Rattle.drive_sets.specs.Counts.{isDrive}
 use Rattle.runs.specs.Protocol.{Protocol}
 use Rattle.runs.specs.World.{Call, opens, sends, delivers, closes, driveOf, Slot, unopened, opened, World, nothingOpen, apply, applyAll, refusedIn, active}
 use Rattle.runs.specs.Scenario.{Scenario, frame, coreOf, goneBefore, goneBy, sendsNone}
 pub mod Laws
-pub mod Books
 
 -- the two lists are equal
 unfoldable pub sameList : List ℕ → List ℕ → Bool
@@ -52,13 +51,13 @@ pub data Sent : Type 0 where
   wrote : List ℕ → Sent
 
 -- what each sender's call gave, which messages were delivered (from, to), and who has closed
-pub record Book : Type 0 where
+pub record RoundProgress : Type 0 where
   pub sent : ℕ → Sent
   pub delivered : ℕ → ℕ → Bool
   pub closed : ℕ → Bool
 
-unfoldable pub emptyBook : Book
-emptyBook = record { sent = λ d. pending; delivered = λ d e. false; closed = λ e. false }
+unfoldable pub nothingYet : RoundProgress
+nothingYet = record { sent = λ d. pending; delivered = λ d e. false; closed = λ e. false }
 
 unfoldable pub isCalled : Sent → Bool
 isCalled pending = false
@@ -103,31 +102,31 @@ closer s r w₀ d = isDrive (s .n) d && active (w₀ d) && not (goneBy (s .crash
 module _ (s : Scenario) (r : ℕ) (w₀ : World) where
   -- in the end every sender was called, unless it has a CR for this round with no sends, and every closer closed; messages to a drive
   -- that does not close, having halted or having a CR up to this round, may be missing
-  unfoldable pub complete : Book → Bool
+  unfoldable pub complete : RoundProgress → Bool
   complete b =
       all (λ d. not (sender s r w₀ d) || isCalled (b .sent d) || sendsNone (s .crash d) r) (frame s)
       && all (λ e. not (closer s r w₀ e) || b .closed e) (frame s)
 
 module _ (P : Protocol) (s : Scenario) (r : ℕ) (w₀ : World) where
   -- d wrote these bytes, e is on its list, and they have not been delivered to e
-  unfoldable pub owes : Book → ℕ → List ℕ → ℕ → Bool
-  owes b e bytes d = wroteJust (b .sent d) bytes && elem e (P .reach s r d) && not (b .delivered d e)
+  unfoldable pub undelivered : RoundProgress → ℕ → List ℕ → ℕ → Bool
+  undelivered b e bytes d = wroteJust (b .sent d) bytes && elem e (P .reach s r d) && not (b .delivered d e)
 
   -- what d sends to e in this round, if anything, has been delivered
-  unfoldable pub arrived : Book → ℕ → ℕ → Bool
+  unfoldable pub arrived : RoundProgress → ℕ → ℕ → Bool
   arrived b e d = not (sender s r w₀ d && elem e (P .reach s r d)) || settled (b .sent d) (b .delivered d e)
 
   -- A send is due once, into a buffer with room; the bytes written, by one message call each, to the drives of the list; a close once,
   -- after the drive's own send and the messages to it.
-  unfoldable pub due : Book → World → Call → Bool
+  unfoldable pub due : RoundProgress → World → Call → Bool
   due b w (opens d n sets own number) = false
   due b w (sends d room start) = sender s r w₀ d && not (isCalled (b .sent d)) && not (lacksRoom (sendingOf P (w d) room start))
-  due b w (delivers e bytes) = any (owes b e bytes) (frame s)
+  due b w (delivers e bytes) = any (undelivered b e bytes) (frame s)
   due b w (closes e) =
       closer s r w₀ e && not (b .closed e) && (not (sender s r w₀ e) || isCalled (b .sent e)) && all (arrived b e) (frame s)
 
-  -- the book after a due call; a message is that of the first sender that owes it
-  unfoldable pub noted : Book → World → Call → Book
+  -- the progress after a due call; a message is that of the first sender of which it is undelivered
+  unfoldable pub noted : RoundProgress → World → Call → RoundProgress
   noted b w (opens d n sets own number) = b
   noted b w (sends d room start) = record {
     sent = λ x. cond (eqb x d) (sentBy (sendingOf P (w d) room start)) (b .sent x);
@@ -135,12 +134,12 @@ module _ (P : Protocol) (s : Scenario) (r : ℕ) (w₀ : World) where
     closed = b .closed;
   }
   noted b w (delivers e bytes) =
-      let d = getD (keep (owes b e bytes) (frame s)) 0 0 in
+      let d = getD (filter (undelivered b e bytes) (frame s)) 0 0 in
       record { sent = b .sent; delivered = λ x y. (eqb x d && eqb y e) || b .delivered x y; closed = b .closed }
   noted b w (closes e) = record { sent = b .sent; delivered = b .delivered; closed = λ x. eqb x e || b .closed x }
 
   -- each call is due or refused
-  unfoldable pub roundPart : Book → World → List Call → Bool
+  unfoldable pub roundPart : RoundProgress → World → List Call → Bool
   roundPart b w [] = complete s r w₀ b
   roundPart b w (c ∷ cs) = (due b w c || refusedIn P w c) && roundPart (cond (due b w c) (noted b w c) b) (apply P w c) cs
 
@@ -150,7 +149,7 @@ module _ (P : Protocol) where
   -- the parts of the rounds r, r + 1, ..
   unfoldable pub roundParts : Scenario → ℕ → World → List (List Call) → Bool
   roundParts s r w [] = true
-  roundParts s r w (p ∷ ps) = roundPart P s r w emptyBook w p && roundParts s (suc r) (applyAll P w p) ps
+  roundParts s r w (p ∷ ps) = roundPart P s r w nothingYet w p && roundParts s (suc r) (applyAll P w p) ps
 
 unfoldable pub joined : List (List Call) → List Call
 joined [] = []

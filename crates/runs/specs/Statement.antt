@@ -5,13 +5,14 @@ use mathlib.Core.List.{List, [], _∷_, _++_}
 use Prim.Native.Nat.{ℕ, zero, suc, _-_, _≤_, _<_}
 use lib.Dec.{eqb}
 use lib.ListN.{length, take, getD}
-use Rattle.drive_sets.specs.Lists.{keep, elem}
+use Rattle.drive_sets.specs.Lists.{filter, elem}
 use Rattle.drive_sets.specs.Masks.{has, size, drives}
 use Rattle.drive_sets.specs.Refusals.{result}
 use Rattle.set_orders.specs.Order.{normal}
 use Rattle.tables.specs.Tables.{chosen, normalTable}
 use Rattle.drive_states.specs.declared.Decision.the-variants.{Decided}
-use Rattle.drive_states.specs.State.{isDrive, isDecided, patternLimit}
+use Rattle.drive_sets.specs.Counts.{isDrive}
+use Rattle.drive_states.specs.State.{isDecided, patternLimit}
 use Rattle.runs.specs.Protocol.{Protocol}
 use Rattle.runs.specs.World.{Call, opens, sends, delivers, closes, World, nothingOpen, apply, applyAll, decisionOf, roundIn}
 use Rattle.runs.specs.Scenario.{Scenario, stays, crashes, coreOf, hasCrash}
@@ -52,7 +53,7 @@ pub record Proposed (s : Scenario) (v : ℕ) : Type 0 where
 
 -- f, the number of core drives with a CR
 unfoldable pub coreCrashes : Scenario → ℕ
-coreCrashes s = length (keep (λ d. hasCrash (s .crash d)) (drives (coreOf s)))
+coreCrashes s = length (filter (λ d. hasCrash (s .crash d)) (drives (coreOf s)))
 
 -- the round by whose close every drive that stays up decides, and which is reached: f + 1
 abbrev pub lastRound : Scenario → ℕ

@@ -9,7 +9,7 @@ use Rattle.drive_sets.specs.Masks.{size}
 use Rattle.drive_states.specs.declared.Exchange.{Exchange}
 use Rattle.drive_states.specs.declared.Decision.{Decision}
 use Rattle.drive_states.specs.declared.Decision.the-variants.{Undecided, Decided}
-use Rattle.drive_states.specs.State.{isDrive}
+use Rattle.drive_sets.specs.Counts.{isDrive}
 use Rattle.runs.specs.World.{World, nothingOpen, decisionOf}
 use Rattle.agreement.specs.Document01.{applyAll}
 use Rattle.runs.specs.Scenario.{Scenario, coreOf}

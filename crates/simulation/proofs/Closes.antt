@@ -1,14 +1,13 @@
--- The closes of a round: one drive's, and the loop over the drives.
-use mathlib.Core.Path.{_≡_, sym, ap, _∙_}
-use mathlib.Core.Bool.{Bool, true, false, not, _&&_, cond}
+-- The closes of a round: the loop over the drives.
+use mathlib.Core.Path.{_≡_, ap, _∙_}
+use mathlib.Core.Bool.{Bool, not, _&&_, cond}
 use mathlib.Core.List.{List, [], _∷_, map}
 use Prim.Native.Nat.{ℕ, _+_, _≤_, _<_}
 use native.Mathlib.Omega.{arith}
 use lib.ListN.{getD, set, length-set}
 use lib.Seq.{set-getD}
-use borrow.Author.Tests.{not-true, not-false}
-use Rattle.drive_sets.specs.Bools.{by-test, cond-true, cond-false}
-use Rattle.drive_sets.specs.Lists.{range, keep}
+use Rattle.drive_sets.specs.Bools.{by-test}
+use Rattle.drive_sets.specs.Lists.{range, filter}
 use Rattle.drive_states.specs.declared.Exchange.{Exchange}
 use Rattle.agreement.specs.Calls.{closing}
 use Rattle.exchange.specs.Replies.{stateAfter}
@@ -20,15 +19,6 @@ use Rattle.run_files.specs.declared.crashes.Crashes.{Crashes}
 use Rattle.simulation.specs.States.{crashAt, blank, stateAt, worldOf, closers}
 use Rattle.simulation.proofs.Worlds.{state-place, close-place}
 use Rattle.simulation.proofs.Walks.{Walking, callsIf, walk-turn, walk-end, calls-kept, calls-single}
-
--- ---- the close of one drive, by the code's test
-
-module _ (x : Exchange) (b p : Bool) (e : b ≡ p) where
-  pub not-closed : not b ≡ true → x ≡ cond p (stateAfter x (closing x)) x
-  not-closed h = sym (cond-false _ _ (sym e ∙ not-true b h))
-
-  pub closed-now : not b ≡ false → (y : Exchange) → y ≡ stateAfter x (closing x) → y ≡ cond p (stateAfter x (closing x)) x
-  closed-now h y f = f ∙ sym (cond-true _ _ (sym e ∙ not-false b h))
 
 -- ---- the loop
 
@@ -48,24 +38,13 @@ module _ (n : ℕ) (c : Crashes) (r : ℕ) (began states : List Exchange) where
       → Closing n c r began states (set all i y) (i + 1)
   unfolding worlds.applyAll
   close-turn all i y g h few e =
-      walk-turn n (closeCalls c r began) states all (set all i y) i g h (length-set all i y ∙ g .long) (by-test (closesNow c r began (i + 1)) closing-now keeping)
-    where
-      same : (active (opened (getD began i blank)) && not (goneBy (crashAt c (i + 1)) r)) ≡ closesNow c r began (i + 1)
-      same = ap (λ (x : Exchange). active (opened x) && not (goneBy (crashAt c (i + 1)) r)) (sym (state-place began i))
-
-      closing-now : closesNow c r began (i + 1) ≡ true → worldOf n (set all i y) ≡ applyAll (worldOf n all) (closeCalls c r began (i + 1))
-      closing-now t =
-          ap (λ (z : Exchange). worldOf n (set all i z)) (e ∙ cond-true _ _ (same ∙ t))
-          ∙ (close-place n all i h (omega (arith, few, g .long)) ∙ ap (applyAll (worldOf n all)) (sym (cond-true _ _ t)))
-
-      keeping : closesNow c r began (i + 1) ≡ false → worldOf n (set all i y) ≡ applyAll (worldOf n all) (closeCalls c r began (i + 1))
-      keeping t =
-          ap (λ (z : Exchange). worldOf n (set all i z)) (e ∙ cond-false _ _ (same ∙ t))
-          ∙ (ap (worldOf n) (set-getD all i blank) ∙ ap (applyAll (worldOf n all)) (sym (cond-false _ _ t)))
+      walk-turn n (closeCalls c r began) states all (set all i y) i g h (length-set all i y ∙ g .long)
+      (rw (state-place began i, e) (by-test (active (opened (getD began i blank)) && not (goneBy (crashAt c (i + 1)) r))
+      (λ t. rw t (close-place n all i h (omega (arith, few, g .long)))) (λ t. rw t (ap (worldOf n) (set-getD all i blank)))))
 
   pub close-end : (all : List Exchange) (i : ℕ) → Closing n c r began states all i → n ≤ i
       → worldOf n all ≡ applyAll (worldOf n states) (map closes (closers n began c r))
   unfolding closers
   close-end all i g h =
       walk-end n (closeCalls c r began) states all i g h
-      ∙ ap (applyAll (worldOf n states)) (calls-kept (closesNow c r began) (λ d. closes d ∷ []) (range 1 n) ∙ calls-single closes (keep (closesNow c r began) (range 1 n)))
+      ∙ ap (applyAll (worldOf n states)) (calls-kept (closesNow c r began) (λ d. closes d ∷ []) (range 1 n) ∙ calls-single closes (filter (closesNow c r began) (range 1 n)))

@@ -10,7 +10,7 @@ use Rattle.drive_sets.specs.Masks.Outside.{outside-lt}
 use Rattle.drive_sets.specs.Masks.Sizes.{lowest-has, length-drives, drives-none}
 use Rattle.drive_sets.specs.Loops.Drives.{removed, taken-drives}
 use Rattle.drive_states.specs.declared.Exchange.{Exchange}
-use Rattle.drive_states.specs.State.Laws.{is-drive}
+use Rattle.drive_sets.specs.Counts.Laws.{is-drive}
 use Rattle.agreement.specs.Calls.{receiving}
 use Rattle.exchange.specs.Replies.{stateAfter}
 use Rattle.runs.specs.World.{Call, delivers, World}

@@ -1,4 +1,4 @@
--- The first decision of a drive: one drive's after a round, and the loop over the drives.
+-- The first decisions: nothing found, and the loop over the drives after a round.
 use mathlib.Core.Path.{_≡_, refl, sym, ap, ap₂, _∙_, subst}
 use mathlib.Core.Bool.{true}
 use mathlib.Core.List.{List}
@@ -7,16 +7,15 @@ use native.Mathlib.Omega.{arith}
 use lib.Dec.{eqb}
 use lib.ListN.{length, getD, set, replicate, length-set}
 use lib.Seq.{getD-set-same, getD-set-other}
-use borrow.Author.Tests.{eqb-true, eqb-false, ne-eqb}
-use Rattle.drive_sets.specs.Bools.{by-test, cond-false}
+use borrow.Author.Tests.{eqb-true, eqb-false}
+use Rattle.drive_sets.specs.Bools.{by-test}
 use Rattle.drive_sets.specs.declared.Pattern.{Pattern}
 use Rattle.drive_sets.specs.declared.Round.{Round}
 use Rattle.drive_states.specs.declared.Exchange.{Exchange}
 use Rattle.drive_states.specs.declared.Decision.{Decision}
-use Rattle.drive_states.specs.declared.Decision.the-variants.{Undecided, Decided}
-use Rattle.drive_states.specs.State.{isDrive}
-use Rattle.drive_states.specs.State.Laws.{drive-bounds}
-use Rattle.agreement.specs.Simulated.{Ending, decides, undecided}
+use Rattle.drive_sets.specs.Counts.{isDrive}
+use Rattle.drive_sets.specs.Counts.Laws.{drive-bounds}
+use Rattle.agreement.specs.Simulated.{Ending, undecided}
 use Rattle.agreement.specs.Canonical.{endingOn}
 use Rattle.run_files.specs.Reading.{noRound, roundAt}
 use Rattle.simulation.specs.States.{noPattern, numberAt, blank, stateAt}
@@ -33,27 +32,6 @@ module _ {A : Type 0} where
 pub none-found : (round number : ℕ) → round ≡ 0 → endingBy round number ≡ undecided
 unfolding endingBy
 none-found round number e = ap (λ (x : ℕ). endingBy x number) e
-
--- ---- one drive, after a round
-
-some-found : (round number : ℕ) → (round ≡ 0 → ⊥) → endingBy round number ≡ decides number round
-unfolding endingBy
-some-found round number n = cond-false _ _ (ne-eqb round 0 n)
-
-module _ (was number : ℕ) (decision : Decision) (r : ℕ) where
-  pub kept : (was ≡ 0 → ⊥) → endingBy was number ≡ orLater (endingBy was number) (endingOn decision r undecided)
-  unfolding orLater
-  kept h = some-found was number h ∙ sym (ap (λ x. orLater x (endingOn decision r undecided)) (some-found was number h))
-
-  pub still-none : was ≡ 0 → decision ≡ Undecided → endingBy 0 number ≡ orLater (endingBy was number) (endingOn decision r undecided)
-  unfolding orLater endingOn endingBy
-  still-none h e = ap₂ (λ (w : ℕ) (x : Decision). orLater (endingBy w number) (endingOn x r undecided)) (sym h) (sym e)
-
-  pub found-now : was ≡ 0 → (v : Pattern) → decision ≡ Decided v → 1 ≤ r → endingBy r (v .0) ≡ orLater (endingBy was number) (endingOn decision r undecided)
-  unfolding orLater endingOn endingBy
-  found-now h v e low =
-      some-found r (v .0) (λ z. absurd (omega (arith, low, z)))
-      ∙ ap₂ (λ (w : ℕ) (x : Decision). orLater (endingBy w number) (endingOn x r undecided)) (sym h) (sym e)
 
 -- ---- the loop
 

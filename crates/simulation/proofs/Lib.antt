@@ -1,6 +1,5 @@
 -- Laws of the code: the crashes by drive, the world of the array of states, a round's closes, messages and calls, the openings, the first
 -- decisions, all rounds, the checks of the crashes, the bound on pattern numbers, and the result.
-pub mod CrashesByDrive
 pub mod Worlds
 pub mod Walks
 pub mod Closes

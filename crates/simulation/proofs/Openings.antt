@@ -13,10 +13,10 @@ use Rattle.drive_sets.specs.declared.Pattern.{Pattern}
 use Rattle.drive_sets.specs.Lists.{elem, range}
 use Rattle.drive_sets.specs.Lists.Laws.{elem-none, elem-head, elem-tail, elem-cases}
 use Rattle.drive_sets.specs.Refusals.{result}
-use Rattle.drive_sets.specs.Bools.{clash, by-test, false-of, cond-true, cond-false}
+use Rattle.drive_sets.specs.Bools.{clash, by-test, false-of}
 use Rattle.drive_states.specs.declared.Exchange.{Exchange}
-use Rattle.drive_states.specs.State.{isDrive}
-use Rattle.drive_states.specs.State.Laws.{drive-bounds, isDrive-range}
+use Rattle.drive_sets.specs.Counts.{isDrive}
+use Rattle.drive_sets.specs.Counts.Laws.{drive-bounds, isDrive-range}
 use Rattle.set_orders.specs.Order.{normal}
 use Rattle.agreement.specs.Calls.{initial, opening}
 use Rattle.agreement.proofs.CallLaws.{opening-accepted}
@@ -85,27 +85,19 @@ module _ (n core : ℕ) (numbers : List Pattern) (c : Crashes) (s : Scenario) (g
   openings-of : (ds : List ℕ) (w : World) → ((d : ℕ) → elem d ds ≡ true → isDrive n d ≡ true) → (e : ℕ)
       → after-openings ds w e ≡ cond (elem e ds) (opened (first e)) (w e)
   unfolding after-openings worlds.applyAll worlds.apply afterCall
-  openings-of [] w h e = sym (cond-false _ _ (elem-none e))
+  openings-of [] w h e = rw (elem-none e)
   openings-of (d ∷ ds) w h e =
-      let rest = openings-of ds (put w d slot) (λ x i. h x (elem-tail x d ds i)) e in
-      by-test (elem e ds)
-      (λ t. rest ∙ (cond-true _ _ t ∙ sym (cond-true _ _ (elem-tail e d ds t))))
-      (λ t. rest ∙ (cond-false _ _ t ∙ by-test (eqb e d) (λ q. here (eqb-true e d q)) (λ q. there t q)))
+      openings-of ds (put w d slot) (λ x i. h x (elem-tail x d ds i)) e
+      ∙ by-test (elem e ds) (λ t. rw (t, elem-tail e d ds t)) (λ t. rw t (by-test (eqb e d) (λ q. here (eqb-true e d q)) (λ q. there t q)))
     where
       slot : Slot
       slot = afterCall (w d) (opening (s .n) (s .sets) d (s .proposal d))
 
       here : e ≡ d → put w d slot e ≡ cond (elem e (d ∷ ds)) (opened (first e)) (w e)
-      here q =
-          ap (put w d slot) q
-          ∙ (put-same w d slot
-          ∙ (ap (afterCall (w d)) (opening-gives d (h d (elem-head d ds)))
-          ∙ (ap (λ (x : ℕ). opened (first x)) (sym q) ∙ sym (cond-true _ _ (ap (λ (x : ℕ). elem x (d ∷ ds)) q ∙ elem-head d ds)))))
+      here q = rw (q, elem-head d ds, put-same w d slot) (ap (afterCall (w d)) (opening-gives d (h d (elem-head d ds))))
 
       there : elem e ds ≡ false → eqb e d ≡ false → put w d slot e ≡ cond (elem e (d ∷ ds)) (opened (first e)) (w e)
-      there t q =
-          put-other w d slot e q
-          ∙ sym (cond-false _ _ (false-of (elem e (d ∷ ds)) (λ i. ⊎-elim (λ x. eqb-false e d q x) (λ x. clash x t) (elem-cases e d ds i))))
+      there t q = rw (put-other w d slot e q, false-of (elem e (d ∷ ds)) (λ i. ⊎-elim (λ x. eqb-false e d q x) (λ x. clash x t) (elem-cases e d ds i)))
 
   pub world-opened : (states : List Exchange) → ((d : ℕ) → isDrive n d ≡ true → stateAt states d ≡ first d) → worldOf n states ≡ applyAll nothingOpen (openingCalls s)
   unfolding worldOf openingCalls frame nothingOpen after-openings
@@ -120,5 +112,5 @@ module _ (n core : ℕ) (numbers : List Pattern) (c : Crashes) (s : Scenario) (g
       by-drive : (e : ℕ) → worldOf n states e ≡ cond (elem e (range 1 (s .n))) (opened (first e)) (nothingOpen e)
       by-drive e =
           by-test (isDrive n e)
-          (λ t. cond-true _ _ t ∙ (ap opened (same e t) ∙ sym (cond-true _ _ (listed e ∙ t))))
-          (λ t. cond-false _ _ t ∙ sym (cond-false _ _ (listed e ∙ t)))
+          (λ t. rw (t, listed e ∙ t) (ap opened (same e t)))
+          (λ t. rw (t, listed e ∙ t))

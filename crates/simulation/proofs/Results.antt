@@ -10,22 +10,21 @@ use lib.Dec.{eqb}
 use borrow.Author.Tests.{eqb-true, eqb-false, eq-eqb, ne-eqb}
 use Rattle.drive_sets.specs.Bools.{by-test, cond-true, cond-false}
 use Rattle.drive_sets.specs.Lists.{range, elem}
-use Rattle.drive_sets.specs.Lists.Laws.{elem-none, elem-head, elem-tail, any-true, any-false, keep-same}
-use Rattle.drive_sets.specs.Lists.Takes.{keep-keep}
+use Rattle.drive_sets.specs.Lists.Laws.{elem-none, elem-head, elem-tail, any-true, any-false, filter-same}
+use Rattle.drive_sets.specs.Lists.Takes.{filter-filter}
 use Rattle.drive_sets.specs.Masks.{has, common, size, drives}
 use Rattle.drive_sets.specs.Masks.Laws.{has-common}
 use Rattle.drive_sets.specs.Masks.Sizes.{elem-drives, length-drives}
 use Rattle.drive_sets.specs.declared.Pattern.{Pattern}
 use Rattle.drive_sets.specs.declared.Refusal.{Refusal}
-use Rattle.drive_sets.specs.declared.Refusal.the-variants.{NoneUntouched}
-use Rattle.drive_sets.specs.Refusals.{Outcome, refused, result, refuseIf, andThen}
+use Rattle.drive_sets.specs.Refusals.{Outcome, refused, result, andThen}
 use Rattle.drive_sets.specs.Refusals.Laws.{refused-no-result}
-use Rattle.hitting_sets.specs.Hitting.{hits}
 use Rattle.set_orders.specs.Order.{normal}
 use Rattle.tables.specs.Tables.{chosen, normalTable, chosenCore}
 use Rattle.tables.specs.Tables.Laws.{Accepted, accepted-table, core-given, chosen-core}
-use Rattle.drive_states.specs.State.{isDrive, patternLimit}
-use Rattle.drive_states.specs.State.Laws.{drive-bounds, isDrive-range}
+use Rattle.drive_sets.specs.Counts.{isDrive}
+use Rattle.drive_states.specs.State.{patternLimit}
+use Rattle.drive_sets.specs.Counts.Laws.{drive-bounds, isDrive-range}
 use Rattle.runs.specs.Scenario.{Crash, stays, crashes, Scenario, frame, coreOf, hasCrash}
 use Rattle.runs.specs.CrashRecords.{CrashRecord, crashed, crashIn, scenario}
 use Rattle.runs.specs.Statement.{Valid, Up, coreCrashes}
@@ -35,7 +34,6 @@ use Rattle.agreement.proofs.Refinement.Endings.{canonical-gives}
 use Rattle.run_files.specs.declared.crashes.Crashes.{Crashes}
 use Rattle.run_files.specs.Reading as files
 use Rattle.run_files.specs.Reading.{values, roundAt}
-use Rattle.run_files.specs.Reading.Laws.{crashed-in}
 use Rattle.simulation.specs.Simulation.{checkedCrashes, Simulated, simulatedOf, unlessTouched, simulated}
 use Rattle.simulation.specs.Simulation.Laws.{checked-valid}
 use Rattle.simulation.specs.States.{crashAt, noPattern, numberAt, Says, Told}
@@ -68,9 +66,9 @@ module _ (n core : ℕ) (c : Crashes) (s : Scenario) (g : Says n core c s) where
   unfolding coreCrashes drives
   stops-counted =
       sym (length-drives (common core (c .crashed)))
-      ∙ ap length (keep-same (λ d. has d (common core (c .crashed))) (λ d. has d (coreOf s) && hasCrash (s .crash d)) (range 1 64)
+      ∙ ap length (filter-same (λ d. has d (common core (c .crashed))) (λ d. has d (coreOf s) && hasCrash (s .crash d)) (range 1 64)
       (λ d i. has-common d core (c .crashed) ∙ ap₂ (λ (a b : Bool). a && b) (ap (has d) (sym (g .core-is))) (sym (has-crash d)))
-      ∙ sym (keep-keep (λ d. hasCrash (s .crash d)) (λ d. has d (coreOf s)) (range 1 64)))
+      ∙ sym (filter-filter (λ d. hasCrash (s .crash d)) (λ d. has d (coreOf s)) (range 1 64)))
 
   -- the first decisions of the drives that have no CR, from the canonical order of calls, where the scenario is valid
   pub endings-found : Valid s → (found : ℕ → Ending) → ((d : ℕ) → isDrive n d ≡ true → found d ≡ canonicalEnding s d)
@@ -101,16 +99,11 @@ module _ (n core : ℕ) (c : Crashes) (s : Scenario) (g : Says n core c s) where
 crash-listed : (c : Crashes) (l : List ℕ) (d : ℕ)
     → crashIn (map (files.crashOfDrive c) l) d ≡ cond (elem d l) (crashes (roundAt (c .rounds) d) (getD (c .sends) (d - 1) 0)) stays
 unfolding crashIn elem files.crashOfDrive
-crash-listed c [] d = sym (cond-false _ _ (elem-none d))
+crash-listed c [] d = rw (elem-none d)
 crash-listed c (x ∷ l) d =
     by-test (eqb x d)
-    (λ t. cond-true _ _ t
-    ∙ (ap (λ (y : ℕ). crashes (roundAt (c .rounds) y) (getD (c .sends) (y - 1) 0)) (eqb-true x d t)
-    ∙ sym (cond-true _ _ (any-true (eqb d) x l (eq-eqb d x (sym (eqb-true x d t)))))))
-    (λ t. cond-false _ _ t
-    ∙ (crash-listed c l d
-    ∙ ap (λ (b : Bool). cond b (crashes (roundAt (c .rounds) d) (getD (c .sends) (d - 1) 0)) stays)
-    (sym (any-false (eqb d) x l (ne-eqb d x (λ e. eqb-false x d t (sym e)))))))
+    (λ t. rw (t, any-true (eqb d) x l (eq-eqb d x (sym (eqb-true x d t))), eqb-true x d t))
+    (λ t. rw (t, any-false (eqb d) x l (ne-eqb d x (λ e. eqb-false x d t (sym e)))) (crash-listed c l d))
 
 module _ (n : ℕ) (sets : List ℕ) (numbers : List Pattern) (c : Crashes) (core : ℕ) (word : c .crashed < 2 ^ 64) (e : chosenCore n sets ≡ result core) where
   -- the table is accepted, and this is its chosen core
@@ -141,15 +134,6 @@ module _ (n : ℕ) (sets : List ℕ) (numbers : List Pattern) (c : Crashes) (cor
       crash-is d =
           crash-listed c (drives (c .crashed)) d
           ∙ ap (λ (b : Bool). cond b (crashes (roundAt (c .rounds) d) (getD (c .sends) (d - 1) 0)) stays) (elem-drives d (c .crashed) word)
-
-  -- ---- 11, by the code's test
-
-  module _ {A : Type 0} (b : Bool) (is : b ≡ hits sets (c .crashed)) (next : Outcome A) where
-    pub all-touched : b ≡ true → refused NoneUntouched ≡ refuseIf (hits sets (crashed (files.crashesIn c))) NoneUntouched next
-    all-touched t = sym (cond-true _ _ (ap (hits sets) (crashed-in c word) ∙ (sym is ∙ t)))
-
-    pub some-untouched : b ≡ false → next ≡ refuseIf (hits sets (crashed (files.crashesIn c))) NoneUntouched next
-    some-untouched t = sym (cond-false _ _ (ap (hits sets) (crashed-in c word) ∙ (sym is ∙ t)))
 
   -- ---- with the chosen core
 

@@ -6,16 +6,16 @@ use mathlib.Core.List.{List, [], _∷_, _++_, map}
 use Prim.Native.Nat.{ℕ, _+_, _^_, _≤_, _<_}
 use native.Mathlib.Omega.{arith}
 use lib.Dec.{eqb}
-use Rattle.drive_sets.specs.Bools.{by-test, cond-true, cond-false}
-use Rattle.drive_sets.specs.Lists.{range, keep, elem}
-use Rattle.drive_sets.specs.Lists.Laws.{elem-head, elem-tail, elem-range, keep-same}
+use Rattle.drive_sets.specs.Bools.{by-test}
+use Rattle.drive_sets.specs.Lists.{range, filter, elem}
+use Rattle.drive_sets.specs.Lists.Laws.{elem-head, elem-tail, elem-range, filter-same}
 use Rattle.drive_sets.specs.Masks.{has, single, minus, outside, drives}
 use Rattle.drive_sets.specs.Masks.Laws.{has-minus, has-single, full-has, minus-lt}
 use Rattle.drive_sets.specs.Masks.Outside.{outside-lt, has-outside}
 use Rattle.drive_sets.specs.Masks.Frames.{drives-frame}
 use Rattle.drive_states.specs.declared.Exchange.{Exchange}
-use Rattle.drive_states.specs.State.{isDrive}
-use Rattle.drive_states.specs.State.Laws.{drive-bounds, isDrive-range}
+use Rattle.drive_sets.specs.Counts.{isDrive}
+use Rattle.drive_sets.specs.Counts.Laws.{drive-bounds, isDrive-range}
 use Rattle.agreement.specs.Calls.{sending}
 use Rattle.runs.specs.World.{Call, sends, closes, Slot, opened, World, active}
 use Rattle.agreement.specs.Document01.{document01, apply, applyAll, sendingOf}
@@ -42,19 +42,19 @@ module _ (n core : ℕ) (c : Crashes) (s : Scenario) (few : n ≤ 64) (within : 
   list-for : (d : ℕ) → isDrive n d ≡ true → listOf s d ≡ listFor n core d
   unfolding listOf listFor frame
   list-for d h =
-      ap₂ (λ (k m : ℕ). keep (λ e. has e k && not (eqb e d)) (range 1 m) ++ keep (λ e. not (has e k)) (range 1 m)) (g .core-is) (g .frame-is)
+      ap₂ (λ (k m : ℕ). filter (λ e. has e k && not (eqb e d)) (range 1 m) ++ filter (λ e. not (has e k)) (range 1 m)) (g .core-is) (g .frame-is)
       ∙ ap₂ (λ (a b : List ℕ). a ++ b) others listeners
     where
-      others : keep (λ e. has e core && not (eqb e d)) (range 1 n) ≡ drives (minus core (single d))
+      others : filter (λ e. has e core && not (eqb e d)) (range 1 n) ≡ drives (minus core (single d))
       others =
           let b = drive-bounds n d h in
-          keep-same (λ e. has e core && not (eqb e d)) (λ e. has e (minus core (single d))) (range 1 n)
+          filter-same (λ e. has e core && not (eqb e d)) (λ e. has e (minus core (single d))) (range 1 n)
           (λ e i. sym (has-minus e core (single d) ∙ ap (λ (x : Bool). has e core && not x) (has-single e d (b .0) (omega (arith, b .1, few)))))
           ∙ sym (drives-frame n (minus core (single d)) (minus-lt n core (single d) within) few)
 
-      listeners : keep (λ e. not (has e core)) (range 1 n) ≡ drives (outside n core)
+      listeners : filter (λ e. not (has e core)) (range 1 n) ≡ drives (outside n core)
       listeners =
-          keep-same (λ e. not (has e core)) (λ e. has e (outside n core)) (range 1 n)
+          filter-same (λ e. not (has e core)) (λ e. has e (outside n core)) (range 1 n)
           (λ e i. let b = elem-range e 1 n i in
           sym (has-outside e n core ∙ ap (λ (x : Bool). x && not (has e core)) (full-has e n few (b .0) (omega (arith, b .1)))))
           ∙ sym (drives-frame n (outside n core) (outside-lt n core) few)
@@ -82,26 +82,23 @@ module _ (n core : ℕ) (c : Crashes) (s : Scenario) (few : n ≤ 64) (within : 
         (ap₂ (λ (q : Crash) (l : List ℕ). cut q r l) (g .crash-is d) (list-for d h))
 
     messages-of : (ds : List ℕ) → ((d : ℕ) → elem d ds ≡ true → isDrive n d ≡ true)
-        → messageCalls s r world (keep (sender s r world) ds) ≡ joined (map (messagesBy n core states c r) ds)
-    unfolding messageCalls joined keep messagesBy
+        → messageCalls s r world (filter (sender s r world) ds) ≡ joined (map (messagesBy n core states c r) ds)
+    unfolding messageCalls joined filter messagesBy
     messages-of [] h = refl
     messages-of (d ∷ ds) h =
         let in-frame = h d (elem-head d ds) in
         let rest = messages-of ds (λ e i. h e (elem-tail e d ds i)) in
         by-test (sendsNow core states c r d)
-        (λ t. ap (messageCalls s r world) (cond-true _ _ (same-sender d in-frame ∙ t))
-        ∙ (ap₂ (λ (a b : List Call). a ++ b) (same-messages d in-frame) rest
-        ∙ ap (λ (a : List Call). a ++ joined (map (messagesBy n core states c r) ds)) (sym (cond-true _ _ t))))
-        (λ t. ap (messageCalls s r world) (cond-false _ _ (same-sender d in-frame ∙ t))
-        ∙ (rest ∙ ap (λ (a : List Call). a ++ joined (map (messagesBy n core states c r) ds)) (sym (cond-false _ _ t))))
+        (λ t. rw (same-sender d in-frame, t, same-messages d in-frame) (ap (λ (l : List Call). deliveries (sending (stateAt states d) room 0) (cut (crashAt c d) r (listFor n core d)) ++ l) rest))
+        (λ t. rw (same-sender d in-frame, t) rest)
 
     -- ---- the closers
 
-    same-closers : keep (closer s r world) (frame s) ≡ closers n states c r
+    same-closers : filter (closer s r world) (frame s) ≡ closers n states c r
     unfolding closers closer frame
     same-closers =
-        ap (λ (m : ℕ). keep (closer s r world) (range 1 m)) (g .frame-is)
-        ∙ keep-same (closer s r world) (λ d. active (opened (stateAt states d)) && not (goneBy (crashAt c d) r)) (range 1 n)
+        ap (λ (m : ℕ). filter (closer s r world) (range 1 m)) (g .frame-is)
+        ∙ filter-same (closer s r world) (λ d. active (opened (stateAt states d)) && not (goneBy (crashAt c d) r)) (range 1 n)
         (λ d i. let in-frame = isDrive-range n d ∙ i in
         ap (λ (m : ℕ). isDrive m d && active (world d) && not (goneBy (s .crash d) r)) (g .frame-is)
         ∙ (ap (λ (b : Bool). b && active (world d) && not (goneBy (s .crash d) r)) in-frame
@@ -112,11 +109,11 @@ module _ (n core : ℕ) (c : Crashes) (s : Scenario) (few : n ≤ 64) (within : 
     pub round-made : applyAll world (roundCalls s r world) ≡ applyAll (applyAll world (messagesOf n core states c r)) (map closes (closers n states c r))
     unfolding roundCalls messagesOf frame
     round-made =
-        let told = messageCalls s r world (keep (sender s r world) (range 1 (s .n))) in
-        let closed = map closes (keep (closer s r world) (frame s)) in
-        applyAll-append document01 world (map (λ d. sends d room 0) (keep (sender s r world) (range 1 (s .n)))) (told ++ closed)
-        ∙ (ap (λ (w : World). applyAll w (told ++ closed)) (sends-nothing world (keep (sender s r world) (range 1 (s .n))))
+        let told = messageCalls s r world (filter (sender s r world) (range 1 (s .n))) in
+        let closed = map closes (filter (closer s r world) (frame s)) in
+        applyAll-append document01 world (map (λ d. sends d room 0) (filter (sender s r world) (range 1 (s .n)))) (told ++ closed)
+        ∙ (ap (λ (w : World). applyAll w (told ++ closed)) (sends-nothing world (filter (sender s r world) (range 1 (s .n))))
         ∙ (applyAll-append document01 world told closed
         ∙ ap₂ (λ (a : List Call) (l : List ℕ). applyAll (applyAll world a) (map closes l))
-        (ap (λ (m : ℕ). messageCalls s r world (keep (sender s r world) (range 1 m))) (g .frame-is) ∙ messages-of (range 1 n) (λ d i. isDrive-range n d ∙ i))
+        (ap (λ (m : ℕ). messageCalls s r world (filter (sender s r world) (range 1 m))) (g .frame-is) ∙ messages-of (range 1 n) (λ d i. isDrive-range n d ∙ i))
         same-closers))

@@ -7,7 +7,7 @@ use native.Mathlib.Numerals.{add-one, unary-clauses}
 use native.Mathlib.Omega.{arith}
 use lib.ListN.{length}
 use Rattle.drive_sets.specs.Bools.{by-test}
-use Rattle.drive_sets.specs.Lists.{range, keep}
+use Rattle.drive_sets.specs.Lists.{range, filter}
 use Rattle.drive_states.specs.declared.Exchange.{Exchange}
 use Rattle.runs.specs.World.{Call, World}
 use Rattle.agreement.specs.Document01.{document01, applyAll}
@@ -32,10 +32,7 @@ module _ (n : ℕ) (calls : ℕ → List Call) (states : List Exchange) where
 
   range-step : (i : ℕ) → i < n → range (suc i) (n - i) ≡ suc i ∷ range (suc (suc i)) (n - suc i)
   unfolding range
-  range-step i h = ap (range (suc i)) (the (n - i ≡ suc (n - suc i)) (omega arith))
-    where
-      the : (A : Type 0) → A → A
-      the A a = a
+  range-step i h = let more : n - i ≡ suc (n - suc i) = omega arith in ap (range (suc i)) more
 
   pub walk-turn : (all new : List Exchange) (i : ℕ) → Walking n calls states all i → i < n → length new ≡ 64
       → worldOf n new ≡ applyAll (worldOf n all) (calls (i + 1)) → Walking n calls states new (i + 1)
@@ -51,18 +48,16 @@ module _ (n : ℕ) (calls : ℕ → List Call) (states : List Exchange) where
   pub walk-end : (all : List Exchange) (i : ℕ) → Walking n calls states all i → n ≤ i → worldOf n all ≡ applyAll (worldOf n states) (callsOf calls (range 1 n))
   unfolding joined range worlds.applyAll
   walk-end all i g h =
-      ap (λ (k : ℕ). applyAll (worldOf n all) (callsOf calls (range (suc i) k))) (the (0 ≡ n - i) (omega arith)) ∙ g .rest
-    where
-      the : (A : Type 0) → A → A
-      the A a = a
+      let none : 0 ≡ n - i = omega arith in
+      ap (λ (k : ℕ). applyAll (worldOf n all) (callsOf calls (range (suc i) k))) none ∙ g .rest
 
 -- the calls of the drives that pass a test
 module _ (p : ℕ → Bool) (calls : ℕ → List Call) where
   abbrev pub callsIf : ℕ → List Call
   callsIf d = cond (p d) (calls d) []
 
-  pub calls-kept : (ds : List ℕ) → callsOf callsIf ds ≡ callsOf calls (keep p ds)
-  unfolding joined keep
+  pub calls-kept : (ds : List ℕ) → callsOf callsIf ds ≡ callsOf calls (filter p ds)
+  unfolding joined filter
   calls-kept [] = refl
   calls-kept (d ∷ ds) =
       by-test (p d)

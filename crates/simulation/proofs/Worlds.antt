@@ -1,5 +1,5 @@
 -- The world of the array of states: storing a state is putting it into the world, and a call on the drive is a store.
-use mathlib.Core.Path.{_≡_, refl, sym, ap, ap₂, _∙_, subst, fun-ext}
+use mathlib.Core.Path.{_≡_, refl, sym, ap, ap₂, _∙_, fun-ext}
 use mathlib.Core.Bool.{true, false}
 use mathlib.Core.List.{List}
 use Prim.Native.Nat.{ℕ, _+_, _-_, _≤_, _<_}
@@ -8,11 +8,11 @@ use lib.Dec.{eqb}
 use lib.ListN.{length, getD, set}
 use lib.Seq.{getD-set-same, getD-set-other}
 use borrow.Author.Tests.{eqb-true, eqb-false}
-use Rattle.drive_sets.specs.Bools.{by-test, cond-true, cond-false}
+use Rattle.drive_sets.specs.Bools.{by-test, cond-true}
 use Rattle.drive_sets.specs.Refusals.{Outcome, refused, result}
 use Rattle.drive_states.specs.declared.Exchange.{Exchange}
-use Rattle.drive_states.specs.State.{isDrive}
-use Rattle.drive_states.specs.State.Laws.{drive-bounds, is-drive}
+use Rattle.drive_sets.specs.Counts.{isDrive}
+use Rattle.drive_sets.specs.Counts.Laws.{drive-bounds, is-drive}
 use Rattle.agreement.specs.Calls.{receiving, closing}
 use Rattle.exchange.specs.Replies.{stateAfter}
 use Rattle.runs.specs.World.{opened, put, afterCall, onState, delivers, closes}
@@ -35,23 +35,18 @@ module _ (n : ℕ) (states : List Exchange) (d : ℕ) (g : isDrive n d ≡ true)
     -- a state stored at the drive's place
     pub world-set : (x : Exchange) → worldOf n (set states (d - 1) x) ≡ put (worldOf n states) d (opened x)
     unfolding worldOf stateAt
-    world-set x = fun-ext (λ e. by-test (eqb e d) (λ h. here e (eqb-true e d h) h) (λ h. there e (eqb-false e d h) h))
+    world-set x = fun-ext (λ e. by-test (eqb e d) (λ t. here e (eqb-true e d t)) (λ t. there e (eqb-false e d t) t))
       where
-        here : (e : ℕ) → e ≡ d → eqb e d ≡ true → worldOf n (set states (d - 1) x) e ≡ put (worldOf n states) d (opened x) e
-        here e h t =
-            subst (λ (z : ℕ). worldOf n (set states (d - 1) x) z ≡ put (worldOf n states) d (opened x) z) (sym h)
-            (cond-true _ _ g
-            ∙ (ap opened (getD-set-same states (d - 1) x blank (omega (arith, drive-bounds n d g .0, drive-bounds n d g .1, long)))
-            ∙ sym (put-same (worldOf n states) d (opened x))))
+        here : (e : ℕ) → e ≡ d → worldOf n (set states (d - 1) x) e ≡ put (worldOf n states) d (opened x) e
+        here e h =
+            rw (h, g, put-same (worldOf n states) d (opened x))
+            (ap opened (getD-set-same states (d - 1) x blank (omega (arith, drive-bounds n d g .0, drive-bounds n d g .1, long))))
 
         there : (e : ℕ) → (e ≡ d → ⊥) → eqb e d ≡ false → worldOf n (set states (d - 1) x) e ≡ put (worldOf n states) d (opened x) e
         there e h t =
-            by-test (isDrive n e)
-            (λ b. cond-true _ _ b
-            ∙ (ap opened (getD-set-other states (d - 1) (e - 1) x blank
-            (λ q. h (omega (arith, drive-bounds n d g .0, drive-bounds n e b .0))))
-            ∙ (sym (cond-true _ _ b) ∙ sym (put-other (worldOf n states) d (opened x) e t))))
-            (λ b. cond-false _ _ b ∙ (sym (cond-false _ _ b) ∙ sym (put-other (worldOf n states) d (opened x) e t)))
+            rw (put-other (worldOf n states) d (opened x) e t) (by-test (isDrive n e)
+            (λ b. rw b (ap opened (getD-set-other states (d - 1) (e - 1) x blank (λ q. h (omega (arith, drive-bounds n d g .0, drive-bounds n e b .0))))))
+            (λ b. rw b))
 
     -- so a call on the drive's state is the call in the world
     by-call : (call : Exchange → Outcome Exchange)

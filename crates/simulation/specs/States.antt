@@ -5,12 +5,12 @@ use mathlib.Core.List.{List, [], _++_, map}
 use Prim.Native.Nat.{ℕ, _-_}
 use lib.ListN.{getD}
 use Rattle.drive_sets.specs.declared.Pattern.{Pattern}
-use Rattle.drive_sets.specs.Lists.{range, keep}
+use Rattle.drive_sets.specs.Lists.{range, filter}
 use Rattle.drive_sets.specs.Masks.{has, single, minus, outside, drives}
 use Rattle.drive_states.specs.declared.Exchange.{Exchange}
 use Rattle.drive_states.specs.declared.Announcement.the-variants.{Absent}
 use Rattle.drive_states.specs.declared.Decision.the-variants.{Undecided}
-use Rattle.drive_states.specs.State.{isDrive}
+use Rattle.drive_sets.specs.Counts.{isDrive}
 use Rattle.agreement.specs.Calls.{sending}
 use Rattle.runs.specs.World.{Call, World, unopened, opened, active}
 use Rattle.runs.specs.Scenario.{Crash, stays, crashes, Scenario, coreOf, goneBefore, goneBy}
@@ -60,7 +60,7 @@ worldOf n states d = cond (isDrive n d) (opened (stateAt states d)) unopened
 
 -- the drives that close, where they were in these states when the round began
 unfoldable pub closers : ℕ → List Exchange → Crashes → ℕ → List ℕ
-closers n began c round = keep (λ d. active (opened (stateAt began d)) && not (goneBy (crashAt c d) round)) (range 1 n)
+closers n began c round = filter (λ d. active (opened (stateAt began d)) && not (goneBy (crashAt c d) round)) (range 1 n)
 
 -- the list of a sender: the other core drives, then the listeners
 unfoldable pub listFor : ℕ → ℕ → ℕ → List ℕ

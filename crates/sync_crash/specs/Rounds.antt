@@ -10,18 +10,16 @@ use Prim.Native.Nat.{ℕ, zero, suc}
 use lib.Dec.{eqb}
 use lib.ListN.{length}
 use Rattle.drive_sets.specs.Options.{isSome}
-use Rattle.drive_sets.specs.Lists.{range, keep, all, any, elem, smallest, firstSome}
+use Rattle.drive_sets.specs.Lists.{range, filter, all, any, elem, smallest, firstSome}
 pub mod Steps
 pub mod Decisions
 pub mod Validity
 pub mod HeardSets
-pub mod Listeners
-pub mod QuietRounds
+pub mod StableRounds
 pub mod Invariant
 pub mod InvariantSteps
 pub mod Bound
 pub mod Agreement
-pub mod LowerBound
 pub mod Proposals
 
 -- One instance of consensus: the drives (processes) 1 to n, the core, the number that each drive proposes, and the failure pattern,
@@ -64,7 +62,7 @@ module _ (S : Instance) where
 
   -- the smallest number that the drives of a set propose
   unfoldable pub smallestOf : (ℕ → Bool) → Option ℕ
-  smallestOf p = smallest proposal (keep p (range 1 n))
+  smallestOf p = smallest proposal (filter p (range 1 n))
 
   -- Round k + 1, where `view` is what each drive holds when it begins.
   module _ (view : ℕ → View) (k : ℕ) where
@@ -102,19 +100,19 @@ module _ (S : Instance) where
     unchanged e d = Bool·beq (heard e d) (view e .before d)
 
     -- heard is not empty and equals the round before
-    unfoldable pub quiet : ℕ → Bool
-    quiet e = any (heard e) (range 1 n) && all (unchanged e) (range 1 n)
+    unfoldable pub stable : ℕ → Bool
+    stable e = any (heard e) (range 1 n) && all (unchanged e) (range 1 n)
 
     -- then decide the smallest pattern number known
-    unfoldable pub ifQuiet : ℕ → Option ℕ
-    ifQuiet e =
+    unfoldable pub ifStable : ℕ → Option ℕ
+    ifStable e =
         let choice = smallestOf (known e) in
-        cond (quiet e) choice none
+        cond (stable e) choice none
 
     -- A decided drive keeps its number. For the others: if a DC came, decide the value of the lowest-numbered DC sender. Else, if heard is
     -- not empty and equals the round before, decide the smallest pattern number known. Else go on.
     unfoldable pub decides : ℕ → Option ℕ
-    decides e = orElse (view e .decision) (orElse (announced e) (ifQuiet e))
+    decides e = orElse (view e .decision) (orElse (announced e) (ifStable e))
 
     -- A decided core drive halts at the close of the round in which it sends DC; a listener halts on deciding.
     unfoldable pub halts : ℕ → Bool
@@ -157,7 +155,7 @@ module _ (S : Instance) where
 
   -- f is the number of core drives with a CR, where `correct` is the set of the drives with none.
   abbrev pub failures : (ℕ → Bool) → ℕ
-  failures correct = length (keep (λ d. core d && not (correct d)) (range 1 n))
+  failures correct = length (filter (λ d. core d && not (correct d)) (range 1 n))
 
 -- A drive decides on a number in round k + 1 if its close leaves it decided on that number and the closes before left it undecided.
 pub record DecidesIn (S : Instance) (e v k : ℕ) : Type 0 where

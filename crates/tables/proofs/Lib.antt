@@ -2,5 +2,4 @@
 pub mod Accepts
 pub mod Completes
 pub mod Steps
-pub mod WriteCalls
 pub mod Writes

@@ -1,40 +1,32 @@
 -- The reader's returns and its loop: what is read from here on is what the whole gives.
 use mathlib.Core.Path.{_≡_, refl, sym, ap, _∙_, subst}
-use mathlib.Core.Bool.{Bool, true, false, not}
 use mathlib.Core.List.{List, [], _∷_, _++_}
 use Prim.Native.Nat.{ℕ, zero, suc, _+_, _-_, _≤_, _<_}
 use native.Mathlib.Omega.{arith}
 use native.Mathlib.Numerals.{add-one}
 use lib.Dec.{leb}
-use lib.ListN.{length, getD, take, drop, set, length-set}
+use lib.ListN.{length, take, drop, set, length-set}
 use lib.Seq.{take-suc-set, length-take-le}
-use borrow.Author.Tests.{le-leb, lt-leb, leb-false}
+use borrow.Author.Tests.{leb-false}
 use Rattle.drive_sets.specs.declared.Refusal.{Refusal}
-use Rattle.drive_sets.specs.declared.Refusal.the-variants.{FrameSize, BadSet, TooManySets}
+use Rattle.drive_sets.specs.declared.Refusal.the-variants.{TooManySets}
 use Rattle.drive_sets.specs.Refusals.{Outcome, refused, result, andThen}
 use Rattle.drive_sets.specs.Refusals.Laws.{passed}
-use Rattle.records.specs.declared.Due.{Due}
 use Rattle.records.specs.declared.Due.the-variants.{AtFrame, AtFirstSet, AtSetOrEnd}
 use Rattle.records.specs.declared.Kind.{Kind}
 use Rattle.records.specs.declared.Kind.the-variants as kinds
 use Rattle.records.specs.declared.Head.{Head}
 use Rattle.records.specs.declared.Head.the-variants as heads
-use Rattle.records.specs.declared.Next.{Next}
-use Rattle.records.specs.declared.Next.the-variants as nexts
-use Rattle.records.specs.Fields.{fieldAt}
 use Rattle.records.specs.Marks.{bodyWidth, isDue, headOf}
 use Rattle.records.specs.Marks.Laws.{head-present, kind-is}
-use Rattle.records.specs.RecordLists.{nextOf, ReadList, widthOf, stepOf, readList}
-use Rattle.records.proofs.Lists.{first-byte, Reading, reading-start, reading-stop, reading-end, end-within, step-taken, reading-turn}
+use Rattle.records.specs.RecordLists.{ReadList, widthOf, stepOf, readList}
+use Rattle.records.proofs.Lists.{Reading, reading-start, reading-stop, reading-end, end-within, step-taken, reading-turn}
 use Rattle.tables.specs.declared.reading.Step.{Step}
 use Rattle.tables.specs.declared.reading.Step.the-variants.{Set, End, Stop}
-use Rattle.tables.specs.declared.reading.Answer.{Answer}
-use Rattle.tables.specs.declared.reading.Answer.the-variants as answers
-use Rattle.tables.specs.declared.reading.TableRead.{TableRead}
-use Rattle.tables.specs.Tables.{maxSets, isFrame, isSet}
-use Rattle.tables.specs.Files.{ReadTable, dueAfter, takenSet, setList, listedTable, readListed}
+use Rattle.tables.specs.Tables.{maxSets}
+use Rattle.tables.specs.Files.{ReadTable, dueAfter, takenSet, setList, listedTable}
 use Rattle.tables.specs.Files.Laws.{own-set}
-use Rattle.tables.specs.Reading.{setsOf, outcomeOf, readOutcome, stepOutcome}
+use Rattle.tables.specs.Reading.{stepOutcome}
 
 -- ---- what is due
 
@@ -47,36 +39,6 @@ pub due-later : (count : ℕ) → (count ≡ 0 → ⊥) → AtSetOrEnd ≡ dueAf
 unfolding dueAfter
 due-later zero ne = absurd (ne refl)
 due-later (suc count) ne = refl
-
--- ---- one record
-
-module _ (n count : ℕ) (s listed : List ℕ) (same : length listed ≡ count) (due : Due) (next : Next) (d : due ≡ dueAfter count) (h : next ≡ nextOf due count s) where
-  pub step-stop : (q : Refusal) → next ≡ nexts.Stop q → refused q ≡ stepOf (setList n) listed s
-  unfolding stepOf
-  step-stop q e = rw (same, ← d, ← h, e)
-
-  pub step-end : next ≡ nexts.End → stepOutcome listed End ≡ stepOf (setList n) listed s
-  unfolding stepOf
-  step-end e = rw (same, ← d, ← h, e)
-
-  module _ (e : next ≡ nexts.One) where
-    pub step-full : maxSets ≤ count → refused TooManySets ≡ stepOf (setList n) listed s
-    unfolding stepOf takenSet
-    step-full m = rw (same, ← d, ← h, e, le-leb maxSets count m)
-
-    module _ (few : count < maxSets) (x : ℕ) (t : Bool) (f : x ≡ fieldAt 2 8 s) (g : t ≡ isSet n x) where
-      pub step-set : t ≡ true → stepOutcome listed (Set x) ≡ stepOf (setList n) listed s
-      unfolding stepOf takenSet
-      step-set p = rw (same, ← d, ← h, e, lt-leb maxSets count few, ← f, ← g, p)
-
-      pub step-bad : t ≡ false → refused BadSet ≡ stepOf (setList n) listed s
-      unfolding stepOf takenSet
-      step-bad p = rw (same, ← d, ← h, e, lt-leb maxSets count few, ← f, ← g, p)
-
--- a refusal's answer
-pub refused-outcome : (r : TableRead) (s : List ℕ) (q : Refusal) → r .answer ≡ answers.Refused q → readOutcome r s ≡ refused q
-unfolding readOutcome
-refused-outcome r s q e = ap (λ (a : Answer). outcomeOf a (record { n = r .table .n; sets = setsOf (r .table); rest = drop (r .used) s })) e
 
 -- ---- the loop
 
@@ -96,14 +58,14 @@ pub record Listing (s : List ℕ) (n : ℕ) (sets : List ℕ) (count at : ℕ) :
 pub listing-start : (s : List ℕ) (n : ℕ) (sets : List ℕ) → length sets ≡ maxSets → 3 ≤ length s → Listing s n sets 0 3
 listing-start s n sets e h = record { few = omega arith; room = e; reading = reading-start (setList n) s [] 3 h }
 
-module _ (s : List ℕ) (n : ℕ) (sets : List ℕ) (count at : ℕ) (l : Listing s n sets count at) (step : Step)
+module _ {s : List ℕ} {n : ℕ} {sets : List ℕ} {count at : ℕ} (l : Listing s n sets count at) {step : Step}
     (says : (listed : List ℕ) → length listed ≡ count → stepOutcome listed step ≡ stepOf (setList n) listed (take (length s - at) (drop at s))) where
   -- what the step makes of the sets in the array
   said : (x : Step) → step ≡ x → stepOutcome (take count sets) x ≡ stepOf (setList n) (take count sets) (take (length s - at) (drop at s))
   said x e = ap (stepOutcome (take count sets)) (sym e) ∙ says (take count sets) (length-take-le count sets (omega (arith, l .few, l .room)))
 
-  pub listing-stop : (q : Refusal) → step ≡ Stop q → refused q ≡ readTo n s
-  listing-stop q e =
+  pub listing-stop : {q : Refusal} → step ≡ Stop q → refused q ≡ readTo n s
+  listing-stop {q} e =
       ap (λ (o : Outcome (ReadList (List ℕ))). andThen o (λ t. result (listedTable n t)))
       (reading-stop (setList n) (listBehind n s) s (take count sets) at (l .reading) refl q (said (Stop q) e))
 
@@ -116,7 +78,7 @@ module _ (s : List ℕ) (n : ℕ) (sets : List ℕ) (count at : ℕ) (l : Listin
         ap (λ (o : Outcome (ReadList (List ℕ))). andThen o (λ t. result (listedTable n t)))
         (reading-end (setList n) (listBehind n s) s (take count sets) at (l .reading) refl (said End e))
 
-  module _ (m : ℕ) (e : step ≡ Set m) where
+  module _ {m : ℕ} (e : step ≡ Set m) where
     next : Reading (setList n) (listBehind n s) s (take count sets ++ (m ∷ [])) (at + 10)
     unfolding widthOf bodyWidth
     next = reading-turn (setList n) (listBehind n s) s (take count sets) at (l .reading) refl (own-set n) (said (Set m) e)
@@ -140,26 +102,8 @@ module _ (s : List ℕ) (n : ℕ) (sets : List ℕ) (count at : ℕ) (l : Listin
 
 -- ---- the frame
 
-module _ (s : List ℕ) (head : Head) (h : head ≡ headOf AtFrame s) where
-  pub listed-refused : (q : Refusal) → head ≡ heads.Refused q → refused q ≡ readListed s
-  unfolding readListed
-  listed-refused q e = rw (← h, e)
-
-  module _ (k : Kind) (e : head ≡ heads.Record k) where
-    pub frame-whole : 3 ≤ length s
-    unfolding bodyWidth isDue
-    frame-whole =
-        let p = head-present AtFrame s k (sym h ∙ e) in
-        subst (λ (j : Kind). 2 + bodyWidth j ≤ length s) (kind-is kinds.Frame k (p .is-due)) (p .long)
-
-    module _ (n : ℕ) (t : Bool) (b : n ≡ getD s 2 0) (f : t ≡ isFrame n) where
-      byte : fieldAt 2 1 s ≡ n
-      byte = sym (b ∙ first-byte s 2 frame-whole)
-
-      pub listed-no-frame : not t ≡ true → refused FrameSize ≡ readListed s
-      unfolding readListed
-      listed-no-frame g = rw (← h, e, byte, ← f, g)
-
-      pub listed-sets : not t ≡ false → readTo n s ≡ readListed s
-      unfolding readListed
-      listed-sets g = rw (← h, e, byte, ← f, g)
+pub frame-whole : (s : List ℕ) (head : Head) → head ≡ headOf AtFrame s → (k : Kind) → head ≡ heads.Record k → 3 ≤ length s
+unfolding bodyWidth isDue
+frame-whole s head h k e =
+    let p = head-present AtFrame s k (sym h ∙ e) in
+    subst (λ (j : Kind). 2 + bodyWidth j ≤ length s) (kind-is kinds.Frame k (p .is-due)) (p .long)

@@ -1,5 +1,4 @@
 -- What the answers of the calls say: a refusal, or the values of document 01.
-use mathlib.Core.Path.{_≡_}
 use mathlib.Core.Bool.{Bool, true, false}
 use mathlib.Core.List.{List}
 use Prim.Native.Nat.{ℕ}
@@ -10,8 +9,6 @@ use Rattle.tables.specs.declared.calls.Chosen.the-variants as chosens
 use Rattle.tables.specs.declared.calls.Meeting.{Meeting}
 use Rattle.tables.specs.declared.calls.Meeting.the-variants as meetings
 use Rattle.tables.specs.declared.calls.SetList.{SetList}
-use Rattle.records.specs.declared.Writing.{Writing}
-use Rattle.records.specs.LentBuffers.{writingOutcome}
 use Rattle.tables.specs.Reading.{outcomeOf}
 
 abbrev pub chosenOutcome : Chosen → Outcome ℕ

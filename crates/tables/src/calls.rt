@@ -11,6 +11,7 @@ use crate::reading::Answer;
 use crate::reading::is_frame;
 use crate::reading::is_set;
 use drive_sets::Refusal;
+use hitting_sets::missed::first_missed;
 use set_orders::MAX_CORES;
 use set_orders::MAX_SETS;
 use set_orders::sorting::Order;
@@ -50,14 +51,7 @@ pub fn chosen_core(n: u8, sets: &[u64]) -> Chosen
 pub fn meets_all(sets: &[u64], m: u64) -> bool
     ensures { λ r. ⌜ r ≡ hits (now (sets .entry)) m ⌝ }
 {
-    let mut i = 0;
-    while i < sets.len() {
-        if !drive_sets::meets(sets[i], m) {
-            return false;
-        }
-        i += 1;
-    }
-    true
+    first_missed(sets, m) == sets.len()
 }
 
 // Do these drives meet every set? A group that is no set of the frame meets 4, after the table's own refusals.

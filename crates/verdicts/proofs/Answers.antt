@@ -1,13 +1,13 @@
 -- The answers of the verdict on a normal table, from what the search found.
 use mathlib.Core.Path.{_≡_, sym, ap, ap₂, _∙_}
-use mathlib.Core.Bool.{true, false, _&&_}
+use mathlib.Core.Bool.{Bool, true, false, not, _&&_}
 use mathlib.Core.List.{List}
 use mathlib.Core.Option.{none, some}
 use Prim.Native.Nat.{ℕ, _≤_}
 use native.Mathlib.Omega.{arith}
 use lib.Dec.{leb}
 use lib.ListN.{length, take, length-map}
-use borrow.Author.Tests.{leb-true}
+use borrow.Author.Tests.{leb-true, not-false}
 use Rattle.drive_sets.specs.Bools.{by-test, and-left, and-right, cond-true, cond-false}
 use Rattle.drive_sets.specs.Options.{by-option}
 use Rattle.drive_sets.specs.Lists.{elem}
@@ -33,6 +33,12 @@ fits-bounds k sets e =
       leb-true k 4 (and-left (leb k 4) (leb sets 128) rest),
       leb-true sets 128 (and-right (leb k 4) (leb sets 128) rest),
     )
+
+-- where the number of blocks passed its test
+pub count-bounds : (k : ℕ) {good : Bool} → good ≡ (leb 2 k && leb k 4) → not good ≡ false → (2 ≤ k) × (k ≤ 4)
+count-bounds k {good} is h =
+    let both = sym is ∙ not-false good h in
+    (leb-true 2 k (and-left (leb 2 k) (leb k 4) both), leb-true k 4 (and-right (leb 2 k) (leb k 4) both))
 
 -- ---- an answer says the verdict that it holds
 

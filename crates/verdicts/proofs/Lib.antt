@@ -3,4 +3,3 @@ pub mod Fours
 pub mod Loops
 pub mod Splitting
 pub mod Answers
-pub mod Judgements

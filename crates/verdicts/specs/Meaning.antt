@@ -7,7 +7,7 @@ use mathlib.Core.List.{List, [], _∷_, map}
 use Prim.Native.Nat.{ℕ, _≤_, _<_}
 use lib.Dec.{eqb, leb, ltb}
 use lib.ListN.{length, getD, take}
-use Rattle.drive_sets.specs.Lists.{range, keep, any, elem, ordered}
+use Rattle.drive_sets.specs.Lists.{range, filter, any, elem, ordered}
 use Rattle.drive_sets.specs.Masks.{has, full, common, subset, ofDrives}
 use Rattle.tables.specs.Tables.{cores}
 use Rattle.verdicts.specs.Verdicts.{setsAt}
@@ -71,7 +71,7 @@ pub record Split (k n : ℕ) (block : ℕ → ℕ) : Type 0 where
 
 -- the j-th block of a split, j from 1
 unfoldable pub blockOf : ℕ → (ℕ → ℕ) → ℕ → ℕ
-blockOf n block j = ofDrives (keep (λ d. eqb (block d) j) (range 1 n))
+blockOf n block j = ofDrives (filter (λ d. eqb (block d) j) (range 1 n))
 
 -- a core of the table lies within the block
 unfoldable pub holdsCore : List ℕ → ℕ → Bool

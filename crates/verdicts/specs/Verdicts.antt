@@ -25,16 +25,16 @@ pub data Verdict : Type 0 where
   no : List ℕ → List ℕ → Verdict
 
 -- the position in front of those found; else the other way
-abbrev pub orElse : ℕ → Option (List ℕ) → Option (List ℕ) → Option (List ℕ)
-orElse p (some ps) other = some (p ∷ ps)
-orElse p none other = other
+abbrev pub withPosition : ℕ → Option (List ℕ) → Option (List ℕ) → Option (List ℕ)
+withPosition p (some ps) other = some (p ∷ ps)
+withPosition p none other = other
 
 -- the first of the sets, at position p and on, with which f finds the rest
 unfoldable pub firstWith : (ℕ → List ℕ → ℕ → Option (List ℕ)) → ℕ → List ℕ → ℕ → Option (List ℕ)
 firstWith f p [] shared = none
 firstWith f p (s ∷ sets) shared =
     let later = firstWith f (suc p) sets shared in
-    orElse p (f p (s ∷ sets) (common shared s)) later
+    withPosition p (f p (s ∷ sets) (common shared s)) later
 
 -- the first k positions, not falling, compared left to right, whose sets have no drive of `shared` in common
 unfoldable pub disjoint : ℕ → ℕ → List ℕ → ℕ → Option (List ℕ)

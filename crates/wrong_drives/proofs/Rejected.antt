@@ -1,6 +1,5 @@
 -- Agreement is false of the wrong drives.
-use mathlib.Core.Path.{_≡_, refl}
-use mathlib.Core.Bool.{true}
+use mathlib.Core.Path.{refl}
 use mathlib.Core.List.{List, [], _∷_}
 use Prim.Native.Nat.{ℕ}
 use native.Mathlib.Omega.{arith}
@@ -8,9 +7,9 @@ use Rattle.drive_sets.specs.Lists.{elem}
 use Rattle.agreement.specs.Calls.Evaluated.{evaluated}
 use Rattle.drive_states.specs.Messages.{decided, knownOf, messageBytes}
 use Rattle.runs.specs.World.{Call, opens, sends, delivers, closes, driveOf, nothingOpen, put, afterCall, onState, apply, applyAll, isRefused, refusedBy, refusedIn, active, decisionOf}
-use Rattle.runs.specs.Scenario.{Scenario, frame, coreOf, goneBefore, goneBy, sendsNone}
+use Rattle.runs.specs.Scenario.{frame, coreOf, goneBefore, goneBy, sendsNone}
 use Rattle.agreement.specs.Sends.{listOf, cut, reach}
-use Rattle.runs.specs.Runs.{sameList, dueOpening, openingPart, emptyBook, isCalled, wroteJust, settled, sendingOf, sentBy, lacksRoom, sender, closer, owes, arrived, complete, due, noted, roundPart, roundParts, joined}
+use Rattle.runs.specs.Runs.{sameList, dueOpening, openingPart, nothingYet, isCalled, wroteJust, settled, sendingOf, sentBy, lacksRoom, sender, closer, undelivered, arrived, complete, due, noted, roundPart, roundParts, joined}
 use Rattle.runs.specs.Statement.{Agreement}
 use Rattle.wrong_drives.proofs.Refuting.{numberOn, Parts, undecided-refutes, apart-refutes}
 use Rattle.wrong_drives.specs.Scenarios.{proposals, pair, halfGone, listened}
@@ -19,7 +18,7 @@ use Rattle.wrong_drives.specs.Wrong.{with, decideOwn, ownNumber, ownAtOn
 
 -- all that a run computes with
 unfoldable pub runs : Unit {0}
-unfolding evaluated elem driveOf nothingOpen put afterCall onState apply applyAll isRefused refusedBy refusedIn active decisionOf frame coreOf goneBefore goneBy sendsNone listOf cut reach sameList dueOpening openingPart emptyBook isCalled wroteJust settled sendingOf sentBy lacksRoom sender closer owes arrived complete due noted roundPart roundParts joined numberOn with listenersFirst decideOwn openHalted closeFirst closeTwo
+unfolding evaluated elem driveOf nothingOpen put afterCall onState apply applyAll isRefused refusedBy refusedIn active decisionOf frame coreOf goneBefore goneBy sendsNone listOf cut reach sameList dueOpening openingPart nothingYet isCalled wroteJust settled sendingOf sentBy lacksRoom sender closer undelivered arrived complete due noted roundPart roundParts joined numberOn with listenersFirst decideOwn openHalted closeFirst closeTwo
 runs = tt
 
 abbrev openings : List Call

@@ -1,7 +1,7 @@
 -- The scenarios are valid, and drive 1 is an untouched survivor set in each.
-use mathlib.Core.Path.{_≡_, refl, sym, ap, _∙_}
-use mathlib.Core.Bool.{true, false, false≢true}
-use mathlib.Core.List.{List, [], _∷_}
+use mathlib.Core.Path.{_≡_, refl, sym, _∙_}
+use mathlib.Core.Bool.{true, false≢true}
+use mathlib.Core.List.{[], _∷_}
 use Prim.Native.Nat.{ℕ, zero, suc, _-_, _≤_, _<_}
 use native.Mathlib.Omega.{arith}
 use Rattle.drive_sets.specs.Lists.{elem}
@@ -9,9 +9,11 @@ use Rattle.drive_sets.specs.Masks.{has, size}
 use Rattle.drive_sets.specs.Refusals.{result}
 use Rattle.set_orders.specs.Order.{normal}
 use Rattle.tables.specs.Tables.{chosen, normalTable}
-use Rattle.drive_states.specs.State.{isDrive, patternLimit}
+use Rattle.drive_sets.specs.Counts.{isDrive}
+use Rattle.drive_states.specs.State.{patternLimit}
 use Rattle.agreement.specs.Calls.Evaluated.{evaluated}
-use Rattle.runs.specs.Scenario.{Crash, stays, crashes, Scenario, coreOf, hasCrash}
+use Rattle.runs.specs.Scenario.{stays, crashes, Scenario, coreOf}
+use Rattle.runs.specs.Scenario.Laws.{stays-crashes}
 use Rattle.runs.specs.Statement.{Passes, Valid, Untouched, Up}
 use Rattle.wrong_drives.specs.Scenarios.{proposals, twoSets, pair, secondGone, halfGone, listened}
 
@@ -23,8 +25,8 @@ proposals-fit (suc (suc d)) = omega arith
 -- ---- nobody crashes
 
 pub pair-valid : Valid pair
-unfolding evaluated hasCrash
-pair-valid = record { accepted = refl; patterns = λ d h. proposals-fit d; passes = λ d r m e. absurd (false≢true (ap hasCrash e)) }
+unfolding evaluated
+pair-valid = record { accepted = refl; patterns = λ d h. proposals-fit d; passes = λ d r m e. absurd (stays-crashes e) }
 
 pub pair-untouched : Untouched pair
 unfolding evaluated elem
@@ -35,15 +37,7 @@ pair-up d h = record { inFrame = h; stay = refl }
 
 -- ---- drive 2 is gone in round 1
 
-roundOf : Crash → ℕ
-roundOf stays = 0
-roundOf (crashes r m) = r
-
-sendsOf : Crash → ℕ
-sendsOf stays = 0
-sendsOf (crashes r m) = m
-
-core-two : size (chosen (normal (1 ∷ 2 ∷ []))) ≡ 2
+pub core-two : size (chosen (normal (1 ∷ 2 ∷ []))) ≡ 2
 unfolding evaluated
 core-two = refl
 
@@ -63,10 +57,10 @@ module _ (n sends : ℕ) (accepted : normalTable n (1 ∷ 2 ∷ []) ≡ result (
   gone = twoSets n (secondGone sends)
 
   second-passes : (round m : ℕ) → crashes 1 sends ≡ crashes round m → Passes gone 2 round m
-  unfolding roundOf sendsOf coreOf
+  unfolding coreOf
   second-passes round m e =
-      let r : 1 ≡ round = ap roundOf e in
-      let k : sends ≡ m = ap sendsOf e in
+      let r : 1 ≡ round = cc in
+      let k : sends ≡ m = cc in
       record {
         inFrame = drive;
         from = omega (arith, r);
@@ -75,15 +69,11 @@ module _ (n sends : ℕ) (accepted : normalTable n (1 ∷ 2 ∷ []) ≡ result (
         ofListener = λ h. absurd (false≢true (sym h ∙ second-inCore));
       }
 
-  none-passes : (d round m : ℕ) → stays ≡ crashes round m → Passes gone d round m
-  unfolding hasCrash
-  none-passes d round m e = absurd (false≢true (ap hasCrash e))
-
   gone-passes : (d round m : ℕ) → secondGone sends d ≡ crashes round m → Passes gone d round m
-  gone-passes zero round m e = none-passes 0 round m e
-  gone-passes (suc zero) round m e = none-passes 1 round m e
+  gone-passes zero round m e = absurd (stays-crashes e)
+  gone-passes (suc zero) round m e = absurd (stays-crashes e)
   gone-passes (suc (suc zero)) round m e = second-passes round m e
-  gone-passes (suc (suc (suc d))) round m e = none-passes (suc (suc (suc d))) round m e
+  gone-passes (suc (suc (suc d))) round m e = absurd (stays-crashes e)
 
   gone-valid : Valid gone
   gone-valid = record { accepted = accepted; patterns = λ d h. proposals-fit d; passes = gone-passes }

@@ -1,10 +1,10 @@
 -- Wrong drives: each has the four calls of document 01 but for one or two.
-use mathlib.Core.Bool.{Bool, true, false, not, _&&_, cond}
+use mathlib.Core.Bool.{Bool, true, not, _&&_, cond}
 use mathlib.Core.List.{List, _++_}
 use Prim.Native.Nat.{ℕ, _+_}
 use lib.Dec.{eqb}
 use Rattle.drive_sets.specs.declared.Refusal.the-variants.{BrokenState, NoRoom}
-use Rattle.drive_sets.specs.Lists.{keep}
+use Rattle.drive_sets.specs.Lists.{filter}
 use Rattle.drive_sets.specs.Masks.{has}
 use Rattle.drive_sets.specs.Refusals.{Outcome, refused, result, andThen}
 use Rattle.drive_states.specs.declared.Exchange.{Exchange}
@@ -59,7 +59,7 @@ haltsAtOnce = record { opening = openHalted; sending = sending; receiving = rece
 
 -- (c) its message goes to the listeners first, then to the core
 unfoldable pub listenersFirst : Scenario → ℕ → List ℕ
-listenersFirst s d = keep (λ e. not (has e (coreOf s))) (frame s) ++ keep (λ e. has e (coreOf s) && not (eqb e d)) (frame s)
+listenersFirst s d = filter (λ e. not (has e (coreOf s))) (frame s) ++ filter (λ e. has e (coreOf s) && not (eqb e d)) (frame s)
 
 abbrev pub coreLast : Protocol
 coreLast = record {

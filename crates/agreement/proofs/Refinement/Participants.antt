@@ -1,12 +1,11 @@
 -- Who is called to send and who closes: the tests of a run's part, made on the world when the round begins, say just what the abstract rounds
 -- say.
 use mathlib.Core.Path.{_≡_, sym, ap, _∙_}
-use mathlib.Core.Bool.{true, false, not, _&&_}
+use mathlib.Core.Bool.{true, false, not}
 use Prim.Native.Nat.{ℕ, suc, _<_}
 use Rattle.drive_sets.specs.Bools.{clash, false-of, and-intro, and-left, and-right}
 use Rattle.drive_sets.specs.Masks.{has, size}
-use Rattle.drive_states.specs.State.{isDrive}
-use Rattle.drive_states.specs.State.Laws.{isDrive-range}
+use Rattle.drive_sets.specs.Counts.Laws.{isDrive-range}
 use Rattle.sync_crash.specs.Rounds.{InFrame, halted}
 use Rattle.sync_crash.specs.Rounds.Steps.{Active, Sender, Closer, sender-active, closer-active}
 use Rattle.runs.specs.World.{World, active}
@@ -39,10 +38,9 @@ module _ {s : Scenario} (ok : Valid s) {k : ℕ} (round : k < size (coreOf s)) {
   pub true-sender : (d : ℕ) → sender s (suc k) w₀ d ≡ true → Sender (instanceOf s) k d
   unfolding sender
   true-sender d h =
-      let in-core = and-left (has d (coreOf s)) _ (and-left (has d (coreOf s) && active (w₀ d)) _ h) in
-      let is-active = and-right (has d (coreOf s)) _ (and-left (has d (coreOf s) && active (w₀ d)) _ h) in
-      let up = sym (ap not (gone-before (s .crash d) k)) ∙ and-right (has d (coreOf s) && active (w₀ d)) _ h in
-      record { in-core = in-core; awake = true-awake d (lawful ok .in-frame in-core) up is-active; up = up }
+      let in-core : has d (coreOf s) ≡ true = search (and-left, and-right) in
+      let up : IsUp s k d = sym (ap not (gone-before (s .crash d) k)) ∙ search (and-left, and-right) in
+      record { in-core = in-core; awake = true-awake d (lawful ok .in-frame in-core) up (search (and-left, and-right)); up = up }
 
   -- ---- closers
 
@@ -54,7 +52,6 @@ module _ {s : Scenario} (ok : Valid s) {k : ℕ} (round : k < size (coreOf s)) {
   pub true-closer : (e : ℕ) → closer s (suc k) w₀ e ≡ true → Closer (instanceOf s) k e
   unfolding closer
   true-closer e h =
-      let in-frame = sym (isDrive-range (s .n) e) ∙ and-left (isDrive (s .n) e) _ (and-left (isDrive (s .n) e && active (w₀ e)) _ h) in
-      let is-active = and-right (isDrive (s .n) e) _ (and-left (isDrive (s .n) e && active (w₀ e)) _ h) in
-      let up = and-right (isDrive (s .n) e && active (w₀ e)) _ h in
-      record { in-frame = in-frame; awake = true-awake e in-frame (lawful ok .no-return up) is-active; up = up }
+      let in-frame : InFrame (instanceOf s) e = sym (isDrive-range (s .n) e) ∙ search (and-left, and-right) in
+      let up : IsUp s (suc k) e = search and-right in
+      record { in-frame = in-frame; awake = true-awake e in-frame (lawful ok .no-return up) (search (and-left, and-right)); up = up }

@@ -1,14 +1,14 @@
 -- The announcement of the lowest-numbered drive that makes one: it is the first value on the rising list of drives, and keeping the lower of
 -- two senders as messages come gives it, whatever the order.
-use mathlib.Core.Path.{_≡_, refl, sym, ap, ap₂, _∙_, subst}
-use mathlib.Core.Bool.{true, cond}
+use mathlib.Core.Path.{_≡_, refl, sym, ap, ap₂, _∙_}
+use mathlib.Core.Bool.{true, false}
 use mathlib.Core.Logic.{_⊎_, inl, inr, ⊎-elim}
 use mathlib.Core.List.{List, [], _∷_}
 use mathlib.Core.Option.{Option, none, some, orElse}
 use Prim.Native.Nat.{ℕ, _<_}
 use native.Mathlib.Omega.{arith}
 use lib.Dec.{eqb, ltb}
-use borrow.Author.Tests.{ltb-true, le-ltb, eq-eqb, ne-eqb}
+use borrow.Author.Tests.{ltb-true, le-ltb, ne-eqb}
 use Rattle.drive_sets.specs.Bools.{clash, and-left, and-right, cond-true, cond-false}
 use Rattle.drive_sets.specs.Options.{by-option}
 use Rattle.drive_sets.specs.Lists.{all, elem, ordered, firstSome}
@@ -57,20 +57,18 @@ unfolding announcementOf announcementBy
 none-announced [] = refl
 none-announced (x ∷ l) = none-announced l
 
-module _ (f : ℕ → Option ℕ) (d v : ℕ) where
-  -- d announces v besides
-  abbrev pub also : ℕ → Option ℕ
-  also y = cond (eqb y d) (some v) (f y)
-
-  -- the head of the list, by whether it makes an announcement
-  head-makes : (g : ℕ → Option ℕ) (x : ℕ) (l : List ℕ) {u : ℕ} → g x ≡ some u → announcementOf g (x ∷ l) ≡ by x u
+-- the head of the list, by whether it makes an announcement
+module _ (f : ℕ → Option ℕ) (x : ℕ) (l : List ℕ) where
+  head-makes : {u : ℕ} → f x ≡ some u → announcementOf f (x ∷ l) ≡ by x u
   unfolding announcementOf announcementBy
-  head-makes g x l o = ap (λ z. announcementBy x z (announcementOf g l)) o
+  head-makes o = ap (λ z. announcementBy x z (announcementOf f l)) o
 
-  head-passes : (g : ℕ → Option ℕ) (x : ℕ) (l : List ℕ) → g x ≡ none → announcementOf g (x ∷ l) ≡ announcementOf g l
+  head-passes : f x ≡ none → announcementOf f (x ∷ l) ≡ announcementOf f l
   unfolding announcementOf announcementBy
-  head-passes g x l o = ap (λ z. announcementBy x z (announcementOf g l)) o
+  head-passes o = ap (λ z. announcementBy x z (announcementOf f l)) o
 
+-- g announces as f does, but for d, which announces v and did not announce before
+module _ (f g : ℕ → Option ℕ) (d v : ℕ) (old : f d ≡ none) (new : g d ≡ some v) (others : (y : ℕ) → eqb y d ≡ false → g y ≡ f y) where
   lower-later : (x u : ℕ) → x < d → lower (by x u) d v ≡ by x u
   unfolding lower
   lower-later x u h = cond-false _ _ (le-ltb d x (omega arith))
@@ -84,20 +82,17 @@ module _ (f : ℕ → Option ℕ) (d v : ℕ) where
       (λ c. ap (λ z. lower z d v) (c .made) ∙ cond-true _ _ (all-elem (ltb d) l (c .drive) above (c .listed)))
       (announced-cases f l)
 
-  pub lower-also : (l : List ℕ) → ordered ltb l ≡ true → elem d l ≡ true → f d ≡ none → lower (announcementOf f l) d v ≡ announcementOf also l
+  pub lower-also : (l : List ℕ) → ordered ltb l ≡ true → elem d l ≡ true → lower (announcementOf f l) d v ≡ announcementOf g l
   unfolding ordered
-  lower-also [] rising i o = absurd (clash i (elem-none d))
-  lower-also (x ∷ l) rising i o =
+  lower-also [] rising i = absurd (clash i (elem-none d))
+  lower-also (x ∷ l) rising i =
       let above = and-left (all (ltb x) l) (ordered ltb l) rising in
       ⊎-elim
-      (λ e. let here : also x ≡ some v = cond-true _ _ (eq-eqb x d (sym e)) in
-      ap (λ z. lower z d v) (head-passes f x l (subst (λ (z : ℕ). f z ≡ none) e o))
-      ∙ (lower-first l (subst (λ (z : ℕ). all (ltb z) l ≡ true) (sym e) above)
-      ∙ sym (head-makes also x l here ∙ ap (λ (z : ℕ). by z v) (sym e))))
+      (λ e. rw (← e) (ap (λ z. lower z d v) (head-passes f d l old) ∙ (lower-first l (rw e above) ∙ sym (head-makes g d l new))))
       (λ j. let before = ltb-true x d (all-elem (ltb x) l d above j) in
-      let other : also x ≡ f x = cond-false _ _ (ne-eqb x d (λ e. omega arith)) in
+      let other = others x (ne-eqb x d (λ e. omega arith)) in
       by-option (f x)
       (λ n. ap (λ z. lower z d v) (head-passes f x l n)
-      ∙ (lower-also l (and-right (all (ltb x) l) (ordered ltb l) rising) j o ∙ sym (head-passes also x l (other ∙ n))))
-      (λ u n. ap (λ z. lower z d v) (head-makes f x l n) ∙ (lower-later x u before ∙ sym (head-makes also x l (other ∙ n)))))
+      ∙ (lower-also l (and-right (all (ltb x) l) (ordered ltb l) rising) j ∙ sym (head-passes g x l (other ∙ n))))
+      (λ u n. ap (λ z. lower z d v) (head-makes f x l n) ∙ (lower-later x u before ∙ sym (head-makes g x l (other ∙ n)))))
       (elem-cases d x l i)

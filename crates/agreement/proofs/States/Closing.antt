@@ -10,7 +10,7 @@ use lib.Dec.{eqb}
 use borrow.Author.Tests.{ne-eqb}
 use Rattle.drive_sets.specs.Bools.{by-test, or-neither, or-false, cond-true, cond-false}
 use Rattle.drive_sets.specs.Options.{isSome, by-option}
-use Rattle.drive_sets.specs.Lists.{range, keep, elem, smallest, firstSome}
+use Rattle.drive_sets.specs.Lists.{range, filter, elem, smallest}
 use Rattle.drive_sets.specs.Lists.Smallest.{smallest-same}
 use Rattle.drive_sets.specs.Masks.{size, drives}
 use Rattle.drive_sets.specs.Masks.Sizes.{elem-drives}
@@ -20,11 +20,11 @@ use Rattle.drive_states.specs.declared.Exchange.{Exchange}
 use Rattle.drive_states.specs.declared.Announcement.the-variants.{Absent}
 use Rattle.drive_states.specs.State.{numberOf, isDecided}
 use Rattle.agreement.specs.Calls as calls
-use Rattle.agreement.specs.Calls.{heardAtClose, decisionOn, quietDecision, decide, decisionAfter, next, closing}
-use Rattle.agreement.proofs.CallResults.{decided-on}
+use Rattle.agreement.specs.Calls.{heardAtClose, decisionOn, stableDecision, decide, decisionAfter, next, closing}
+use Rattle.agreement.proofs.CallLaws.{decided-on}
 use Rattle.agreement.proofs.CallLaws.{closing-accepted}
 use Rattle.sync_crash.specs.Rounds as rounds
-use Rattle.sync_crash.specs.Rounds.{Instance, Lawful, smallestOf, reaches, known, announces, announced, heard, unchanged, quiet, ifQuiet, decides, after, knows, before, decision, halted}
+use Rattle.sync_crash.specs.Rounds.{Instance, Lawful, smallestOf, reaches, known, announces, announced, heard, unchanged, stable, ifStable, decides, after, knows, before, decision, halted}
 use Rattle.sync_crash.specs.Rounds.Steps.{Closer, reaches-true, knows-now, before-now, decision-now, halted-now}
 use Rattle.sync_crash.specs.Rounds.HeardSets.{heard-core, before-core}
 use Rattle.agreement.proofs.States.{Bounded, InRound, numbersOf, announcementOf, knownFrom, announcedFrom, stateOf}
@@ -48,7 +48,7 @@ module _ {S : Instance} (L : Lawful S) (B : Bounded S) {k e : ℕ} (round : k < 
   known-now : knownFrom S k e reachedBy ≡ knows S (suc k) e
   known-now = known-all L k e ∙ fun-ext (λ y. sym (knows-now L c y))
 
-  -- ---- heard, and quiet
+  -- ---- heard, and stable
 
   heard-now : heardAtClose x ≡ setOf (heard S (after S k) k e)
   unfolding heardAtClose stateOf heard
@@ -60,9 +60,9 @@ module _ {S : Instance} (L : Lawful S) (B : Bounded S) {k e : ℕ} (round : k < 
       (λ h. cond-false _ _ (state-inCore L B closing-round ∙ h)
       ∙ ap setOf (fun-ext (λ d. sym (ap (λ (b : Bool). reachedBy d || (b && eqb d e)) h ∙ or-false (reachedBy d)))))
 
-  quiet-now : calls.quiet x ≡ quiet S (after S k) k e
-  unfolding calls.quiet quiet unchanged stateOf
-  quiet-now =
+  stable-now : calls.stable x ≡ stable S (after S k) k e
+  unfolding calls.stable stable unchanged stateOf
+  stable-now =
       ap₂ (λ (a b : ℕ). not (eqb a 0) && eqb b (setOf (before S k e))) heard-now heard-now
       ∙ ap₂ _&&_
       (setOf-some n (B .high) (heard S (after S k) k e) (core-within L B (heard S (after S k) k e) (heard-core L k e)))
@@ -74,67 +74,46 @@ module _ {S : Instance} (L : Lawful S) (B : Bounded S) {k e : ℕ} (round : k < 
   smallest-now : smallest (numberOf x) (drives (x .known)) ≡ smallestOf S (known S (after S k) k e)
   unfolding smallestOf stateOf
   smallest-now =
-      smallest-same (numberOf x) proposal (drives (setOf (knownFrom S k e reachedBy))) (keep (known S (after S k) k e) (range 1 n))
+      smallest-same (numberOf x) proposal (drives (setOf (knownFrom S k e reachedBy))) (filter (known S (after S k) k e) (range 1 n))
       (λ d. ap (elem d) (drives-setOf n (B .high) (knownFrom S k e reachedBy) (core-within L B (knownFrom S k e reachedBy) (known-core L k e reachedBy))
-      ∙ ap (λ p. keep p (range 1 n)) (known-all L k e)))
+      ∙ ap (λ p. filter p (range 1 n)) (known-all L k e)))
       (λ d h. state-number L B closing-round d
       (sym (elem-drives d (setOf (knownFrom S k e reachedBy)) (setOf-lt (knownFrom S k e reachedBy)) ∙ has-core-set L B (knownFrom S k e reachedBy) (known-core L k e reachedBy) d) ∙ h))
 
-  quiet-decision : quietDecision x ≡ decisionOn (ifQuiet S (after S k) k e)
-  unfolding quietDecision ifQuiet decisionOn
-  quiet-decision =
-      by-test (quiet S (after S k) k e)
-      (λ h. cond-true _ _ (quiet-now ∙ h) ∙ (ap decisionOn smallest-now ∙ sym (ap decisionOn (cond-true _ _ h))))
-      (λ h. cond-false _ _ (quiet-now ∙ h) ∙ sym (ap decisionOn (cond-false _ _ h)))
-
-  announced-now : announced S (after S k) k e ≡ firstSome (announcedFrom S k reachedBy) (range 1 n)
-  unfolding announced announces announcedFrom
-  announced-now = refl
+  stable-decision : stableDecision x ≡ decisionOn (ifStable S (after S k) k e)
+  unfolding stableDecision ifStable decisionOn
+  stable-decision = rw stable-now (by-test (stable S (after S k) k e) (λ h. rw h (ap decisionOn smallest-now)) (λ h. rw h refl))
 
   decide-now : decide x (decisionOn (decision S k e)) (announcementOf (announcedFrom S k reachedBy) (range 1 n)) ≡ decisionOn (decides S (after S k) k e)
-  unfolding decide decides orElse decisionOn
+  unfolding decide decides orElse decisionOn announced announces announcedFrom
   decide-now =
       by-option (decision S k e)
-      (λ o. ⊎-elim
-      (λ a. ap₂ (λ z w. decide x (decisionOn z) w) o (a .0)
-      ∙ (quiet-decision ∙ sym (ap₂ (λ z w. decisionOn (orElse z (orElse w (ifQuiet S (after S k) k e)))) o (announced-now ∙ a .1))))
-      (λ a. ap₂ (λ z w. decide x (decisionOn z) w) o (a .made)
-      ∙ sym (ap₂ (λ z w. decisionOn (orElse z (orElse w (ifQuiet S (after S k) k e)))) o (announced-now ∙ a .first)))
-      (announced-cases (announcedFrom S k reachedBy) (range 1 n)))
-      (λ v o. ap (λ z. decide x (decisionOn z) (announcementOf (announcedFrom S k reachedBy) (range 1 n))) o
-      ∙ sym (ap (λ z. decisionOn (orElse z (orElse (announced S (after S k) k e) (ifQuiet S (after S k) k e)))) o))
+      (λ o. ⊎-elim (λ a. rw (o, a .0, a .1) stable-decision) (λ a. rw (o, a .made, a .first) refl) (announced-cases (announcedFrom S k reachedBy) (range 1 n)))
+      (λ v o. rw o refl)
 
-  decision-after : decisionAfter x ≡ decisionOn (decision S (suc k) e)
-  unfolding decisionAfter stateOf
-  decision-after = decide-now ∙ ap decisionOn (sym (decision-now L c))
+  pub next-decision : next x .decision ≡ decisionOn (decision S (suc k) e)
+  unfolding next decisionAfter stateOf
+  next-decision = decide-now ∙ ap decisionOn (sym (decision-now L c))
 
   -- ---- who halts
 
-  halts-now : calls.halts x ≡ (halted S (suc k) e || eqb (suc k) (size (setOf core)))
-  unfolding calls.halts stateOf rounds.halts
-  halts-now =
+  halted-is : (isSome (decision S k e) || (not (core e) && isSome (decision S (suc k) e))) ≡ halted S (suc k) e
+  unfolding rounds.halts
+  halted-is = ap (λ z. isSome (decision S k e) || (not (core e) && isSome z)) (decision-now L c) ∙ sym (halted-now L c)
+
+  -- all halt at the close of the round whose number is the core's size
+  pub next-halted : next x .halted ≡ (halted S (suc k) e || eqb (suc k) (size (setOf core)))
+  unfolding next calls.halts stateOf
+  next-halted =
       ap₂ (λ (a b : Bool). (a || b) || eqb (suc k) (size (setOf core)))
       (decided-on (decision S k e))
-      (ap₂ (λ (a b : Bool). not a && b) (state-inCore L B closing-round) (ap isDecided decision-after ∙ decided-on (decision S (suc k) e)))
+      (ap₂ (λ (a b : Bool). not a && b) (state-inCore L B closing-round) (ap isDecided next-decision ∙ decided-on (decision S (suc k) e)))
       ∙ ap (λ (b : Bool). b || eqb (suc k) (size (setOf core))) halted-is
-    where
-      halted-is : (isSome (decision S k e) || (not (core e) && isSome (decision S (suc k) e))) ≡ halted S (suc k) e
-      halted-is =
-          ap (λ z. isSome (decision S k e) || (not (core e) && isSome z)) (decision-now L c) ∙ sym (halted-now L c)
 
   -- ---- the call
 
   pub closing-state : closing x ≡ result (next x)
   closing-state = closing-accepted x (state-unbroken L B closing-round) (state-running L B closing-round)
-
-  pub next-decision : next x .decision ≡ decisionOn (decision S (suc k) e)
-  unfolding next
-  next-decision = decision-after
-
-  -- all halt at the close of the round whose number is the core's size
-  pub next-halted : next x .halted ≡ (halted S (suc k) e || eqb (suc k) (size (setOf core)))
-  unfolding next
-  next-halted = halts-now
 
   pub next-state : halted S (suc k) e ≡ false → suc k < size (setOf core) → next x ≡ stateOf S (suc k) e (λ d. false)
   unfolding next stateOf announcedFrom
@@ -149,12 +128,12 @@ module _ {S : Instance} (L : Lawful S) (B : Bounded S) {k e : ℕ} (round : k < 
     start = ap setOf known-now j;
     numbers = ap (numbersOf proposal) known-then j;
     announced = sym none-yet j;
-    decision = decision-after j;
+    decision = next-decision j;
     halted = goes-on j;
   }
     where
       goes-on : calls.halts x ≡ false
-      goes-on = halts-now ∙ or-neither awake (ne-eqb (suc k) (size (setOf core)) (λ q. omega arith))
+      goes-on = next-halted ∙ or-neither awake (ne-eqb (suc k) (size (setOf core)) (λ q. omega arith))
 
       one-more : suc k + 1 ≡ suc (suc k)
       one-more = omega arith

@@ -1,117 +1,73 @@
 -- What is known in a round from the messages accepted so far: what was known when it began, and what undecided senders knew then. One
 -- more sender adds what it knew, if it is undecided, and nothing otherwise.
-use mathlib.Core.Path.{_≡_, refl, ap, subst}
-use mathlib.Core.Bool.{Bool, true, false, not, _&&_, _||_}
-use mathlib.Core.Logic.{_⊎_, inl, inr, ⊎-elim}
-use mathlib.Core.Option.{none, some}
+use mathlib.Core.Path.{_≡_, refl, sym, ap, _∙_, fun-ext}
+use mathlib.Core.Bool.{Bool, true, false, not, _&&_, _||_, or-assoc}
+use mathlib.Core.Logic.{⊎-elim}
+use mathlib.Core.List.{List}
 use Prim.Native.Nat.{ℕ}
 use lib.Dec.{eqb}
-use borrow.Author.Tests.{eqb-true, eq-eqb, not-true}
-use Rattle.drive_sets.specs.Bools.{clash, and-intro, and-left, and-right, or-left, or-right, or-cases, _⊆_, same-sets}
-use Rattle.drive_sets.specs.Options.{isSome, none-some, is-none, none-of}
-use Rattle.drive_sets.specs.Lists.{range}
+use borrow.Author.Tests.{eqb-true, eq-eqb}
+use Rattle.drive_sets.specs.Bools.{clash, false-of, same-test, and-intro, and-left, and-right, or-left, or-right, or-cases, or-false, _⊆_}
+use Rattle.drive_sets.specs.Options.{isSome}
+use Rattle.drive_sets.specs.Lists.{range, any, elem}
 use Rattle.drive_sets.specs.Lists.Laws.{any-elem, any-intro}
 use Rattle.sync_crash.specs.Rounds.{Instance, InFrame, Lawful, reaches, adds, known, after, knows, decision}
 use Rattle.sync_crash.specs.Rounds.Validity.{knows-own, knows-core}
 use Rattle.agreement.proofs.States.{knownFrom}
 
--- an undecided sender knew x
-pub record Added (S : Instance) (k : ℕ) (from : ℕ → Bool) (x : ℕ) : Type 0 where
-  pub sender : ℕ
-  pub in-frame : InFrame S sender
-  pub accepted : from sender ≡ true
-  pub undecided : decision S k sender ≡ none
-  pub knew : knows S k sender x ≡ true
+-- of the elements that pass p, and d besides, some passes q
+any-also : (p q : ℕ → Bool) (d : ℕ) (l : List ℕ) → elem d l ≡ true → any (λ y. (p y || eqb y d) && q y) l ≡ (any (λ y. p y && q y) l || q d)
+any-also p q d l i =
+    same-test (any (λ y. (p y || eqb y d) && q y) l) (any (λ y. p y && q y) l || q d)
+    (λ h. let w = any-elem (λ y. (p y || eqb y d) && q y) l h in
+    let t = and-right (p (w .0) || eqb (w .0) d) _ (w .2) in
+    ⊎-elim
+    (λ o. or-left (q d) (any-intro (λ y. p y && q y) l (w .0) (w .1) (and-intro o t)))
+    (λ o. or-right (any (λ y. p y && q y) l) (ap q (sym (eqb-true (w .0) d o)) ∙ t))
+    (or-cases (p (w .0)) (eqb (w .0) d) (and-left (p (w .0) || eqb (w .0) d) _ (w .2))))
+    (λ h. ⊎-elim
+    (λ o. let w = any-elem (λ y. p y && q y) l o in
+    any-intro (λ y. (p y || eqb y d) && q y) l (w .0) (w .1)
+    (and-intro (or-left (eqb (w .0) d) (and-left (p (w .0)) _ (w .2))) (and-right (p (w .0)) _ (w .2))))
+    (λ o. any-intro (λ y. (p y || eqb y d) && q y) l d i (and-intro (or-right (p d) (eq-eqb d d refl)) o))
+    (or-cases (any (λ y. p y && q y) l) (q d) h))
 
 module _ {S : Instance} (L : Lawful S) (k e : ℕ) where
   open Instance S using (n, core)
+
+  -- d is undecided and knew x
+  abbrev tells : ℕ → ℕ → Bool
+  tells x d = not (isSome (decision S k d)) && knows S k d x
 
   module _ (from : ℕ → Bool) where
     pub knows-known : knows S k e ⊆ knownFrom S k e from
     unfolding knownFrom
     knows-known x h = or-left _ h
 
-    pub added-known : {x : ℕ} → Added S k from x → knownFrom S k e from x ≡ true
-    unfolding knownFrom
-    added-known {x} a =
-        or-right (knows S k e x) (any-intro _ (range 1 n) (a .sender) (a .in-frame) (and-intro (a .accepted) (and-intro (ap not (is-none (a .undecided))) (a .knew))))
-
-    pub known-cases : (x : ℕ) → knownFrom S k e from x ≡ true → (knows S k e x ≡ true) ⊎ Added S k from x
-    unfolding knownFrom
-    known-cases x h =
-        ⊎-elim inl
-        (λ t. let w = any-elem (λ d. from d && (not (isSome (decision S k d)) && knows S k d x)) (range 1 n) t in
-        let d = w .0 in
-        let passed = w .2 in
-        inr (record {
-          sender = d;
-          in-frame = w .1;
-          accepted = and-left (from d) _ passed;
-          undecided = none-of (decision S k d) (search (and-left, and-right, not-true));
-          knew = search (and-left, and-right);
-        }))
-        (or-cases (knows S k e x) _ h)
-
     pub known-core : knownFrom S k e from ⊆ core
-    known-core x h = ⊎-elim (λ t. knows-core L k e x t) (λ a. knows-core L k (a .sender) x (a .knew)) (known-cases x h)
+    unfolding knownFrom
+    known-core x h =
+        ⊎-elim (knows-core L k e x)
+        (λ t. let w = any-elem (λ d. from d && tells x d) (range 1 n) t in knows-core L k (w .0) x (search (and-right, w .2)))
+        (or-cases (knows S k e x) _ h)
 
     pub known-own : core e ≡ true → knownFrom S k e from e ≡ true
     known-own i = knows-known e (knows-own L k i)
 
+    -- one more sender
+    pub known-with : (d : ℕ) → InFrame S d → (x : ℕ) → knownFrom S k e (λ y. from y || eqb y d) x ≡ (knownFrom S k e from x || tells x d)
+    unfolding knownFrom
+    known-with d f x =
+        ap (λ (b : Bool). knows S k e x || b) (any-also from (tells x) d (range 1 n) f) ∙ sym (or-assoc (knows S k e x) (any (λ y. from y && tells x y) (range 1 n)) (tells x d))
+
   -- nothing accepted yet
   pub known-none : knownFrom S k e (λ d. false) ≡ knows S k e
+  unfolding knownFrom
   known-none =
-      same-sets (λ x h. ⊎-elim (λ t. t) (λ a. absurd (clash (a .accepted) refl)) (known-cases (λ d. false) x h)) (knows-known (λ d. false))
+      fun-ext (λ x. ap (λ (b : Bool). knows S k e x || b) (false-of (any (λ d. false) (range 1 n)) (λ h. clash (any-elem (λ d. false) (range 1 n) h .2) refl))
+      ∙ or-false (knows S k e x))
 
   -- all that reach e accepted
   pub known-all : knownFrom S k e (λ d. reaches S (after S k) k d e) ≡ known S (after S k) k e
   unfolding knownFrom known adds
   known-all = refl
-
-  -- ---- one more sender
-
-  module _ (from : ℕ → Bool) (d : ℕ) (f : InFrame S d) where
-    abbrev pub more : ℕ → Bool
-    more y = from y || eqb y d
-
-    known-stays : knownFrom S k e from ⊆ knownFrom S k e more
-    known-stays x h =
-        ⊎-elim (knows-known more x)
-        (λ a. added-known more (record {
-          sender = a .sender;
-          in-frame = a .in-frame;
-          accepted = or-left _ (a .accepted);
-          undecided = a .undecided;
-          knew = a .knew;
-        }))
-        (known-cases from x h)
-
-    known-more : (x : ℕ) → knownFrom S k e more x ≡ true → (knownFrom S k e from x ≡ true) ⊎ ((decision S k d ≡ none) × (knows S k d x ≡ true))
-    known-more x h =
-        ⊎-elim (λ t. inl (knows-known from x t))
-        (λ a. ⊎-elim
-        (λ t. inl (added-known from (record {
-          sender = a .sender;
-          in-frame = a .in-frame;
-          accepted = t;
-          undecided = a .undecided;
-          knew = a .knew;
-        })))
-        (λ t. let is = eqb-true (a .sender) d t in
-        inr (subst (λ (z : ℕ). decision S k z ≡ none) is (a .undecided), subst (λ (z : ℕ). knows S k z x ≡ true) is (a .knew)))
-        (or-cases (from (a .sender)) (eqb (a .sender) d) (a .accepted)))
-        (known-cases more x h)
-
-    pub known-undecided : decision S k d ≡ none → (x : ℕ) → (knownFrom S k e from x || knows S k d x) ≡ knownFrom S k e more x
-    known-undecided o x = ap (λ p. p x) same
-      where
-        same : _≡_ {A = ℕ → Bool} (λ x. knownFrom S k e from x || knows S k d x) (knownFrom S k e more)
-        same =
-            same-sets
-            (λ x h. ⊎-elim (known-stays x)
-            (λ t. added-known more (record { sender = d; in-frame = f; accepted = or-right (from d) (eq-eqb d d refl); undecided = o; knew = t }))
-            (or-cases (knownFrom S k e from x) (knows S k d x) h))
-            (λ x h. ⊎-elim (λ t. or-left _ t) (λ t. or-right (knownFrom S k e from x) (t .1)) (known-more x h))
-
-    pub known-decided : {v : ℕ} → decision S k d ≡ some v → knownFrom S k e from ≡ knownFrom S k e more
-    known-decided o = same-sets known-stays (λ x h. ⊎-elim (λ t. t) (λ t. absurd (none-some (t .0) o)) (known-more x h))

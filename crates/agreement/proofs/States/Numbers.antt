@@ -9,9 +9,10 @@ use lib.ListN.{length, getD, set, replicate, length-set, length-map}
 use lib.Seq.{ext-getD, getD-set-same, getD-set-other}
 use borrow.Author.Tests.{eqb-true, eqb-false}
 use Rattle.drive_sets.specs.declared.Pattern.{Pattern}
-use Rattle.drive_sets.specs.Bools.{by-test, or-right, or-false, cond-true}
+use Rattle.drive_sets.specs.Bools.{by-test, or-right, or-false}
 use Rattle.drive_sets.specs.Lists.{range, any, elem}
 use Rattle.drive_sets.specs.Lists.Laws.{elem-head, elem-tail}
+use Rattle.drive_sets.specs.Lists.Places.{length-range}
 use Rattle.drive_states.specs.State.{pattern, numberIn}
 use Rattle.drive_states.specs.Messages.{entryOf}
 use Rattle.agreement.specs.Calls.{stored}
@@ -25,11 +26,6 @@ at-range f zero a i h = absurd (omega arith)
 at-range f (suc k) a zero h = ap f (omega arith)
 at-range f (suc k) a (suc i) h = at-range f k (suc a) i (omega arith) ∙ ap f (omega arith)
 
-length-range : (a k : ℕ) → length (range a k) ≡ k
-unfolding range
-length-range a zero = refl
-length-range a (suc k) = ap suc (length-range (suc a) k)
-
 module _ (number : ℕ → ℕ) where
   length-table : (p : ℕ → Bool) → length (numbersOf number p) ≡ 64
   unfolding numbersOf
@@ -42,32 +38,25 @@ module _ (number : ℕ → ℕ) where
   pub number-at : (p : ℕ → Bool) (d : ℕ) → 1 ≤ d → d ≤ 64 → p d ≡ true → numberIn (numbersOf number p) d ≡ number d
   unfolding numberIn
   number-at p d low high h =
-      ap (λ (v : Pattern). v .0) (at-place p (d - 1) (omega arith)) ∙ (ap (λ (x : ℕ). cond (p x) (number x) 0) back ∙ cond-true (number d) 0 h)
-    where
-      back : 1 + (d - 1) ≡ d
-      back = omega arith
+      let back : 1 + (d - 1) ≡ d = omega arith in ap (λ (v : Pattern). v .0) (at-place p (d - 1) (omega arith)) ∙ rw (back, h) refl
 
   -- ---- storing
 
   module _ (p : ℕ → Bool) (d : ℕ) (low : 1 ≤ d) (high : d ≤ 64) where
-    with-d : ℕ → Bool
+    abbrev with-d : ℕ → Bool
     with-d y = p y || eqb y d
 
     stored-here : (i : ℕ) → i < 64 → getD (set (numbersOf number p) (d - 1) (pattern (number d))) i (pattern 0) ≡ getD (numbersOf number with-d) i (pattern 0)
-    unfolding with-d
     stored-here i h =
         by-test (eqb (1 + i) d)
         (λ e. let is : i ≡ d - 1 = omega (arith, eqb-true (1 + i) d e) in
         ap (λ (x : ℕ). getD (set (numbersOf number p) (d - 1) (pattern (number d))) x (pattern 0)) is
         ∙ (getD-set-same (numbersOf number p) (d - 1) (pattern (number d)) (pattern 0) (omega (arith, length-table p))
-        ∙ sym (at-place with-d i h ∙ ap pattern (cond-true (number (1 + i)) 0 (or-right (p (1 + i)) e) ∙ ap number (eqb-true (1 + i) d e)))))
+        ∙ sym (at-place with-d i h ∙ rw (or-right (p (1 + i)) e, eqb-true (1 + i) d e) refl)))
         (λ e. getD-set-other (numbersOf number p) (d - 1) i (pattern (number d)) (pattern 0) (λ q. eqb-false (1 + i) d e (omega arith))
-        ∙ (at-place p i h
-        ∙ sym (at-place with-d i h
-        ∙ ap (λ (b : Bool). pattern (cond b (number (1 + i)) 0)) (ap (λ (b : Bool). p (1 + i) || b) e ∙ or-false (p (1 + i))))))
+        ∙ (at-place p i h ∙ sym (at-place with-d i h ∙ rw (e, or-false (p (1 + i))) refl)))
 
     pub store-one : set (numbersOf number p) (d - 1) (pattern (number d)) ≡ numbersOf number (λ y. p y || eqb y d)
-    unfolding with-d
     store-one =
         ext-getD (pattern 0) (set (numbersOf number p) (d - 1) (pattern (number d))) (numbersOf number with-d)
         (length-set (numbersOf number p) (d - 1) (pattern (number d)) ∙ (length-table p ∙ sym (length-table with-d)))

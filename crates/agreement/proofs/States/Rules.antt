@@ -13,7 +13,8 @@ use Rattle.drive_sets.specs.Masks.Laws.{subset-full}
 use Rattle.drive_sets.specs.Masks.Tests.{setOf, upTo, has-setOf, setOf-within, setOf-some, subset-setOf}
 use Rattle.tables.specs.Tables.{isFrame, isSet}
 use Rattle.drive_states.specs.State.{inCore, numberOf, broken}
-use Rattle.drive_states.specs.State.Laws.{isDrive-range, Sound, sound-unbroken}
+use Rattle.drive_sets.specs.Counts.Laws.{isDrive-range}
+use Rattle.drive_states.specs.State.Laws.{Sound, sound-unbroken}
 use Rattle.sync_crash.specs.Rounds.{Instance, InFrame, Lawful, knows, before}
 use Rattle.sync_crash.specs.Rounds.Validity.{knows-own, knows-core}
 use Rattle.sync_crash.specs.Rounds.HeardSets.{before-core}

@@ -1,6 +1,6 @@
 -- All that the calls compute with, under one name: an `unfolding` line that names it lets a sample be computed.
 use lib.Count.{onesIn}
-use Rattle.drive_sets.specs.Lists.{range, keep, all, any, smaller, smallest}
+use Rattle.drive_sets.specs.Lists.{range, filter, all, any, smaller, smallest}
 use Rattle.drive_sets.specs.Masks.{has, single, full, union, common, minus, meets, subset, size, drives}
 use Rattle.hitting_sets.specs.Hitting.{critical, forEach, search, minimals}
 use Rattle.set_orders.specs.Order.{byMask, bySize, insert, sort, dropRepeats, holdsAnother, normal}
@@ -8,10 +8,11 @@ use Rattle.records.specs.Fields.{fromBytes, toBytes, written, writtenAt}
 use Rattle.records.specs.Marks.{ascii, markText, mark, bodyWidth, kindOf, isKind, isDue, headOf}
 use Rattle.records.specs.LentBuffers.{fitting}
 use Rattle.tables.specs.Tables.{isFrame, isSet, isEmpty, cores, chosen, withinCoreLimit, normalTable}
-use Rattle.drive_states.specs.State.{isDrive, inCore, numberIn, numberOf, isDecided, broken}
+use Rattle.drive_sets.specs.Counts.{isDrive, isRound}
+use Rattle.drive_states.specs.State.{inCore, numberIn, numberOf, isDecided, broken}
 use Rattle.drive_states.specs.Messages.{maskIn, entriesIn, entryBytes, kindIn, contentBytes, messageBytes, lengthIn, senderOf, roundOf, maskOf, patternOf, entriesFrom, contentOf, messageOf, wrongMask, checked, readMessage}
-use Rattle.agreement.specs.Calls.{initial, opening, contentBy, outgoing, sending, outsideCore, anyDiffers, stored, lower, announcing, accept, admitting, receiving, heardAtClose, quiet, decisionOn, quietDecision, decide, decisionAfter, halts, next, closing}
+use Rattle.agreement.specs.Calls.{initial, opening, contentBy, outgoing, sending, outsideCore, anyDiffers, stored, lower, announcing, accept, admitting, receiving, heardAtClose, stable, decisionOn, stableDecision, decide, decisionAfter, halts, next, closing}
 
 unfoldable pub evaluated : Unit {0}
-unfolding onesIn range keep all any smaller smallest has single full union common minus meets subset size drives critical forEach search minimals byMask bySize insert sort dropRepeats holdsAnother normal fromBytes toBytes written writtenAt ascii markText mark bodyWidth kindOf isKind isDue headOf fitting isFrame isSet isEmpty cores chosen withinCoreLimit normalTable isDrive inCore numberIn numberOf isDecided broken maskIn entriesIn entryBytes kindIn contentBytes messageBytes lengthIn senderOf roundOf maskOf patternOf entriesFrom contentOf messageOf wrongMask checked readMessage initial opening contentBy outgoing sending outsideCore anyDiffers stored lower announcing accept admitting receiving heardAtClose quiet decisionOn quietDecision decide decisionAfter halts next closing
+unfolding onesIn range filter all any smaller smallest has single full union common minus meets subset size drives critical forEach search minimals byMask bySize insert sort dropRepeats holdsAnother normal fromBytes toBytes written writtenAt ascii markText mark bodyWidth kindOf isKind isDue headOf fitting isFrame isSet isEmpty cores chosen withinCoreLimit normalTable isDrive isRound inCore numberIn numberOf isDecided broken maskIn entriesIn entryBytes kindIn contentBytes messageBytes lengthIn senderOf roundOf maskOf patternOf entriesFrom contentOf messageOf wrongMask checked readMessage initial opening contentBy outgoing sending outsideCore anyDiffers stored lower announcing accept admitting receiving heardAtClose stable decisionOn stableDecision decide decisionAfter halts next closing
 evaluated = tt

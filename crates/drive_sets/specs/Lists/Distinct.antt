@@ -6,8 +6,8 @@ use mathlib.Core.List.{List, [], _∷_, _++_}
 use Prim.Native.Nat.{ℕ}
 use borrow.Author.Tests.{not-true}
 use Rattle.drive_sets.specs.Bools.{clash, by-test, false-of, and-intro, and-left, and-right}
-use Rattle.drive_sets.specs.Lists.{keep, all, elem, distinct, ordered}
-use Rattle.drive_sets.specs.Lists.Laws.{elem-head, elem-tail, elem-append-cases, all-elem, keep-true, keep-false, elem-keep}
+use Rattle.drive_sets.specs.Lists.{filter, all, elem, distinct, ordered}
+use Rattle.drive_sets.specs.Lists.Laws.{elem-head, elem-tail, elem-append-cases, all-elem, filter-true, filter-false, elem-filter}
 
 pub distinct-none : distinct [] ≡ true
 unfolding distinct
@@ -25,16 +25,16 @@ pub distinct-tail : (x : ℕ) (l : List ℕ) → distinct (x ∷ l) ≡ true →
 unfolding distinct
 distinct-tail x l h = and-right (not (elem x l)) (distinct l) h
 
-pub distinct-keep : (p : ℕ → Bool) (l : List ℕ) → distinct l ≡ true → distinct (keep p l) ≡ true
-unfolding keep
-distinct-keep p [] h = h
-distinct-keep p (x ∷ l) h =
-    let rest = distinct-keep p l (distinct-tail x l h) in
+pub distinct-filter : (p : ℕ → Bool) (l : List ℕ) → distinct l ≡ true → distinct (filter p l) ≡ true
+unfolding filter
+distinct-filter p [] h = h
+distinct-filter p (x ∷ l) h =
+    let rest = distinct-filter p l (distinct-tail x l h) in
     by-test (p x)
-    (λ e. ap distinct (keep-true p x l e)
-    ∙ distinct-cons x (keep p l) (false-of (elem x (keep p l)) (λ q.
-    clash (and-left (elem x l) (p x) (sym (elem-keep p x l) ∙ q)) (distinct-head x l h))) rest)
-    (λ e. ap distinct (keep-false p x l e) ∙ rest)
+    (λ e. ap distinct (filter-true p x l e)
+    ∙ distinct-cons x (filter p l) (false-of (elem x (filter p l)) (λ q.
+    clash (and-left (elem x l) (p x) (sym (elem-filter p x l) ∙ q)) (distinct-head x l h))) rest)
+    (λ e. ap distinct (filter-false p x l e) ∙ rest)
 
 pub distinct-append : (l m : List ℕ) → distinct l ≡ true → distinct m ≡ true → ((x : ℕ) → elem x l ≡ true → elem x m ≡ true → ⊥) → distinct (l ++ m) ≡ true
 distinct-append [] m p q f = q

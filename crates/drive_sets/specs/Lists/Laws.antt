@@ -9,7 +9,7 @@ use lib.Dec.{eqb, ltb}
 use lib.ListN.{length, getD}
 use borrow.Author.Tests.{eqb-true, eqb-false, eq-eqb, lt-ltb}
 use Rattle.drive_sets.specs.Bools.{clash, by-test, false-of, same-test, and-intro, and-left, and-right, and-not, or-left, or-right, or-cases, or-false, cond-true, cond-false}
-use Rattle.drive_sets.specs.Lists.{range, keep, all, any, elem, ordered}
+use Rattle.drive_sets.specs.Lists.{range, filter, all, any, elem, ordered}
 
 -- ---- membership
 
@@ -136,27 +136,27 @@ any-false p x l h = ap (λ (b : Bool). b || any p l) h
 
 -- ---- kept elements
 
-pub keep-true : (p : ℕ → Bool) (x : ℕ) (l : List ℕ) → p x ≡ true → keep p (x ∷ l) ≡ x ∷ keep p l
-unfolding keep
-keep-true p x l h = cond-true _ _ h
+pub filter-true : (p : ℕ → Bool) (x : ℕ) (l : List ℕ) → p x ≡ true → filter p (x ∷ l) ≡ x ∷ filter p l
+unfolding filter
+filter-true p x l h = cond-true _ _ h
 
-pub keep-false : (p : ℕ → Bool) (x : ℕ) (l : List ℕ) → p x ≡ false → keep p (x ∷ l) ≡ keep p l
-unfolding keep
-keep-false p x l h = cond-false _ _ h
+pub filter-false : (p : ℕ → Bool) (x : ℕ) (l : List ℕ) → p x ≡ false → filter p (x ∷ l) ≡ filter p l
+unfolding filter
+filter-false p x l h = cond-false _ _ h
 
-pub keep-append : (p : ℕ → Bool) (l m : List ℕ) → keep p (l ++ m) ≡ keep p l ++ keep p m
-unfolding keep
-keep-append p [] m = refl
-keep-append p (x ∷ l) m = by-test (p x) (λ e. rw e (ap (λ (r : List ℕ). x ∷ r) (keep-append p l m))) (λ e. rw e (keep-append p l m))
+pub filter-append : (p : ℕ → Bool) (l m : List ℕ) → filter p (l ++ m) ≡ filter p l ++ filter p m
+unfolding filter
+filter-append p [] m = refl
+filter-append p (x ∷ l) m = by-test (p x) (λ e. rw e (ap (λ (r : List ℕ). x ∷ r) (filter-append p l m))) (λ e. rw e (filter-append p l m))
 
 -- the first that is kept passes the test
-pub first-kept-passes : (p : ℕ → Bool) (l : List ℕ) → any p l ≡ true → p (getD (keep p l) 0 0) ≡ true
+pub first-kept-passes : (p : ℕ → Bool) (l : List ℕ) → any p l ≡ true → p (getD (filter p l) 0 0) ≡ true
 unfolding any
 first-kept-passes p [] h = absurd (clash h refl)
 first-kept-passes p (x ∷ l) h =
     by-test (p x)
-    (λ e. ap (λ (m : List ℕ). p (getD m 0 0)) (keep-true p x l e) ∙ e)
-    (λ e. ap (λ (m : List ℕ). p (getD m 0 0)) (keep-false p x l e) ∙ first-kept-passes p l (sym (any-false p x l e) ∙ h))
+    (λ e. ap (λ (m : List ℕ). p (getD m 0 0)) (filter-true p x l e) ∙ e)
+    (λ e. ap (λ (m : List ℕ). p (getD m 0 0)) (filter-false p x l e) ∙ first-kept-passes p l (sym (any-false p x l e) ∙ h))
 
 kept-first : (a e c : Bool) → (a ≡ true → c ≡ true) → (a || (e && c)) ≡ ((a || e) && c)
 kept-first true e c f = sym (f refl)
@@ -167,31 +167,31 @@ dropped-first true true c f = refl
 dropped-first true false c f = sym (f refl)
 dropped-first false e c f = refl
 
-pub elem-keep : (p : ℕ → Bool) (x : ℕ) (l : List ℕ) → elem x (keep p l) ≡ (elem x l && p x)
-unfolding elem any keep
-elem-keep p x [] = refl
-elem-keep p x (y ∷ l) =
+pub elem-filter : (p : ℕ → Bool) (x : ℕ) (l : List ℕ) → elem x (filter p l) ≡ (elem x l && p x)
+unfolding elem any filter
+elem-filter p x [] = refl
+elem-filter p x (y ∷ l) =
     by-test (p y)
-    (λ e. ap (elem x) (keep-true p y l e)
-    ∙ (ap (λ (b : Bool). eqb x y || b) (elem-keep p x l)
+    (λ e. ap (elem x) (filter-true p y l e)
+    ∙ (ap (λ (b : Bool). eqb x y || b) (elem-filter p x l)
     ∙ kept-first (eqb x y) (elem x l) (p x) (λ q. ap p (eqb-true x y q) ∙ e)))
-    (λ e. ap (elem x) (keep-false p y l e)
-    ∙ (elem-keep p x l ∙ dropped-first (eqb x y) (elem x l) (p x) (λ q. ap p (eqb-true x y q) ∙ e)))
+    (λ e. ap (elem x) (filter-false p y l e)
+    ∙ (elem-filter p x l ∙ dropped-first (eqb x y) (elem x l) (p x) (λ q. ap p (eqb-true x y q) ∙ e)))
 
 -- a test that agrees on the list keeps the same
-pub keep-same : (p q : ℕ → Bool) (l : List ℕ) → ((x : ℕ) → elem x l ≡ true → p x ≡ q x) → keep p l ≡ keep q l
-unfolding keep
-keep-same p q [] f = refl
-keep-same p q (x ∷ l) f =
-    ap₂ (λ (b : Bool) (r : List ℕ). cond b (x ∷ r) r) (f x (elem-head x l)) (keep-same p q l (λ y h. f y (elem-tail y x l h)))
+pub filter-same : (p q : ℕ → Bool) (l : List ℕ) → ((x : ℕ) → elem x l ≡ true → p x ≡ q x) → filter p l ≡ filter q l
+unfolding filter
+filter-same p q [] f = refl
+filter-same p q (x ∷ l) f =
+    ap₂ (λ (b : Bool) (r : List ℕ). cond b (x ∷ r) r) (f x (elem-head x l)) (filter-same p q l (λ y h. f y (elem-tail y x l h)))
 
-pub length-keep : (p : ℕ → Bool) (l : List ℕ) → length (keep p l) ≤ length l
-unfolding keep
-length-keep p [] = zero-le
-length-keep p (x ∷ l) =
+pub length-filter : (p : ℕ → Bool) (l : List ℕ) → length (filter p l) ≤ length l
+unfolding filter
+length-filter p [] = zero-le
+length-filter p (x ∷ l) =
     by-test (p x)
-    (λ e. rw (keep-true p x l e) (suc-le-suc (length-keep p l)))
-    (λ e. rw (keep-false p x l e) (omega (arith, length-keep p l)))
+    (λ e. rw (filter-true p x l e) (suc-le-suc (length-filter p l)))
+    (λ e. rw (filter-false p x l e) (omega (arith, length-filter p l)))
 
 -- ---- ranges
 
@@ -211,18 +211,18 @@ range-elem x a (suc k) p q =
 
 -- ---- ordered lists
 
-pub ordered-keep : (before : ℕ → ℕ → Bool) (p : ℕ → Bool) (l : List ℕ) → ordered before l ≡ true → ordered before (keep p l) ≡ true
-unfolding ordered keep
-ordered-keep before p [] h = refl
-ordered-keep before p (x ∷ l) h =
+pub ordered-filter : (before : ℕ → ℕ → Bool) (p : ℕ → Bool) (l : List ℕ) → ordered before l ≡ true → ordered before (filter p l) ≡ true
+unfolding ordered filter
+ordered-filter before p [] h = refl
+ordered-filter before p (x ∷ l) h =
     let first = and-left (all (before x) l) (ordered before l) h in
-    let rest = ordered-keep before p l (and-right (all (before x) l) (ordered before l) h) in
+    let rest = ordered-filter before p l (and-right (all (before x) l) (ordered before l) h) in
     by-test (p x)
-    (λ e. ap (ordered before) (keep-true p x l e)
+    (λ e. ap (ordered before) (filter-true p x l e)
     ∙ and-intro
-    (all-intro (before x) (keep p l) (λ y q. all-elem (before x) l y first (and-left (elem y l) (p y) (sym (elem-keep p y l) ∙ q))))
+    (all-intro (before x) (filter p l) (λ y q. all-elem (before x) l y first (and-left (elem y l) (p y) (sym (elem-filter p y l) ∙ q))))
     rest)
-    (λ e. ap (ordered before) (keep-false p x l e) ∙ rest)
+    (λ e. ap (ordered before) (filter-false p x l e) ∙ rest)
 
 pub ordered-range : (a k : ℕ) → ordered ltb (range a k) ≡ true
 unfolding ordered range

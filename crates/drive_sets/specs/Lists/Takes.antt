@@ -12,8 +12,8 @@ use lib.ListN.{length, take, drop, getD}
 use lib.Seq.{drop-drop, drop-append-add}
 use borrow.Author.Tests.{ltb-true}
 use Rattle.drive_sets.specs.Bools.{clash, by-test, false-of, and-intro, and-left, and-right}
-use Rattle.drive_sets.specs.Lists.{keep, all, elem, ordered, distinct}
-use Rattle.drive_sets.specs.Lists.Laws.{elem-head, elem-tail, elem-cases, elem-none, all-elem, all-intro, keep-true, keep-false}
+use Rattle.drive_sets.specs.Lists.{filter, all, elem, ordered, distinct}
+use Rattle.drive_sets.specs.Lists.Laws.{elem-head, elem-tail, elem-cases, elem-none, all-elem, all-intro, filter-true, filter-false}
 use Rattle.drive_sets.specs.Lists.Distinct.{distinct-none, distinct-cons, distinct-head, distinct-tail}
 
 pub elem-take : (x m : ℕ) (l : List ℕ) → elem x (take m l) ≡ true → elem x l ≡ true
@@ -38,15 +38,15 @@ take-past x y (suc m) (z ∷ l) k h f g =
     (elem-cases y z l g))
     (elem-cases x z (take m (l ++ k)) h)
 
-pub keep-keep : (p q : ℕ → Bool) (l : List ℕ) → keep p (keep q l) ≡ keep (λ x. q x && p x) l
-unfolding keep
-keep-keep p q [] = refl
-keep-keep p q (x ∷ l) =
+pub filter-filter : (p q : ℕ → Bool) (l : List ℕ) → filter p (filter q l) ≡ filter (λ x. q x && p x) l
+unfolding filter
+filter-filter p q [] = refl
+filter-filter p q (x ∷ l) =
     by-test (q x)
     (λ a. by-test (p x)
-    (λ b. rw (a, b) (ap (λ (r : List ℕ). x ∷ r) (keep-keep p q l)))
-    (λ b. rw (a, b) (keep-keep p q l)))
-    (λ a. rw a (keep-keep p q l))
+    (λ b. rw (a, b) (ap (λ (r : List ℕ). x ∷ r) (filter-filter p q l)))
+    (λ b. rw (a, b) (filter-filter p q l)))
+    (λ a. rw a (filter-filter p q l))
 
 pub ordered-take : (before : ℕ → ℕ → Bool) (m : ℕ) (l : List ℕ) → ordered before l ≡ true → ordered before (take m l) ≡ true
 unfolding ordered
@@ -65,13 +65,13 @@ distinct-take (suc m) (x ∷ l) h =
 
 -- of a rising list, the first that passes is the one before which none does
 pub first-kept-least : (p : ℕ → Bool) (l : List ℕ) (a : ℕ) → ordered ltb l ≡ true → elem a l ≡ true → p a ≡ true
-    → ((x : ℕ) → elem x l ≡ true → x < a → p x ≡ false) → getD (keep p l) 0 0 ≡ a
+    → ((x : ℕ) → elem x l ≡ true → x < a → p x ≡ false) → getD (filter p l) 0 0 ≡ a
 unfolding ordered
 first-kept-least p [] a o i h f = absurd (clash i (elem-none a))
 first-kept-least p (y ∷ l) a o i h f =
     ⊎-elim
-    (λ e. ap (λ (k : List ℕ). getD k 0 0) (keep-true p y l (ap p (sym e) ∙ h)) ∙ sym e)
-    (λ e. ap (λ (k : List ℕ). getD k 0 0) (keep-false p y l (f y (elem-head y l) (ltb-true y a (all-elem (ltb y) l a (and-left (all (ltb y) l) _ o) e))))
+    (λ e. ap (λ (k : List ℕ). getD k 0 0) (filter-true p y l (ap p (sym e) ∙ h)) ∙ sym e)
+    (λ e. ap (λ (k : List ℕ). getD k 0 0) (filter-false p y l (f y (elem-head y l) (ltb-true y a (all-elem (ltb y) l a (and-left (all (ltb y) l) _ o) e))))
     ∙ first-kept-least p l a (and-right (all (ltb y) l) _ o) e h (λ x g. f x (elem-tail x y l g)))
     (elem-cases a y l i)
 

@@ -8,7 +8,8 @@ use native.Mathlib.Omega.{arith}
 use native.Mathlib.Numerals.{add-one}
 use lib.ListN.{length, getD, drop, drop-of-length-le}
 use lib.Seq.{drop-cons}
-use Rattle.drive_sets.specs.Lists.{all, any}
+use Rattle.drive_sets.specs.Lists.{all, any, firstFailing}
+use Rattle.drive_sets.specs.Lists.FirstFailing.{failing-later, failing-first, failing-within}
 
 -- the next element in front of the rest
 pub drop-next : (l : List ℕ) (i : ℕ) → i < length l → drop i l ≡ getD l i 0 ∷ drop (i + 1) l
@@ -63,3 +64,25 @@ module _ (p : ℕ → Bool) {whole : Bool} {l : List ℕ} {i : ℕ} where
     pub all-end : length l ≤ i → true ≡ whole
     unfolding all
     all-end h = scan-end s h
+
+-- ---- the first element that fails the test: those before i pass
+
+pub record Passed (p : ℕ → Bool) (l : List ℕ) (i : ℕ) : Type 0 where
+  pub within : i ≤ length l
+  pub rest : i + firstFailing p (drop i l) ≡ firstFailing p l
+
+pub passed-start : (p : ℕ → Bool) (l : List ℕ) → Passed p l 0
+passed-start p l = record { within = zero-le; rest = omega arith }
+
+module _ {p : ℕ → Bool} {l : List ℕ} {i : ℕ} (s : Passed p l i) where
+  pub passed-turn : i < length l → p (getD l i 0) ≡ true → Passed p l (i + 1)
+  passed-turn h e = record {
+    within = omega arith;
+    rest = omega (arith, s .rest, ap (firstFailing p) (drop-next l i h), failing-later p (getD l i 0) (drop (i + 1) l) e);
+  }
+
+  pub passed-found : i < length l → p (getD l i 0) ≡ false → i ≡ firstFailing p l
+  passed-found h e = omega (arith, s .rest, ap (firstFailing p) (drop-next l i h), failing-first p (getD l i 0) (drop (i + 1) l) e)
+
+  pub passed-end : length l ≤ i → i ≡ firstFailing p l
+  passed-end h = omega (arith, s .rest, failing-within p (drop i l), ap length (drop-of-length-le l h))

@@ -9,8 +9,8 @@ use native.Mathlib.Omega.{arith}
 use lib.Pow.{pow-mono}
 use lib.ListN.{length, getD}
 use Rattle.drive_sets.specs.Bools.{clash, same-test, and-intro, and-right}
-use Rattle.drive_sets.specs.Lists.{range, keep, elem}
-use Rattle.drive_sets.specs.Lists.Laws.{elem-none, elem-cases, elem-append-left, elem-keep, range-elem, ordered-keep, ordered-range}
+use Rattle.drive_sets.specs.Lists.{range, filter, elem}
+use Rattle.drive_sets.specs.Lists.Laws.{elem-none, elem-cases, elem-append-left, elem-filter, range-elem, ordered-filter, ordered-range}
 use Rattle.drive_sets.specs.Masks.{has, size, drives, Below}
 use Rattle.drive_sets.specs.Masks.Laws.{has-bounds}
 use Rattle.drive_sets.specs.Masks.Sizes.{elem-drives, drives-rising, rising-unique, length-drives}
@@ -21,15 +21,15 @@ module _ (n m : ℕ) (lt : m < 2 ^ n) where
   has-range d h = let b = has-bounds n d m lt h in range-elem d 1 n (b .0) (omega arith)
 
   module _ (le : n ≤ 64) where
-    pub drives-frame : drives m ≡ keep (λ d. has d m) (range 1 n)
+    pub drives-frame : drives m ≡ filter (λ d. has d m) (range 1 n)
     drives-frame =
-        rising-unique (drives m) (keep (λ d. has d m) (range 1 n)) (drives-rising m)
-        (ordered-keep ltb (λ d. has d m) (range 1 n) (ordered-range 1 n))
+        rising-unique (drives m) (filter (λ d. has d m) (range 1 n)) (drives-rising m)
+        (ordered-filter ltb (λ d. has d m) (range 1 n) (ordered-range 1 n))
         (λ d. elem-drives d m (lt-of-lt-of-le lt (pow-mono {i = n} {j = 64} le))
-        ∙ sym (elem-keep (λ d. has d m) d (range 1 n)
+        ∙ sym (elem-filter (λ d. has d m) d (range 1 n)
         ∙ same-test (elem d (range 1 n) && has d m) (has d m) (and-right (elem d (range 1 n)) (has d m)) (λ h. and-intro (has-range d h) h)))
 
-    pub size-frame : size m ≡ length (keep (λ d. has d m) (range 1 n))
+    pub size-frame : size m ≡ length (filter (λ d. has d m) (range 1 n))
     size-frame = sym (length-drives m) ∙ ap length drives-frame
 
 -- ---- lists of such sets

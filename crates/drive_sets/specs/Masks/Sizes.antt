@@ -13,8 +13,8 @@ use lib.Dec.{eqb, ltb}
 use lib.ListN.{length}
 use borrow.Author.Tests.{eqb-true, eqb-false, eq-eqb, lt-ltb, ltb-true, not-true}
 use Rattle.drive_sets.specs.Bools.{clash, by-test, same-test, and-intro, and-left, and-right, cond-true}
-use Rattle.drive_sets.specs.Lists.{range, keep, any, elem, ordered, distinct}
-use Rattle.drive_sets.specs.Lists.Laws.{elem-head, elem-tail, all-intro, keep-true, keep-false, elem-keep, range-elem, ordered-keep, ordered-range, ordered-unique}
+use Rattle.drive_sets.specs.Lists.{range, filter, any, elem, ordered, distinct}
+use Rattle.drive_sets.specs.Lists.Laws.{elem-head, elem-tail, all-intro, filter-true, filter-false, elem-filter, range-elem, ordered-filter, ordered-range, ordered-unique}
 use Rattle.drive_sets.specs.Lists.Distinct.{ordered-distinct}
 use Rattle.drive_sets.specs.Masks.{has, single, full, common, minus, subset, size, lowest, drives, ofDrives}
 use Rattle.drive_sets.specs.Masks.Bits.{bit, bit-lt, bit-zero, bit-suc, half-lt, and-odd, and-half, minus-half, minus-odd}
@@ -152,13 +152,13 @@ ltb-asym x y p q = omega (arith, ltb-true x y p, ltb-true y x q)
 pub elem-drives : (d m : ℕ) → m < 2 ^ 64 → elem d (drives m) ≡ has d m
 unfolding drives
 elem-drives d m h =
-    elem-keep (λ x. has x m) d (range 1 64)
+    elem-filter (λ x. has x m) d (range 1 64)
     ∙ same-test (elem d (range 1 64) && has d m) (has d m) (and-right (elem d (range 1 64)) (has d m))
     (λ e. let w = has-bounds 64 d m h e in and-intro (range-elem d 1 64 (w .0) (omega arith)) e)
 
 pub drives-rising : (m : ℕ) → ordered ltb (drives m) ≡ true
 unfolding drives
-drives-rising m = ordered-keep ltb (λ d. has d m) (range 1 64) (ordered-range 1 64)
+drives-rising m = ordered-filter ltb (λ d. has d m) (range 1 64) (ordered-range 1 64)
 
 pub drives-distinct : (m : ℕ) → distinct (drives m) ≡ true
 drives-distinct m = ordered-distinct ltb (λ x h. ltb-asym x x h h) (drives m) (drives-rising m)
@@ -170,18 +170,18 @@ rising-unique = ordered-unique ltb ltb-asym
 halved : (m j : ℕ) → m / 2 ^ suc j ≡ m / 2 ^ j / 2
 halved m j = ap (λ (x : ℕ). m / x) (pow-suc 2 j) ∙ sym (div-div-eq-div-mul m (2 ^ j) 2)
 
-keep-count : (m k j : ℕ) → length (keep (λ d. has d m) (range (suc j) k)) ≡ onesIn k (m / 2 ^ j)
-unfolding keep range onesIn has
-keep-count m zero j = refl
-keep-count m (suc k) j =
-    let rest = keep-count m k (suc j) ∙ ap (onesIn k) (halved m j) in
+filter-count : (m k j : ℕ) → length (filter (λ d. has d m) (range (suc j) k)) ≡ onesIn k (m / 2 ^ j)
+unfolding filter range onesIn has
+filter-count m zero j = refl
+filter-count m (suc k) j =
+    let rest = filter-count m k (suc j) ∙ ap (onesIn k) (halved m j) in
     by-test (has (suc j) m)
-    (λ e. ap length (keep-true (λ d. has d m) (suc j) (range (suc (suc j)) k) e) ∙ omega (arith, eqb-true (bit j m) 1 e))
-    (λ e. ap length (keep-false (λ d. has d m) (suc j) (range (suc (suc j)) k) e) ∙ omega (arith, eqb-false (bit j m) 1 e, bit-lt j m))
+    (λ e. ap length (filter-true (λ d. has d m) (suc j) (range (suc (suc j)) k) e) ∙ omega (arith, eqb-true (bit j m) 1 e))
+    (λ e. ap length (filter-false (λ d. has d m) (suc j) (range (suc (suc j)) k) e) ∙ omega (arith, eqb-false (bit j m) 1 e, bit-lt j m))
 
 pub length-drives : (m : ℕ) → length (drives m) ≡ size m
 unfolding drives size
-length-drives m = keep-count m 64 0 ∙ ap (onesIn 64) (div-one m)
+length-drives m = filter-count m 64 0 ∙ ap (onesIn 64) (div-one m)
 
 pub ofDrives-lt : (n : ℕ) (l : List ℕ) → ((d : ℕ) → elem d l ≡ true → d ≤ n) → ofDrives l < 2 ^ n
 unfolding ofDrives
@@ -248,5 +248,5 @@ lowest-removed m h ne =
     omega (arith, size-remove (lowest m) m (w .0) (w .1) e)
 
 pub drives-none : drives 0 ≡ []
-unfolding drives keep range has
+unfolding drives filter range has
 drives-none = refl

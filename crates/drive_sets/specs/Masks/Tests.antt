@@ -7,8 +7,8 @@ use native.Mathlib.Omega.{arith}
 use lib.Dec.{eqb}
 use borrow.Author.Tests.{eqb-true, eq-eqb, not-true}
 use Rattle.drive_sets.specs.Bools.{clash, false-of, true-of, same-test, and-left, and-right, beq-eq, eq-beq, _⊆_}
-use Rattle.drive_sets.specs.Lists.{range, keep, all, any, elem}
-use Rattle.drive_sets.specs.Lists.Laws.{elem-range, range-elem, elem-keep, all-elem, all-intro, any-elem, any-intro}
+use Rattle.drive_sets.specs.Lists.{range, filter, all, any, elem}
+use Rattle.drive_sets.specs.Lists.Laws.{elem-range, range-elem, elem-filter, all-elem, all-intro, any-elem, any-intro}
 use Rattle.drive_sets.specs.Masks.{has, single, union, subset, drives, ofDrives}
 use Rattle.drive_sets.specs.Masks.Laws.{has-none, has-union, has-single, has-bounds, has-ext, union-lt, single-lt, has-subset, none-has}
 use Rattle.drive_sets.specs.Masks.Frames.{drives-frame}
@@ -16,16 +16,16 @@ use Rattle.drive_sets.specs.Masks.Sizes.{ofDrives-lt, has-ofDrives, ofDr
 
 -- the drives that pass the test
 unfoldable pub setOf : (ℕ → Bool) → ℕ
-setOf p = ofDrives (keep p (range 1 64))
+setOf p = ofDrives (filter p (range 1 64))
 
-kept-bounds : (p : ℕ → Bool) (d : ℕ) → elem d (keep p (range 1 64)) ≡ true → (1 ≤ d) × (d ≤ 64)
+kept-bounds : (p : ℕ → Bool) (d : ℕ) → elem d (filter p (range 1 64)) ≡ true → (1 ≤ d) × (d ≤ 64)
 kept-bounds p d h =
-    let w = elem-range d 1 64 (and-left (elem d (range 1 64)) (p d) (sym (elem-keep p d (range 1 64)) ∙ h)) in (w .0, omega arith)
+    let w = elem-range d 1 64 (and-left (elem d (range 1 64)) (p d) (sym (elem-filter p d (range 1 64)) ∙ h)) in (w .0, omega arith)
 
 module _ (p : ℕ → Bool) where
   in-setOf : (d : ℕ) → has d (setOf p) ≡ (elem d (range 1 64) && p d)
   unfolding setOf
-  in-setOf d = has-ofDrives d (keep p (range 1 64)) (kept-bounds p) ∙ elem-keep p d (range 1 64)
+  in-setOf d = has-ofDrives d (filter p (range 1 64)) (kept-bounds p) ∙ elem-filter p d (range 1 64)
 
   setOf-at : (d : ℕ) → 1 ≤ d → d ≤ 64 → has d (setOf p) ≡ p d
   setOf-at d low high = in-setOf d ∙ ap (λ (b : Bool). b && p d) (range-elem d 1 64 low (omega arith))
@@ -35,7 +35,7 @@ module _ (p : ℕ → Bool) where
 
   pub setOf-lt : setOf p < 2 ^ 64
   unfolding setOf
-  setOf-lt = ofDrives-lt 64 (keep p (range 1 64)) (λ d h. kept-bounds p d h .1)
+  setOf-lt = ofDrives-lt 64 (filter p (range 1 64)) (λ d h. kept-bounds p d h .1)
 
   -- a test that nobody passes gives the empty set
   pub setOf-none : ((d : ℕ) → p d ≡ false) → setOf p ≡ 0
@@ -87,10 +87,10 @@ module _ (n : ℕ) (frame : n ≤ 64) where
     pub setOf-within : setOf p < 2 ^ n
     unfolding setOf
     setOf-within =
-        ofDrives-lt n (keep p (range 1 64)) (λ d h. within-bounds d (and-right (elem d (range 1 64)) (p d) (sym (elem-keep p d (range 1 64)) ∙ h)) .1)
+        ofDrives-lt n (filter p (range 1 64)) (λ d h. within-bounds d (and-right (elem d (range 1 64)) (p d) (sym (elem-filter p d (range 1 64)) ∙ h)) .1)
 
-    pub drives-setOf : drives (setOf p) ≡ keep p (range 1 n)
-    drives-setOf = drives-frame n (setOf p) setOf-within frame ∙ ap (λ (q : ℕ → Bool). keep q (range 1 n)) (fun-ext has-setOf)
+    pub drives-setOf : drives (setOf p) ≡ filter p (range 1 n)
+    drives-setOf = drives-frame n (setOf p) setOf-within frame ∙ ap (λ (q : ℕ → Bool). filter q (range 1 n)) (fun-ext has-setOf)
 
     -- the set is not empty just if some drive passes
     pub setOf-some : not (eqb (setOf p) 0) ≡ any p (range 1 n)

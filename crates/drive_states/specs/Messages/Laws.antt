@@ -22,7 +22,8 @@ use Rattle.records.specs.Fields.Laws.{length-toBytes, field-back}
 use Rattle.records.specs.Marks.{ascii, markText, mark, bodyWidth, isKind, isDue, headOf}
 use Rattle.records.specs.Marks.Laws.{head-body}
 use Rattle.records.specs.RecordLists.{atRecord}
-use Rattle.drive_states.specs.State.{isDrive, patternLimit}
+use Rattle.drive_sets.specs.Counts.{isDrive}
+use Rattle.drive_states.specs.State.{patternLimit}
 use Rattle.drive_states.specs.Messages.{Entry, Content, known, decided, Message, message, maskIn, entriesIn, entryOf, knownOf, entryBytes, kindIn, contentBytes, messageBytes, lengthIn, longestMessage, senderOf, roundOf, maskOf, patternOf, entriesFrom, contentOf, messageOf, wrongMask, checked, readMessage}
 
 -- ---- what is told

@@ -1,31 +1,14 @@
--- The drives of a frame are the numbers 1 to n; the rules of 28 as a record of facts, and that a state which keeps them is not refused.
+-- The rules of 28 as a record of facts, and that a state which keeps them is not refused.
 use mathlib.Core.Path.{_≡_, ap}
 use mathlib.Core.Bool.{true, false, not}
-use Prim.Native.Nat.{ℕ, _≤_}
-use native.Mathlib.Omega.{arith}
-use lib.Dec.{leb}
-use borrow.Author.Tests.{leb-true, le-leb}
-use Rattle.drive_sets.specs.Bools.{by-test, same-test, and-intro, and-left, and-right, and-fails-left, and-fails-right, or-neither}
-use Rattle.drive_sets.specs.Lists.{range, elem}
-use Rattle.drive_sets.specs.Lists.Laws.{elem-range, range-elem}
+use Prim.Native.Nat.{_≤_}
+use Rattle.drive_sets.specs.Bools.{by-test, and-intro, and-fails-left, and-fails-right, or-neither}
 use Rattle.drive_sets.specs.Masks.{has, subset, size}
 use Rattle.tables.specs.Tables.{isFrame, isSet}
 use Rattle.drive_states.specs.declared.Exchange.{Exchange}
-use Rattle.drive_states.specs.State.{isDrive, inCore, broken}
-
-pub drive-bounds : (n d : ℕ) → isDrive n d ≡ true → (1 ≤ d) × (d ≤ n)
-unfolding isDrive
-drive-bounds n d h = (leb-true 1 d (and-left (leb 1 d) (leb d n) h), leb-true d n (and-right (leb 1 d) (leb d n) h))
-
-pub is-drive : (n d : ℕ) → 1 ≤ d → d ≤ n → isDrive n d ≡ true
-unfolding isDrive
-is-drive n d low high = and-intro (le-leb 1 d low) (le-leb d n high)
-
-pub isDrive-range : (n d : ℕ) → isDrive n d ≡ elem d (range 1 n)
-isDrive-range n d =
-    same-test (isDrive n d) (elem d (range 1 n))
-    (λ h. let b = drive-bounds n d h in range-elem d 1 n (b .0) (omega arith))
-    (λ h. let b = elem-range d 1 n h in is-drive n d (b .0) (omega arith))
+use Rattle.drive_sets.specs.Counts.{isDrive}
+use Rattle.drive_sets.specs.Counts.Laws.{is-round}
+use Rattle.drive_states.specs.State.{inCore, broken}
 
 -- a state that keeps the rules of 28
 pub record Sound (x : Exchange) : Type 0 where
@@ -49,5 +32,5 @@ sound-unbroken x s =
     (λ h. and-fails-right (inCore x) (ap not (and-intro (s .own-known h) (s .own-start h))))
     (λ h. and-fails-left _ h)))
     (ap not (s .drive)))
-    (ap not (and-intro (le-leb 1 (x .round .0) (s .from-one)) (le-leb (x .round .0) (size (x .core)) (s .to-size)))))
+    (ap not (is-round (x .core) (x .round .0) (s .from-one) (s .to-size))))
     (ap not (and-intro (and-intro (and-intro (s .before-core) (s .heard-core)) (s .known-core)) (s .start-core)))

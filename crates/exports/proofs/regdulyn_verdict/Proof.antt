@@ -1,17 +1,14 @@
 -- The refusal, or the verdict.
-use Rattle.exports.proofs.Outcomes.{judged-as}
+use Rattle.verdicts.specs.Held.{judgementOf}
 use borrow.Author.Needs.{needs}
 use Rattle.exports.proofs.regdulyn_verdict.Statement.{statement}
 use Rattle.exports.proofs.regdulyn_verdict.Tie as tie
 
-returns : tie.Need-returns
-returns c = let a = c .before .before .before .before .before .before .before .args in judged-as (c .before .before .before .before .before .judge .result) (a .k) (a .n) (a .sets .now) (c .before .before .before .before .before .judge .ensures .0) _ (c .before .before .answer .given .1) _ (c .refusal-code .ensures)
-
-returns-2 : tie.Need-returns-2
-returns-2 c = let a = c .before .before .before .before .before .before .args in judged-as (c .before .before .before .before .judge .result) (a .k) (a .n) (a .sets .now) (c .before .before .before .before .judge .ensures .0) _ (c .before .enum-told .given .1) _ (c .verdict-code .ensures)
-
 pub regdulyn-verdict-spec : {M : Type 1} → statement M
+unfolding judgementOf
 regdulyn-verdict-spec =
     tie.close
     (tie.spec
-    (λ c κs. search needs) (λ c. search needs) (λ c κs. search needs) (λ c. search needs) (λ c κs. search needs) returns returns-2)
+    (λ c κs. search needs) (λ c. search needs) (λ c κs. search needs) (λ c. search needs) (λ c κs. search needs)
+    (λ c. rw (← c .before .before .before .before .before .judge .ensures .0, c .before .before .answer .given .1) (c .refusal-code .ensures))
+    (λ c. rw (← c .before .before .before .before .judge .ensures .0, c .before .enum-told .given .1) (c .verdict-code .ensures)))

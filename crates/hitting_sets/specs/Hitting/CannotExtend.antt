@@ -7,8 +7,8 @@ use Prim.Native.Nat.{ℕ, _^_, _≤_, _<_}
 use lib.Dec.{eqb}
 use borrow.Author.Tests.{eqb-false, eq-eqb, not-true}
 use Rattle.drive_sets.specs.Bools.{clash, false-of, or-cases, and-intro, and-left, and-right}
-use Rattle.drive_sets.specs.Lists.{keep}
-use Rattle.drive_sets.specs.Lists.Laws.{no-elem, any-elem, elem-keep}
+use Rattle.drive_sets.specs.Lists.{filter}
+use Rattle.drive_sets.specs.Lists.Laws.{no-elem, any-elem, elem-filter}
 use Rattle.drive_sets.specs.Masks.{has, single, union, common, minus, subset, drives, Below}
 use Rattle.drive_sets.specs.Masks.Laws.{has-union, has-minus, has-bounds, subset-has, subset-lt, meets-has}
 use Rattle.drive_sets.specs.Masks.Sizes.{elem-drives}
@@ -54,7 +54,7 @@ module _ (sets : List ℕ) (t u : ℕ) (below : Below 64 sets) (part : subset t 
       let d = w .0 in
       let j = sym (elem-drives d t t-lt) ∙ w .1 in
       let s = own d j .0 in
-      let mine = elem-keep (λ y. eqb (common y t) (single d)) s sets ∙ and-intro (own d j .1) (eq-eqb (common s t) (single d) (own-in-t d j)) in
+      let mine = elem-filter (λ y. eqb (common y t) (single d)) s sets ∙ and-intro (own d j .1) (eq-eqb (common s t) (single d) (own-in-t d j)) in
       clash (own-only d j x (inAll-has x s (privates sets t d) (w .2) mine) i) (w .3)
 
   -- u has a drive of each set, and it is not forbidden: where t misses a set, the drives outside the bar are not all in a private set
@@ -75,13 +75,13 @@ module _ (sets : List ℕ) (t u : ℕ) (below : Below 64 sets) (part : subset t 
   unfolding cannotExtend
   cannot-extend-none h =
       let open-to : ℕ → Bool = λ s. not (covered sets t (forbidden sets t (drives t)) s) in
-      let kept = keep open-to sets in
+      let kept = filter open-to sets in
       let w = not-all-critical kept t t-lt (eqb-false (critical kept t) t (not-true (eqb (critical kept t) t) h)) in
       let d = w .0 in
       let i = w .1 in
       let s = own d i .0 in
       let stays = false-of (covered sets t (forbidden sets t (drives t)) s) (not-covered d i) in
-      clash (private-critical d (low d i) (high d i) kept t t-lt (s, elem-keep open-to s sets ∙ and-intro (own d i .1) (ap not stays), own-in-t d i)) (w .2)
+      clash (private-critical d (low d i) (high d i) kept t t-lt (s, elem-filter open-to s sets ∙ and-intro (own d i .1) (ap not stays), own-in-t d i)) (w .2)
 
 pub cannot-extend-search : (seen rest : List ℕ) (t : ℕ) → Below 64 (seen ++ rest) → Minimal seen t → cannotExtend (seen ++ rest) t ≡ true → search seen rest t ≡ []
 cannot-extend-search seen rest t b min h =

@@ -9,9 +9,9 @@ use native.Mathlib.Nat.{le-refl}
 use lib.Dec.{eqb}
 use borrow.Author.Tests.{eqb-true, eq-eqb, ne-eqb, not-true}
 use Rattle.drive_sets.specs.Bools.{clash, by-test, false-of, and-intro, and-left, and-right, and-not, or-left, or-right, or-cases, cond-false}
-use Rattle.drive_sets.specs.Lists.{range, keep, elem}
-use Rattle.drive_sets.specs.Lists.Laws.{elem-head, elem-tail, elem-none, elem-cases, elem-append-left, elem-append-right, elem-keep, keep-true, keep-false, keep-same}
-use Rattle.drive_sets.specs.Lists.Takes.{keep-keep}
+use Rattle.drive_sets.specs.Lists.{range, filter, elem}
+use Rattle.drive_sets.specs.Lists.Laws.{elem-head, elem-tail, elem-none, elem-cases, elem-append-left, elem-append-right, elem-filter, filter-true, filter-false, filter-same}
+use Rattle.drive_sets.specs.Lists.Takes.{filter-filter}
 use Rattle.drive_sets.specs.Masks.{has, single, union, common, minus, meets, drives, Below}
 use Rattle.drive_sets.specs.Masks.Laws.{has-none, has-union, has-common, has-minus, has-bounds, full-has, subset-union, has-meets, meets-not}
 use Rattle.drive_sets.specs.Masks.Sizes.{elem-drives}
@@ -135,7 +135,7 @@ module _ (seen : List ℕ) (s m : ℕ) (below : Below 64 (seen ++ (s ∷ []))) (
         let j = m-drive e (w .1) in
         ⊎-elim
         (λ p. let r = keeps-lacks e (p .0) j (p .2) in
-        clash (inAll-has d (p .0) (privates seen m e) (w .2) (elem-keep (λ x. eqb (common x m) (single e)) (p .0) seen ∙ and-intro (p .1) (eq-eqb _ _ (r .0)))) (r .1))
+        clash (inAll-has d (p .0) (privates seen m e) (w .2) (elem-filter (λ x. eqb (common x m) (single e)) (p .0) seen ∙ and-intro (p .1) (eq-eqb _ _ (r .0)))) (r .1))
         (λ p. let b = has-bounds 64 e m m-lt j in clash (has-meets e s m (shared-has e (b .0) (b .1) s t p .0) j) missed)
         (private-cases seen s t e (critical-all (seen ++ (s ∷ [])) t t-lt a e (insert-keeps d low high e m j)))
 
@@ -151,7 +151,7 @@ module _ (seen : List ℕ) (s m : ℕ) (below : Below 64 (seen ++ (s ∷ []))) (
             let free = false-of (has d (inAll (privates seen m e))) (λ q. clash (forbids seen m d e (drives m) (elem-drives e m m-lt ∙ j) q new) h) in
             let w = inAll-lacks d low high (privates seen m e) free in
             let x = w .0 in
-            let both = sym (elem-keep (λ y. eqb (common y m) (single e)) x seen) ∙ w .1 in (
+            let both = sym (elem-filter (λ y. eqb (common y m) (single e)) x seen) ∙ w .1 in (
               x,
               elem-append-left x seen (s ∷ []) (and-left (elem x seen) (eqb (common x m) (single e)) both),
               lacks-keeps e x j (eqb-true _ _ (and-right (elem x seen) (eqb (common x m) (single e)) both)) (w .2),
@@ -170,23 +170,23 @@ module _ (seen : List ℕ) (s m : ℕ) (below : Below 64 (seen ++ (s ∷ []))) (
   -- ---- all drives of s
 
   each-free : (sets ds : List ℕ) → ((d : ℕ) → elem d ds ≡ true → has d s ≡ true)
-      → forEach (tried (seen ++ (s ∷ [])) sets) m ds ≡ forEach (search (seen ++ (s ∷ [])) sets) m (keep (λ d. not (has d bar)) ds)
-  unfolding forEach keep
+      → forEach (tried (seen ++ (s ∷ [])) sets) m ds ≡ forEach (search (seen ++ (s ∷ [])) sets) m (filter (λ d. not (has d bar)) ds)
+  unfolding forEach filter
   each-free sets [] f = refl
   each-free sets (d ∷ ds) f =
       let i = f d (elem-head d ds) in
       let rest = each-free sets ds (λ e h. f e (elem-tail e d ds h)) in
       by-test (has d bar)
       (λ h. ap₂ _++_ (tried-forbidden d i sets h) rest
-      ∙ sym (ap (forEach (search (seen ++ (s ∷ [])) sets) m) (keep-false (λ d. not (has d bar)) d ds (ap not h))))
+      ∙ sym (ap (forEach (search (seen ++ (s ∷ [])) sets) m) (filter-false (λ d. not (has d bar)) d ds (ap not h))))
       (λ h. ap₂ _++_ (tried-free d i sets h) rest
-      ∙ sym (ap (forEach (search (seen ++ (s ∷ [])) sets) m) (keep-true (λ d. not (has d bar)) d ds (ap not h))))
+      ∙ sym (ap (forEach (search (seen ++ (s ∷ [])) sets) m) (filter-true (λ d. not (has d bar)) d ds (ap not h))))
 
-  free-drives : drives (minus s bar) ≡ keep (λ d. not (has d bar)) (drives s)
+  free-drives : drives (minus s bar) ≡ filter (λ d. not (has d bar)) (drives s)
   unfolding drives
   free-drives =
-      keep-same (λ d. has d (minus s bar)) (λ d. has d s && not (has d bar)) (range 1 64) (λ d _. has-minus d s bar)
-      ∙ sym (keep-keep (λ d. not (has d bar)) (λ d. has d s) (range 1 64))
+      filter-same (λ d. has d (minus s bar)) (λ d. has d s && not (has d bar)) (range 1 64) (λ d _. has-minus d s bar)
+      ∙ sym (filter-filter (λ d. not (has d bar)) (λ d. has d s) (range 1 64))
 
   -- the search goes on with each drive of s that is not forbidden, and with no other
   pub search-free : (sets : List ℕ) → search seen (s ∷ sets) m ≡ forEach (search (seen ++ (s ∷ [])) sets) m (drives (minus s bar))

@@ -9,10 +9,11 @@ use Rattle.records.specs.RecordLists.{nextOf, widthOf, stepOf, readFrom, readLi
 use Rattle.tables.specs.Files.{dueAfter, takenSet, readListed, accepted, readTable, readWhole}
 use Rattle.verdicts.specs.Verdicts.{firstWith, disjoint, blocksOf, verdictOn}
 use Rattle.agreement.specs.Calls.Evaluated.{evaluated}
-use Rattle.sync_crash.specs.Rounds.{start, smallestOf, sends, reaches, adds, known, announces, announced, heard, unchanged, quiet, ifQuiet, decides, halts, closes, closed, step, after}
+use Rattle.sync_crash.specs.Rounds.{start, smallestOf, sends, reaches, adds, known, announces, announced, heard, unchanged, stable, ifStable, decides, halts, closes, closed, step, after}
 use Rattle.runs.specs.Scenario.{frame, coreOf, goneBy, hasCrash}
 use Rattle.agreement.specs.Sends.{listOf, cut, reach}
-use Rattle.runs.specs.CrashRecords.{crashed, isNext, isRound, mostSends, checkedCrash, crashIn, scenario}
+use Rattle.runs.specs.CrashRecords.{crashed, isNext, mostSends, checkedCrash, crashIn, scenario}
+use Rattle.drive_sets.specs.Counts.{isRound}
 use Rattle.runs.specs.Statement.{coreCrashes}
 use Rattle.agreement.specs.Simulated.{endingAfter, endingFrom, endingOf, endings}
 use Rattle.run_files.specs.RunFiles.{takenProposal, crashFields, takenCrash, readRecords, untouchedLeft, wholeRun, readBehind, readRunFile}
@@ -23,5 +24,5 @@ use Rattle.run_listing.specs.RunListing.{endingText, driveLine, endingLines, co
 use Rattle.marked_cases.specs.MarkedCases.{AllGiven, sv, fileA, fileC, fileH, fileI, prs, cr, onA, fileJ, marked}
 
 pub marked-cases : AllGiven marked
-unfolding marked sv fileA fileC fileH fileI prs cr onA fileJ evaluated orElse elem firstSome outside ofDrives hits chosenCore dueAfter takenSet nextOf widthOf stepOf readFrom readList readListed accepted readTable readWhole firstWith disjoint blocksOf verdictOn start smallestOf sends reaches adds known announces announced heard unchanged quiet ifQuiet decides halts closes closed step after frame coreOf goneBy hasCrash listOf cut reach crashed isNext isRound mostSends checkedCrash crashIn scenario coreCrashes endingAfter endingFrom endingOf endings takenProposal crashFields takenCrash readRecords untouchedLeft wholeRun readBehind readRunFile checkedCrashes simulated digit inBase digits joined field fields named line lines refusalLine noPart verdictLine verdictLines listing tableProgram endingText driveLine endingLines coreLine simulatedWith simulatedFile runProgram
+unfolding marked sv fileA fileC fileH fileI prs cr onA fileJ evaluated orElse elem firstSome outside ofDrives hits chosenCore dueAfter takenSet nextOf widthOf stepOf readFrom readList readListed accepted readTable readWhole firstWith disjoint blocksOf verdictOn start smallestOf sends reaches adds known announces announced heard unchanged stable ifStable decides halts closes closed step after frame coreOf goneBy hasCrash listOf cut reach crashed isNext isRound mostSends checkedCrash crashIn scenario coreCrashes endingAfter endingFrom endingOf endings takenProposal crashFields takenCrash readRecords untouchedLeft wholeRun readBehind readRunFile checkedCrashes simulated digit inBase digits joined field fields named line lines refusalLine noPart verdictLine verdictLines listing tableProgram endingText driveLine endingLines coreLine simulatedWith simulatedFile runProgram
 marked-cases = (refl, (refl, (refl, (refl, (refl, (refl, (refl, (refl, (refl, (refl, tt))))))))))

@@ -7,11 +7,9 @@ use Rattle.records.proofs.Buffers.{room-left}
 use Rattle.records.proofs.fits.Statement.{statement}
 use Rattle.records.proofs.fits.Tie as tie
 
-returns : tie.Need-returns
-returns c = let a = c .before .args in sym (lt-leb (a .start + a .size) (a .room) (omega arith))
-
-returns-2 : tie.Need-returns-2
-returns-2 c = let a = c .before .args in room-left (a .start) (a .size) (a .room) (c .if1 .left)
-
 pub fits-spec : {M : Type 1} → statement M
-fits-spec = tie.close (tie.spec returns returns-2)
+fits-spec =
+    tie.close
+    (tie.spec
+    (λ c. let a = c .before .args in sym (lt-leb (a .start + a .size) (a .room) (omega arith)))
+    (λ c. let a = c .before .args in room-left (a .start) (a .size) (a .room) (c .if1 .left)))

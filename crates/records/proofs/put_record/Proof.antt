@@ -5,18 +5,11 @@ use borrow.Author.Needs.{needs}
 use Rattle.records.proofs.put_record.Statement.{statement}
 use Rattle.records.proofs.put_record.Tie as tie
 
-returns : tie.Need-returns
-returns c = let a = c .before .before .args in record-none (a .m) (a .width) (a .x) (a .part .now) (omega arith)
-
-returns-2 : tie.Need-returns-2
-returns-2 c = let a = c .before .before .before .args in record-none (a .m) (a .width) (a .x) (a .part .now) (omega arith)
-
-returns-3 : tie.Need-returns-3
-returns-3 c = let a = c .before .before .before .before .before .before .before .before .before .before .before .args in record-written (a .m) (a .width) (a .x) (a .part .now) _ _ (omega arith) (c .before .before .before .before .before .before .put-field .ensures) (c .before .before .put-field2 .ensures)
-
 pub put-record-spec : {M : Type 1} → statement M
 put-record-spec =
     tie.close
     (tie.spec
-    returns (λ c. search needs) returns-2 (λ c κs. search needs) (λ c. search needs) (λ c. search needs) (λ c. search needs) (λ c κs. search needs)
-    (λ c. search needs) returns-3)
+    (λ c. let a = c .before .before .args in record-none (a .m) (a .width) (a .x) (a .part .now) (omega arith)) (λ c. search needs)
+    (λ c. let a = c .before .before .before .args in record-none (a .m) (a .width) (a .x) (a .part .now) (omega arith)) (λ c κs. search needs)
+    (λ c. search needs) (λ c. search needs) (λ c. search needs) (λ c κs. search needs) (λ c. search needs)
+    (λ c. let a = c .before .before .before .before .before .before .before .before .before .before .before .args in record-written (a .m) (a .width) (a .x) (a .part .now) _ _ (omega arith) (c .before .before .before .before .before .before .put-field .ensures) (c .before .before .put-field2 .ensures)))

@@ -7,7 +7,7 @@ use native.Mathlib.Omega.{arith}
 use lib.Arith.{mod-mul}
 use lib.Dec.{leb}
 use lib.ListN.{length, getD, take, drop, length-append, length-take, length-drop}
-use lib.Seq.{drop-cons, take-at, drop-at, drop-drop, take-append-add, drop-append-add, length-take-le}
+use lib.Seq.{take-at, drop-at, drop-drop, take-append-add, drop-append-add, length-take-le}
 use borrow.Author.Tests.{le-leb, lt-leb, leb-true, leb-false}
 use Rattle.drive_sets.specs.Bools.{by-test, cond-true, cond-false}
 use Rattle.records.specs.Fields.{fromBytes, toBytes, written, writtenAt}
@@ -59,11 +59,6 @@ unfolding fromBytes
 fromBytes-lt width [] le h = power-pos width
 fromBytes-lt zero (b ∷ bs) le h = absurd (omega arith)
 fromBytes-lt (suc width) (b ∷ bs) le h = rw pow-suc (omega (arith, h 0, fromBytes-lt width bs (omega arith) (λ i. h (suc i))))
-
--- the lowest byte stands first
-pub fromBytes-first : (bs : List ℕ) (i : ℕ) → i < length bs → fromBytes (drop i bs) ≡ getD bs i 0 + 256 * fromBytes (drop (suc i) bs)
-unfolding fromBytes
-fromBytes-first bs i h = rw (drop-cons bs i 0)
 
 -- ---- bytes written into a buffer
 

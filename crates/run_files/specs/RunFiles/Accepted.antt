@@ -25,7 +25,8 @@ use Rattle.set_orders.specs.Order.{normal}
 use Rattle.tables.specs.Tables.{isEmpty, chosen, chosenCore}
 use Rattle.tables.specs.Tables.Laws as tables
 use Rattle.records.specs.RecordLists.{readList}
-use Rattle.runs.specs.CrashRecords.{CrashRecord, crashed, mostSends, isRound}
+use Rattle.runs.specs.CrashRecords.{CrashRecord, crashed, mostSends}
+use Rattle.drive_sets.specs.Counts.{isRound}
 use Rattle.run_files.specs.RunFiles.{RunFile, crashOf, proposalList, noCrash, crashList, ReadRun, readRecords, untouchedLeft, wholeRun, readBehind, readRunFile}
 use Rattle.run_files.specs.RunFiles.Laws.{Bytes, numbers-read, Passes, next-bounds, AllPass, crashes-read}
 

@@ -19,8 +19,8 @@ use Rattle.records.specs.Marks.{ascii, markText, mark, bodyWidth, isKind, isDue
 use Rattle.records.specs.RecordLists.{ReadList, widthOf, readList}
 use Rattle.records.specs.RecordLists.Laws.{read-keeps}
 use Rattle.records.proofs.Loops.{bytes-take}
-use Rattle.drive_states.specs.State.{isDrive}
-use Rattle.runs.specs.CrashRecords.{CrashRecord, isNext, isRound, mostSends, checkedCrash}
+use Rattle.drive_sets.specs.Counts.{isDrive, isRound}
+use Rattle.runs.specs.CrashRecords.{CrashRecord, isNext, mostSends, checkedCrash}
 use Rattle.run_files.specs.RunFiles.{takenProposal, proposalList, crashFields, CrashList, noCrash, takenCrash, crashList}
 
 -- ---- the numbers

@@ -15,11 +15,11 @@ use Rattle.records.specs.Fields.{fieldAt}
 use Rattle.records.specs.Marks.{bodyWidth}
 use Rattle.records.specs.RecordLists.{ReadList, widthOf, readList}
 use Rattle.records.specs.RecordLists.Prefixes.{field-prefix, list-prefix}
-use Rattle.tables.specs.Tables.{isEmpty, withinCoreLimit, chosenCore}
+use Rattle.tables.specs.Tables.{withinCoreLimit, chosenCore}
 use Rattle.tables.specs.Tables.Laws.{core-given}
 use Rattle.tables.specs.Files.{ReadTable, readListed, accepted, readTable}
 use Rattle.runs.specs.CrashRecords.{CrashRecord, checkedCrash}
-use Rattle.run_files.specs.RunFiles.{RunFile, takenProposal, proposalList, crashFields, CrashList, noCrash, takenCrash, crashList, ReadRun, readRecords, wholeRun, untouchedLeft, readBehind, readRunFile}
+use Rattle.run_files.specs.RunFiles.{RunFile, takenProposal, proposalList, crashFields, CrashList, noCrash, takenCrash, crashList, readRecords, wholeRun, untouchedLeft, readBehind, readRunFile}
 use Rattle.run_files.specs.RunFiles.Laws.{next-bounds, checked-passes}
 use Rattle.simulation.specs.Simulation.{Simulated, simulated}
 use Rattle.run_listing.specs.RunListing.{runText, simulatedWith, simulatedFile, runProgram}

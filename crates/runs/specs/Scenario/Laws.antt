@@ -6,9 +6,9 @@ use native.Mathlib.Omega.{arith}
 use lib.Dec.{ltb, leb·suc-suc}
 use borrow.Author.Tests.{ltb-true, leb-false, lt-leb}
 use Rattle.drive_sets.specs.Bools.{clash}
-use Rattle.drive_sets.specs.Lists.{keep, distinct, ordered}
+use Rattle.drive_sets.specs.Lists.{filter, distinct, ordered}
 use Rattle.drive_sets.specs.Lists.Laws.{ordered-range}
-use Rattle.drive_sets.specs.Lists.Distinct.{distinct-keep, ordered-distinct}
+use Rattle.drive_sets.specs.Lists.Distinct.{distinct-filter, ordered-distinct}
 use Rattle.runs.specs.Scenario.{Crash, stays, crashes, Scenario, frame, goneBefore, goneBy, hasCrash}
 
 -- ---- crashes
@@ -47,5 +47,5 @@ pub frame-distinct : (s : Scenario) → distinct (frame s) ≡ true
 frame-distinct s = ordered-distinct ltb (λ x h. omega (arith, ltb-true x x h)) (frame s) (frame-rising s)
 
 -- no drive stands twice among those of the frame that pass a test
-pub kept-distinct : (s : Scenario) (p : ℕ → Bool) → distinct (keep p (frame s)) ≡ true
-kept-distinct s p = distinct-keep p (frame s) (frame-distinct s)
+pub kept-distinct : (s : Scenario) (p : ℕ → Bool) → distinct (filter p (frame s)) ≡ true
+kept-distinct s p = distinct-filter p (frame s) (frame-distinct s)

@@ -1,11 +1,12 @@
--- Laws of worlds: a call touches the drive that it names alone, a refused one touches none, and lists of calls one after the other.
+-- Laws of worlds: a call touches the drive that it names alone, a refused one touches none; what a call gives a drive, and so what calls keep of it;
+-- lists of calls one after the other, and the calls that name a drive.
 use mathlib.Core.Path.{_≡_, refl, sym, ap, _∙_, subst}
-use mathlib.Core.Bool.{true, false, cond, false≢true}
+use mathlib.Core.Bool.{true, false, cond}
 use mathlib.Core.List.{List, [], _∷_, _++_}
 use Prim.Native.Nat.{ℕ}
 use lib.Dec.{eqb}
 use borrow.Author.Tests.{eqb-true, eq-eqb}
-use Rattle.drive_sets.specs.Bools.{by-test, cond-true, cond-false}
+use Rattle.drive_sets.specs.Bools.{clash, by-test, cond-true, cond-false}
 use Rattle.drive_sets.specs.Refusals.{Outcome, refused, result}
 use Rattle.drive_states.specs.declared.Exchange.{Exchange}
 use Rattle.runs.specs.Protocol.{Protocol}
@@ -42,34 +43,53 @@ module _ (P : Protocol) where
   apply-other w (delivers d bytes) e h = put-other w d _ e h
   apply-other w (closes d) e h = put-other w d _ e h
 
--- ---- refused calls
+-- ---- what a call gives
 
-put-back : (w : World) (d : ℕ) (slot : Slot) → slot ≡ w d → (e : ℕ) → put w d slot e ≡ w e
-put-back w d slot is e = put-cases w d slot (λ x. x ≡ w e) e (λ h. is ∙ ap w (sym h)) refl
+-- c, made on the world w, is not refused and gives drive d the state y
+pub data Gives (P : Protocol) (w : World) (d : ℕ) : Call → Exchange → Type 0 where
+  by-opening : {n : ℕ} {sets : List ℕ} {own number : ℕ} {y : Exchange} → P .opening n sets own number ≡ result y → Gives P w d (opens d n sets own number) y
+  by-message : {x y : Exchange} {bytes : List ℕ} → w d ≡ opened x → P .receiving x bytes ≡ result y → Gives P w d (delivers d bytes) y
+  by-close : {x y : Exchange} → w d ≡ opened x → P .closing x ≡ result y → Gives P w d (closes d) y
 
-pub refused-after : (slot : Slot) (o : Outcome Exchange) → isRefused o ≡ true → afterCall slot o ≡ slot
-unfolding isRefused afterCall
-refused-after slot (refused r) h = refl
-refused-after slot (result x) h = absurd (false≢true h)
+module _ {ℓ} (K : Slot → Type ℓ) where
+  after-call : (slot : Slot) (o : Outcome Exchange) → K slot → ((y : Exchange) → o ≡ result y → K (opened y)) → K (afterCall slot o)
+  unfolding afterCall
+  after-call slot (refused r) same given = same
+  after-call slot (result y) same given = given y refl
+
+  on-state : (call : Exchange → Outcome Exchange) (slot : Slot) → K slot → ((x y : Exchange) → slot ≡ opened x → call x ≡ result y → K (opened y))
+      → K (onState call slot)
+  unfolding onState
+  on-state call unopened same given = same
+  on-state call (opened x) same given = after-call (opened x) (call x) same (λ y e. given x y refl e)
 
 module _ (P : Protocol) where
-  message-refused : (d : ℕ) (bytes : List ℕ) (slot : Slot) → refusedBy P slot (delivers d bytes) ≡ true → onState (λ x. P .receiving x bytes) slot ≡ slot
-  unfolding refusedBy onState
-  message-refused d bytes unopened h = refl
-  message-refused d bytes (opened x) h = refused-after (opened x) (P .receiving x bytes) h
+  -- so what holds of d's state, and of the one that the call gives d, holds after the call
+  pub call-keeps {ℓ} : (K : Slot → Type ℓ) (w : World) (c : Call) (d : ℕ) → K (w d) → ((y : Exchange) → Gives P w d c y → K (opened y)) → K (apply P w c d)
+  unfolding apply
+  call-keeps K w (opens e n sets own number) d same given =
+      put-cases w e _ K d (λ is. after-call K (w e) (P .opening n sets own number) (rw is at same) (λ y q. given y (rw is (by-opening q)))) same
+  call-keeps K w (sends e room start) d same given = same
+  call-keeps K w (delivers e bytes) d same given =
+      put-cases w e _ K d (λ is. on-state K (λ x. P .receiving x bytes) (w e) (rw is at same) (λ x y there q. given y (rw is (by-message there q)))) same
+  call-keeps K w (closes e) d same given =
+      put-cases w e _ K d (λ is. on-state K (P .closing) (w e) (rw is at same) (λ x y there q. given y (rw is (by-close there q)))) same
 
-  close-refused : (d : ℕ) (slot : Slot) → refusedBy P slot (closes d) ≡ true → onState (P .closing) slot ≡ slot
-  unfolding refusedBy onState
-  close-refused d unopened h = refl
-  close-refused d (opened x) h = refused-after (opened x) (P .closing x) h
+  -- what every call keeps, every list of calls keeps
+  pub calls-filter {ℓ} : (K : World → Type ℓ) → ((w : World) (c : Call) → K w → K (apply P w c)) → (w : World) (cs : List Call) → K w → K (applyAll P w cs)
+  unfolding applyAll
+  calls-filter K step w [] h = h
+  calls-filter K step w (c ∷ cs) h = calls-filter K step (apply P w c) cs (step w c h)
+
+  accepted-gives : {w : World} {c : Call} {d : ℕ} {y : Exchange} → Gives P w d c y → refusedIn P w c ≡ false
+  unfolding refusedIn driveOf refusedBy isRefused
+  accepted-gives (by-opening q) = ap isRefused q
+  accepted-gives {d = d} (by-message {bytes = bytes} there q) = ap (λ slot. refusedBy P slot (delivers d bytes)) there ∙ ap isRefused q
+  accepted-gives {d = d} (by-close there q) = ap (λ slot. refusedBy P slot (closes d)) there ∙ ap isRefused q
 
   -- a refused call leaves the world as it was
   pub refused-keeps : (w : World) (c : Call) → refusedIn P w c ≡ true → (e : ℕ) → apply P w c e ≡ w e
-  unfolding apply refusedIn driveOf refusedBy
-  refused-keeps w (opens d n sets own number) h e = put-back w d _ (refused-after (w d) (P .opening n sets own number) h) e
-  refused-keeps w (sends d room start) h e = refl
-  refused-keeps w (delivers d bytes) h e = put-back w d _ (message-refused d bytes (w d) h) e
-  refused-keeps w (closes d) h e = put-back w d _ (close-refused d (w d) h) e
+  refused-keeps w c h e = call-keeps (λ slot. slot ≡ w e) w c e refl (λ y g. absurd (clash h (accepted-gives g)))
 
 -- ---- the calls that name a drive
 

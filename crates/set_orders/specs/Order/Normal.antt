@@ -9,10 +9,10 @@ use lib.Dec.{eqb, leb}
 use lib.ListN.{length}
 use borrow.Author.Tests.{eqb-true, eqb-false, ne-eqb, leb-true, leb-false, le-leb, lt-leb, not-true}
 use Rattle.drive_sets.specs.Bools.{clash, by-test, false-of, true-of, same-test, and-intro, and-left, and-right, or-and-not, cond-true, cond-false}
-use Rattle.drive_sets.specs.Lists.{keep, any, elem, distinct, ordered}
-use Rattle.drive_sets.specs.Lists.Laws.{elem-some, some-elem, any-elem, any-intro, elem-keep, keep-append, keep-same, length-keep, ordered-unique}
-use Rattle.drive_sets.specs.Lists.Takes.{keep-keep}
-use Rattle.drive_sets.specs.Lists.Distinct.{distinct-none, distinct-cons, distinct-keep}
+use Rattle.drive_sets.specs.Lists.{filter, any, elem, distinct, ordered}
+use Rattle.drive_sets.specs.Lists.Laws.{elem-some, some-elem, any-elem, any-intro, elem-filter, filter-append, filter-same, length-filter, ordered-unique}
+use Rattle.drive_sets.specs.Lists.Takes.{filter-filter}
+use Rattle.drive_sets.specs.Lists.Distinct.{distinct-none, distinct-cons, distinct-filter}
 use Rattle.drive_sets.specs.Masks.{subset, size, Below}
 use Rattle.drive_sets.specs.Masks.Laws.{subset-refl, subset-trans}
 use Rattle.drive_sets.specs.Masks.Sizes.{subset-size}
@@ -31,17 +31,17 @@ unfolding dropRepeats elem any
 elem-dropRepeats x [] = refl
 elem-dropRepeats x (s ∷ l) =
     ap (λ (b : Bool). eqb x s || b)
-    (elem-keep (λ t. not (eqb t s)) x (dropRepeats l) ∙ ap (λ (b : Bool). b && not (eqb x s)) (elem-dropRepeats x l))
+    (elem-filter (λ t. not (eqb t s)) x (dropRepeats l) ∙ ap (λ (b : Bool). b && not (eqb x s)) (elem-dropRepeats x l))
     ∙ or-and-not (eqb x s) (elem x l)
 
 pub distinct-dropRepeats : (l : List ℕ) → distinct (dropRepeats l) ≡ true
 unfolding dropRepeats
 distinct-dropRepeats [] = distinct-none
 distinct-dropRepeats (s ∷ l) =
-    distinct-cons s (keep other (dropRepeats l))
-    (false-of (elem s (keep other (dropRepeats l))) (λ h.
-    eqb-false s s (not-true (eqb s s) (and-right (elem s (dropRepeats l)) (other s) (sym (elem-keep other s (dropRepeats l)) ∙ h))) refl))
-    (distinct-keep other (dropRepeats l) (distinct-dropRepeats l))
+    distinct-cons s (filter other (dropRepeats l))
+    (false-of (elem s (filter other (dropRepeats l))) (λ h.
+    eqb-false s s (not-true (eqb s s) (and-right (elem s (dropRepeats l)) (other s) (sym (elem-filter other s (dropRepeats l)) ∙ h))) refl))
+    (distinct-filter other (dropRepeats l) (distinct-dropRepeats l))
   where
     other : ℕ → Bool
     other t = not (eqb t s)
@@ -49,22 +49,22 @@ distinct-dropRepeats (s ∷ l) =
 pub length-dropRepeats : (l : List ℕ) → length (dropRepeats l) ≤ length l
 unfolding dropRepeats
 length-dropRepeats [] = zero-le
-length-dropRepeats (s ∷ l) = omega (arith, length-keep (λ t. not (eqb t s)) (dropRepeats l), length-dropRepeats l)
+length-dropRepeats (s ∷ l) = omega (arith, length-filter (λ t. not (eqb t s)) (dropRepeats l), length-dropRepeats l)
 
 neither : (a b : Bool) → (not b && not a) ≡ not (a || b)
 neither true b = and-false (not b)
 neither false b = and-true (not b)
 
 -- one set more at the end stays where it is not there yet
-pub dropRepeats-last : (l : List ℕ) (x : ℕ) → dropRepeats (l ++ (x ∷ [])) ≡ dropRepeats l ++ keep (λ t. not (elem t l)) (x ∷ [])
-unfolding dropRepeats elem any keep
+pub dropRepeats-last : (l : List ℕ) (x : ℕ) → dropRepeats (l ++ (x ∷ [])) ≡ dropRepeats l ++ filter (λ t. not (elem t l)) (x ∷ [])
+unfolding dropRepeats elem any filter
 dropRepeats-last [] x = refl
 dropRepeats-last (s ∷ l) x =
     ap (λ (r : List ℕ). s ∷ r)
-    (ap (keep other) (dropRepeats-last l x)
-    ∙ (keep-append other (dropRepeats l) (keep new (x ∷ []))
-    ∙ ap (λ (r : List ℕ). keep other (dropRepeats l) ++ r)
-    (keep-keep other new (x ∷ []) ∙ keep-same (λ t. new t && other t) (λ t. not (elem t (s ∷ l))) (x ∷ []) (λ t e. neither (eqb t s) (elem t l)))))
+    (ap (filter other) (dropRepeats-last l x)
+    ∙ (filter-append other (dropRepeats l) (filter new (x ∷ []))
+    ∙ ap (λ (r : List ℕ). filter other (dropRepeats l) ++ r)
+    (filter-filter other new (x ∷ []) ∙ filter-same (λ t. new t && other t) (λ t. not (elem t (s ∷ l))) (x ∷ []) (λ t e. neither (eqb t s) (elem t l)))))
   where
     other : ℕ → Bool
     other t = not (eqb t s)
@@ -91,8 +91,8 @@ another-held sets s h =
 pub elem-normal : (s : ℕ) (sets : List ℕ) → elem s (normal sets) ≡ (elem s sets && not (holdsAnother sets s))
 unfolding normal
 elem-normal s sets =
-    elem-sort byMask s (keep smallest (dropRepeats sets))
-    ∙ (elem-keep smallest s (dropRepeats sets) ∙ ap (λ (b : Bool). b && not (holdsAnother sets s)) (elem-dropRepeats s sets))
+    elem-sort byMask s (filter smallest (dropRepeats sets))
+    ∙ (elem-filter smallest s (dropRepeats sets) ∙ ap (λ (b : Bool). b && not (holdsAnother sets s)) (elem-dropRepeats s sets))
   where
     smallest : ℕ → Bool
     smallest s = not (holdsAnother sets s)
@@ -112,8 +112,8 @@ elem-normal-intro s sets p q = elem-normal s sets ∙ and-intro p (ap not q)
 pub ordered-normal : (sets : List ℕ) → ordered byMask (normal sets) ≡ true
 unfolding normal
 ordered-normal sets =
-    ordered-sort byMask byMask-strict (keep (λ s. not (holdsAnother sets s)) (dropRepeats sets))
-    (distinct-keep (λ s. not (holdsAnother sets s)) (dropRepeats sets) (distinct-dropRepeats sets))
+    ordered-sort byMask byMask-strict (filter (λ s. not (holdsAnother sets s)) (dropRepeats sets))
+    (distinct-filter (λ s. not (holdsAnother sets s)) (dropRepeats sets) (distinct-dropRepeats sets))
 
 pub antichain-normal : (sets : List ℕ) → Antichain (normal sets)
 antichain-normal sets s t p q e =
@@ -125,8 +125,8 @@ unfolding normal
 length-normal sets =
     omega (
       arith,
-      length-sort byMask (keep (λ s. not (holdsAnother sets s)) (dropRepeats sets)),
-      length-keep (λ s. not (holdsAnother sets s)) (dropRepeats sets),
+      length-sort byMask (filter (λ s. not (holdsAnother sets s)) (dropRepeats sets)),
+      length-filter (λ s. not (holdsAnother sets s)) (dropRepeats sets),
       length-dropRepeats sets,
     )
 

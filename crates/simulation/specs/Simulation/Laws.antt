@@ -22,11 +22,12 @@ use Rattle.hitting_sets.specs.Hitting.{hits}
 use Rattle.set_orders.specs.Order.{normal}
 use Rattle.tables.specs.Tables.{chosen, normalTable}
 use Rattle.tables.specs.Tables.Laws.{Accepted, table-accepted}
-use Rattle.drive_states.specs.State.{isDrive, patternLimit}
-use Rattle.drive_states.specs.State.Laws.{drive-bounds}
+use Rattle.drive_sets.specs.Counts.{isDrive, isRound}
+use Rattle.drive_states.specs.State.{patternLimit}
+use Rattle.drive_sets.specs.Counts.Laws.{drive-bounds}
 use Rattle.runs.specs.Scenario.{stays, crashes, Scenario, coreOf}
 use Rattle.runs.specs.Scenario.Laws.{stays-crashes}
-use Rattle.runs.specs.CrashRecords.{CrashRecord, crashed, isNext, isRound, mostSends, checkedCrash, crashIn, scenario}
+use Rattle.runs.specs.CrashRecords.{CrashRecord, crashed, isNext, mostSends, checkedCrash, crashIn, scenario}
 use Rattle.runs.specs.Statement.{Passes, Valid, Untouched}
 use Rattle.agreement.specs.Simulated.{EndsAgreed, SimulatedAgreement}
 use Rattle.agreement.proofs.SimulatedRuns.{simulated-agreement}

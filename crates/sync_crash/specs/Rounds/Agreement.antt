@@ -10,8 +10,8 @@ use native.Mathlib.Omega.{arith}
 use lib.ListN.{length}
 use Rattle.drive_sets.specs.Bools.{and-left}
 use Rattle.drive_sets.specs.Options.{by-option}
-use Rattle.drive_sets.specs.Lists.{range, keep}
-use Rattle.drive_sets.specs.Lists.Counts.{length-keep-lt}
+use Rattle.drive_sets.specs.Lists.{range, filter}
+use Rattle.drive_sets.specs.Lists.Counts.{length-filter-lt}
 use Rattle.sync_crash.specs.Rounds.{Instance, InFrame, Lawful, decision, StaysUp, failures, DecidesIn}
 use Rattle.sync_crash.specs.Rounds.Decisions.{decision-later, decides-once, decision-round}
 use Rattle.sync_crash.specs.Rounds.Validity.{Proposed, decision-proposed}
@@ -48,7 +48,7 @@ module _ {S : Instance} (L : Lawful S) (correct : ℕ → Bool) (stays : (d : �
           (λ o. absurd (omega (arith, undecided-failures L e g (stays e u) pc (stays p pu) correct stays (suc f) o)))
           (λ w m. m ∙ ap some (invariant L pc (stays p pu) (suc f) .1 .agree e g (stays e u (suc f)) m))
 
-  pub failures-below-core : (p : ℕ) → S .core p ≡ true → correct p ≡ true → failures S correct < length (keep (S .core) (range 1 (S .n)))
+  pub failures-below-core : (p : ℕ) → S .core p ≡ true → correct p ≡ true → failures S correct < length (filter (S .core) (range 1 (S .n)))
   failures-below-core p pc pu =
-      length-keep-lt (λ d. S .core d && not (correct d)) (S .core) (range 1 (S .n)) (λ d g t. and-left (S .core d) _ t)
+      length-filter-lt (λ d. S .core d && not (correct d)) (S .core) (range 1 (S .n)) (λ d g t. and-left (S .core d) _ t)
       p (L .in-frame pc) (rw (pc, pu) refl) pc

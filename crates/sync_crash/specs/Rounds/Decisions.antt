@@ -1,4 +1,4 @@
--- How a drive comes to its decision: by an announcement, or by a quiet round; and the round in which it does.
+-- How a drive comes to its decision: by an announcement, or by a stable round; and the round in which it does.
 use mathlib.Core.Path.{_≡_, refl, sym, ap, _∙_, subst, fun-ext}
 use mathlib.Core.Bool.{true, false}
 use mathlib.Core.Logic.{_⊎_, inl, inr}
@@ -13,7 +13,7 @@ use Rattle.drive_sets.specs.Bools.{by-test, cond-true, cond-false}
 use Rattle.drive_sets.specs.Options.{isSome, by-option, none-some, same-some, is-some, some-of}
 use Rattle.drive_sets.specs.Lists.{range}
 use Rattle.drive_sets.specs.Lists.FirstSome.{first-elem, first-none}
-use Rattle.sync_crash.specs.Rounds.{Instance, Lawful, start, smallestOf, announces, announced, quiet, ifQuiet, decides, reaches, after, knows, decision, DecidesIn}
+use Rattle.sync_crash.specs.Rounds.{Instance, Lawful, start, smallestOf, announces, announced, stable, ifStable, decides, reaches, after, knows, decision, DecidesIn}
 use Rattle.sync_crash.specs.Rounds.Steps.{Reaches, Closer, reaches-true, true-reaches, by-close, knows-now, decision-now, decision-stays}
 
 -- v is announced to e in round k + 1; the value of the lowest-numbered announcer counts
@@ -24,11 +24,11 @@ pub record Announcement (S : Instance) (k e v : ℕ) : Type 0 where
   pub made : decision S k from ≡ some v
 
 -- e closes round k + 1 undecided, with no announcement and with heard not empty and as in the round before
-pub record QuietClose (S : Instance) (k e : ℕ) : Type 0 where
+pub record StableClose (S : Instance) (k e : ℕ) : Type 0 where
   pub closer : Closer S k e
   pub undecided : decision S k e ≡ none
   pub unannounced : announced S (after S k) k e ≡ none
-  pub same : quiet S (after S k) k e ≡ true
+  pub same : stable S (after S k) k e ≡ true
 
 module _ {S : Instance} (L : Lawful S) where
   open Instance S using (n)
@@ -70,13 +70,13 @@ module _ {S : Instance} (L : Lawful S) where
     pub reached-decides : {d v : ℕ} → Reaches S k d e → decision S k d ≡ some v → isSome (decision S (suc k) e) ≡ true
     reached-decides r m = is-some (decides-announced (announced-some r m .1))
 
-    pub goes-on : announced S (after S k) k e ≡ none → quiet S (after S k) k e ≡ false → decision S (suc k) e ≡ none
-    unfolding decides orElse ifQuiet
+    pub goes-on : announced S (after S k) k e ≡ none → stable S (after S k) k e ≡ false → decision S (suc k) e ≡ none
+    unfolding decides orElse ifStable
     goes-on h q = decision-now L c ∙ rw (o, h, q) refl
 
-  pub decides-quiet : {k e : ℕ} → QuietClose S k e → decision S (suc k) e ≡ smallestOf S (knows S (suc k) e)
-  unfolding decides orElse ifQuiet
-  decides-quiet q =
+  pub decides-stable : {k e : ℕ} → StableClose S k e → decision S (suc k) e ≡ smallestOf S (knows S (suc k) e)
+  unfolding decides orElse ifStable
+  decides-stable q =
       decision-now L (q .closer)
       ∙ (rw (q .undecided, q .unannounced, q .same) refl ∙ ap (smallestOf S) (fun-ext (λ x. sym (knows-now L (q .closer) x))))
 
@@ -84,14 +84,14 @@ module _ {S : Instance} (L : Lawful S) where
   pub decider-closes : (k e : ℕ) {v : ℕ} → decision S k e ≡ none → decision S (suc k) e ≡ some v → Closer S k e
   decider-closes k e o m = by-close L k e (λ c. c) (λ q. absurd (none-some (ap (λ a. a .decision) q ∙ o) m))
 
-  -- a drive that decides in round k + 1 got an announcement, or was quiet
+  -- a drive that decides in round k + 1 got an announcement, or found the round stable
   pub how-decided : (k e : ℕ) {v : ℕ} → decision S k e ≡ none → decision S (suc k) e ≡ some v
-      → Announcement S k e v ⊎ (QuietClose S k e × (smallestOf S (knows S (suc k) e) ≡ some v))
+      → Announcement S k e v ⊎ (StableClose S k e × (smallestOf S (knows S (suc k) e) ≡ some v))
   how-decided k e o m =
       let c = decider-closes k e o m in
       by-option (announced S (after S k) k e)
-      (λ h. by-test (quiet S (after S k) k e)
-      (λ t. let q : QuietClose S k e = record { closer = c; undecided = o; unannounced = h; same = t } in inr (q, sym (decides-quiet q) ∙ m))
+      (λ h. by-test (stable S (after S k) k e)
+      (λ t. let q : StableClose S k e = record { closer = c; undecided = o; unannounced = h; same = t } in inr (q, sym (decides-stable q) ∙ m))
       (λ t. absurd (none-some (goes-on c o h t) m)))
       (λ w h. inl (announced-by k e (h ∙ ap some (same-some (decides-announced c o h) m))))
 

@@ -10,10 +10,9 @@ use Rattle.drive_sets.specs.Bools.{clash, by-test}
 use Rattle.drive_sets.specs.Options.{by-option, none-some, same-some, is-some, is-none, some-of}
 use Rattle.sync_crash.specs.Rounds.{Instance, InFrame, Lawful, start, smallestOf, after, knows, decision, StaysUp}
 use Rattle.sync_crash.specs.Rounds.Steps.{Closer, undecided-awake, decision-stays}
-use Rattle.sync_crash.specs.Rounds.Decisions.{Announcement, QuietClose, undecided-other, reached-decides, how-decided, decided-stays}
-use Rattle.sync_crash.specs.Rounds.HeardSets.{closer-reaches}
-use Rattle.sync_crash.specs.Rounds.Listeners.{reaches-core}
-use Rattle.sync_crash.specs.Rounds.QuietRounds.{quiet-undecided, listener-knows-same, quiet-knows-same}
+use Rattle.sync_crash.specs.Rounds.Decisions.{Announcement, StableClose, undecided-other, reached-decides, how-decided, decided-stays}
+use Rattle.sync_crash.specs.Rounds.HeardSets.{closer-reaches, reaches-core}
+use Rattle.sync_crash.specs.Rounds.StableRounds.{stable-undecided, listener-knows-same, stable-knows-same}
 use Rattle.sync_crash.specs.Rounds.Invariant.{AllDecided, CoreDecided, NoneHalted, SameKnown, Invariant, SomeDecided, any-decided, agree-stays, core-sends, core-closes, none-halted-next, same-known-next}
 
 module _ {S : Instance} (L : Lawful S) where
@@ -51,10 +50,10 @@ module _ {S : Instance} (L : Lawful S) where
     -- ---- some core drive has decided: it announces
 
     module _ (a : SomeDecided S core k k) where
-      -- nobody is quiet, so whoever decides got an announcement
+      -- nobody finds the round stable, so whoever decides got an announcement
       only-announced : (e : ℕ) {w : ℕ} → decision S k e ≡ none → decision S (suc k) e ≡ some w → Announcement S k e w
       only-announced e o m =
-          ⊎-elim (λ t. t) (λ t. absurd (none-some (quiet-undecided L (t .0) (core-sends L awake (a .is-among) (a .up))) (a .made))) (how-decided L k e o m)
+          ⊎-elim (λ t. t) (λ t. absurd (none-some (stable-undecided L (t .0) (core-sends L awake (a .is-among) (a .up))) (a .made))) (how-decided L k e o m)
 
       announced-next : Invariant S (suc k) v
       announced-next = record {
@@ -73,8 +72,8 @@ module _ {S : Instance} (L : Lawful S) where
     -- ---- no core drive has decided: nobody announces
 
     module _ {p : ℕ} (pc : core p ≡ true) (stays : StaysUp S p) (core-undecided : (d : ℕ) → core d ≡ true → alive k d ≡ true → decision S k d ≡ none) where
-      only-quiet : (e : ℕ) {w : ℕ} → decision S k e ≡ none → decision S (suc k) e ≡ some w → QuietClose S k e × (smallestOf S (knows S (suc k) e) ≡ some w)
-      only-quiet e o m =
+      only-stable : (e : ℕ) {w : ℕ} → decision S k e ≡ none → decision S (suc k) e ≡ some w → StableClose S k e × (smallestOf S (knows S (suc k) e) ≡ some w)
+      only-stable e o m =
           ⊎-elim (λ t. let s = t .reached .sender in absurd (none-some (core-undecided (t .from) (s .in-core) (s .up)) (t .made))) (λ t. t) (how-decided L k e o m)
 
       awake-next : NoneHalted S (suc k)
@@ -89,7 +88,7 @@ module _ {S : Instance} (L : Lawful S) where
           let s = same-known-next L awake same in
           record {
             agree = λ d f u m. by-option (decision S k d)
-                (λ o. let t = only-quiet d o m in
+                (λ o. let t = only-stable d o m in
                 same-some (t .1) (by-test (core d) (λ i. s .value d i u)
                 (λ l. ap (smallestOf S) (listener-knows-same L (t .0) pc p-closes l) ∙ s .value p pc (stays (suc k)))))
                 (λ w q. agree-stays L I d f u q m);
@@ -99,24 +98,24 @@ module _ {S : Instance} (L : Lawful S) where
 
       -- nobody at all has decided
       module _ (all-undecided : (d : ℕ) → InFrame S d → alive k d ≡ true → decision S k d ≡ none) where
-        first-quiet : (d : ℕ) {w : ℕ} → InFrame S d → alive (suc k) d ≡ true → decision S (suc k) d ≡ some w
-            → QuietClose S k d × (smallestOf S (knows S (suc k) d) ≡ some w)
-        first-quiet d f u m = only-quiet d (all-undecided d f (no-return u)) m
+        first-stable : (d : ℕ) {w : ℕ} → InFrame S d → alive (suc k) d ≡ true → decision S (suc k) d ≡ some w
+            → StableClose S k d × (smallestOf S (knows S (suc k) d) ≡ some w)
+        first-stable d f u m = only-stable d (all-undecided d f (no-return u)) m
 
         -- e is one of those that decide
         first-next : (e : ℕ) {w : ℕ} → InFrame S e → alive (suc k) e ≡ true → decision S (suc k) e ≡ some w → Invariant S (suc k) w
         first-next e f u m =
-            let r = first-quiet e f u m in
+            let r = first-stable e f u m in
             record {
-              agree = λ d g b q. let t = first-quiet d g b q in
-                  same-some (t .1) (ap (smallestOf S) (quiet-knows-same L pc p-closes (t .0) (r .0)) ∙ r .1);
+              agree = λ d g b q. let t = first-stable d g b q in
+                  same-some (t .1) (ap (smallestOf S) (stable-knows-same L pc p-closes (t .0) (r .0)) ∙ r .1);
               phase = inr awake-next;
-              lock = λ d g l b q. let t = first-quiet d g b q in
+              lock = λ d g l b q. let t = first-stable d g b q in
                   let known-to : (x : ℕ) → core x ≡ true → alive (suc k) x ≡ true → knows S (suc k) x ≡ knows S (suc k) d =
                   λ x i ux. sym (listener-knows-same L (t .0) i (core-closes L awake i ux) l) in
                   inr (record {
                     equal = λ x y i ux j uy. known-to x i ux ∙ sym (known-to y j uy);
-                    value = λ x i ux. ap (smallestOf S) (known-to x i ux ∙ quiet-knows-same L pc p-closes (t .0) (r .0)) ∙ r .1;
+                    value = λ x i ux. ap (smallestOf S) (known-to x i ux ∙ stable-knows-same L pc p-closes (t .0) (r .0)) ∙ r .1;
                   });
             }
 
@@ -134,8 +133,8 @@ module _ {S : Instance} (L : Lawful S) where
             ))
             (any-decided L (λ d. true) (suc k) (suc k))
 
-      quiet-next : (w : ℕ) × Invariant S (suc k) w
-      quiet-next =
+      stable-next : (w : ℕ) × Invariant S (suc k) w
+      stable-next =
           ⊎-elim
           (λ b. (
             v,
@@ -154,7 +153,7 @@ module _ {S : Instance} (L : Lawful S) where
         (λ all. (v, all-decided-next I all))
         (λ awake. ⊎-elim
         (λ a. (v, announced-next awake I a))
-        (λ core-undecided. quiet-next awake I pc stays (λ d i u. core-undecided d (in-frame i) i u))
+        (λ core-undecided. stable-next awake I pc stays (λ d i u. core-undecided d (in-frame i) i u))
         (any-decided L core k k))
         (I .phase)
 

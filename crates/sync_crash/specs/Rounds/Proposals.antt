@@ -6,10 +6,10 @@ use mathlib.Core.Option.{Option, none, orElse}
 use Prim.Native.Nat.{ℕ, zero, suc}
 use Rattle.drive_sets.specs.Bools.{and-right, or-cases, _⊆_}
 use Rattle.drive_sets.specs.Options.{isSome}
-use Rattle.drive_sets.specs.Lists.{range, keep, elem}
-use Rattle.drive_sets.specs.Lists.Laws.{elem-keep, any-elem}
+use Rattle.drive_sets.specs.Lists.{range, filter, elem}
+use Rattle.drive_sets.specs.Lists.Laws.{elem-filter, any-elem}
 use Rattle.drive_sets.specs.Lists.Smallest.{smallest-same}
-use Rattle.sync_crash.specs.Rounds.{Instance, Lawful, View, start, smallestOf, sends, reaches, adds, known, announces, announced, heard, unchanged, quiet, ifQuiet, decides, halts, closes, closed, step, after}
+use Rattle.sync_crash.specs.Rounds.{Instance, Lawful, View, start, smallestOf, sends, reaches, adds, known, announces, announced, heard, unchanged, stable, ifStable, decides, halts, closes, closed, step, after}
 use Rattle.sync_crash.specs.Rounds.Validity.{knows-core}
 
 module _ {S : Instance} (L : Lawful S) (other : ℕ → ℕ) (same : (d : ℕ) → S .core d ≡ true → S .proposal d ≡ other d) where
@@ -27,12 +27,12 @@ module _ {S : Instance} (L : Lawful S) (other : ℕ → ℕ) (same : (d : ℕ) �
       knows-core L k (w .0) x (and-right (not (isSome (after S k (w .0) .decision))) _ (and-right (reaches S (after S k) k (w .0) e) _ (w .2))))
       (or-cases (after S k e .knows x) _ t)
 
-  choice-same : (k e : ℕ) → ifQuiet S (after S k) k e ≡ ifQuiet proposing (after S k) k e
-  unfolding ifQuiet smallestOf known adds reaches sends quiet heard unchanged
+  choice-same : (k e : ℕ) → ifStable S (after S k) k e ≡ ifStable proposing (after S k) k e
+  unfolding ifStable smallestOf known adds reaches sends stable heard unchanged
   choice-same k e =
-      ap (λ (o : Option ℕ). cond (quiet S (after S k) k e) o none)
-      (smallest-same proposal other (keep (known S (after S k) k e) (range 1 n)) _ (λ x. refl)
-      (λ x t. same x (known-core k e x (and-right (elem x (range 1 n)) _ (sym (elem-keep _ x (range 1 n)) ∙ t)))))
+      ap (λ (o : Option ℕ). cond (stable S (after S k) k e) o none)
+      (smallest-same proposal other (filter (known S (after S k) k e) (range 1 n)) _ (λ x. refl)
+      (λ x t. same x (known-core k e x (and-right (elem x (range 1 n)) _ (sym (elem-filter _ x (range 1 n)) ∙ t)))))
 
   step-same : (k e : ℕ) → step S (after S k) k e ≡ step proposing (after S k) k e
   unfolding step closed decides halts announced announces known adds reaches sends heard closes

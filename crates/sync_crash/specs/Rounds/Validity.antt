@@ -7,8 +7,8 @@ use Prim.Native.Nat.{ℕ, zero, suc}
 use borrow.Author.Tests.{eqb-true, eq-eqb}
 use Rattle.drive_sets.specs.Bools.{and-intro, and-left, and-right, _⊆_}
 use Rattle.drive_sets.specs.Options.{by-option, none-some, same-some}
-use Rattle.drive_sets.specs.Lists.{range, keep, elem}
-use Rattle.drive_sets.specs.Lists.Laws.{elem-keep}
+use Rattle.drive_sets.specs.Lists.{range, filter, elem}
+use Rattle.drive_sets.specs.Lists.Laws.{elem-filter}
 use Rattle.drive_sets.specs.Lists.Smallest.{smallest-some, smallest-elem}
 use Rattle.sync_crash.specs.Rounds.{Instance, InFrame, Lawful, start, smallestOf, after, knows, decision}
 use Rattle.sync_crash.specs.Rounds.Steps.{by-close, decision-stays, knows-stays, learnt}
@@ -27,13 +27,13 @@ module _ {S : Instance} (L : Lawful S) where
 
   pub smallestOf-some : (p : ℕ → Bool) (x : ℕ) → InFrame S x → p x ≡ true → (v : ℕ) × (smallestOf S p ≡ some v)
   unfolding smallestOf
-  smallestOf-some p x f t = smallest-some proposal (keep p (range 1 n)) x (elem-keep p x (range 1 n) ∙ and-intro f t)
+  smallestOf-some p x f t = smallest-some proposal (filter p (range 1 n)) x (elem-filter p x (range 1 n) ∙ and-intro f t)
 
   pub smallestOf-member : (p : ℕ → Bool) {v : ℕ} → smallestOf S p ≡ some v → (x : ℕ) × (p x ≡ true) × (v ≡ proposal x)
   unfolding smallestOf
   smallestOf-member p h =
-      let w = smallest-elem proposal (keep p (range 1 n)) h in
-      (w .0, and-right (elem (w .0) (range 1 n)) _ (sym (elem-keep p (w .0) (range 1 n)) ∙ w .1), w .2)
+      let w = smallest-elem proposal (filter p (range 1 n)) h in
+      (w .0, and-right (elem (w .0) (range 1 n)) _ (sym (elem-filter p (w .0) (range 1 n)) ∙ w .1), w .2)
 
   -- ---- what is known
 

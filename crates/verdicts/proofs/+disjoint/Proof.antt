@@ -43,25 +43,15 @@ K t = (
   nothing-reads.Learnt,
 )
 
-disjoint-returns : (t : ℕ) → disjoint-lts.Need-returns (K t) (disjoint-at t) disjoint.Post disjoint-Inv-loop disjoint-μ-loop
-disjoint-returns t c = let a = c .before .before .before .args in pair-is (a .table .now) (a .k) (a .from) (a .shared) _ (c .before .if1 .taken) (c .first-pair .ensures)
-
-disjoint-loop-holds : (t : ℕ) → disjoint-lts.Need-loop-holds (K t) (disjoint-at t) disjoint.Post disjoint-Inv-loop disjoint-μ-loop
-disjoint-loop-holds t c = scan-from _ _ _ (c .before .before .pre .1 .1)
-
-disjoint-returns-2 : (t : ℕ) → disjoint-lts.Need-returns-2 (K t) (disjoint-at t) disjoint.Post disjoint-Inv-loop disjoint-μ-loop
-unfolding common
-disjoint-returns-2 t c = let a = c .before .before .before .before .before .before .before .before .args in found-more (a .k) (a .k - 1) (a .table .now) (a .from) (a .shared) (c .before .before .before .before .before .loop .i) (omega arith) (c .before .before .before .before .before .loop .inv) (c .before .before .disjoint .result) (c .before .before .before .before .loop-test .taken) (c .before .before .disjoint .ensures) (c .before .if2 .taken)
-
-disjoint-loop-again : (t : ℕ) → disjoint-lts.Need-loop-again (K t) (disjoint-at t) disjoint.Post disjoint-Inv-loop disjoint-μ-loop
-unfolding common
-disjoint-loop-again t c = let a = c .before .before .before .before .before .before .before .args in found-later (a .k) (a .k - 1) (a .table .now) (a .from) (a .shared) (c .before .before .before .before .loop .i) (omega arith) (c .before .before .before .before .loop .inv) (c .before .disjoint .result) (c .before .before .before .loop-test .taken) (c .before .disjoint .ensures) (c .if2 .left)
-
-disjoint-returns-3 : (t : ℕ) → disjoint-lts.Need-returns-3 (K t) (disjoint-at t) disjoint.Post disjoint-Inv-loop disjoint-μ-loop
-disjoint-returns-3 t c = let a = c .before .before .before .before .before .args in c .nothing .ensures ∙ found-end (a .k) (a .k - 1) (a .table .now) (a .from) (a .shared) (c .before .before .loop .i) (omega arith) (c .before .before .loop .inv) (c .before .loop-test .left)
-
 pub +disjoint-spec : {M : Type 1} → statement M
+unfolding common
 +disjoint-spec = close μ-disjoint λ t. disjoint-lts.spec (K t) (disjoint-at t) disjoint.Post disjoint-Inv-loop disjoint-μ-loop
-    (λ c κs. search needs) (disjoint-returns t) (disjoint-loop-holds t) (λ c. search needs) (λ c. search needs) (λ c. search needs)
-    (λ c κs. search needs) (λ c. search needs) (λ c. search needs) (λ c. search needs) (λ c. search needs) (λ c. search needs) (disjoint-returns-2 t)
-    (λ c. search needs) (λ c. search needs) (disjoint-loop-again t) (λ c κs. search needs) (disjoint-returns-3 t)
+    (λ c κs. search needs)
+    (λ c. let a = c .before .before .before .args in pair-is (a .table .now) (a .k) (a .from) (a .shared) _ (c .before .if1 .taken) (c .first-pair .ensures))
+    (λ c. scan-from _ _ _ (c .before .before .pre .1 .1)) (λ c. search needs) (λ c. search needs) (λ c. search needs) (λ c κs. search needs)
+    (λ c. search needs) (λ c. search needs) (λ c. search needs) (λ c. search needs) (λ c. search needs)
+    (λ c. let a = c .before .before .before .before .before .before .before .before .args in found-more (a .k) (a .k - 1) (a .table .now) (a .from) (a .shared) (c .before .before .before .before .before .loop .i) (omega arith) (c .before .before .before .before .before .loop .inv) (c .before .before .disjoint .result) (c .before .before .before .before .loop-test .taken) (c .before .before .disjoint .ensures) (c .before .if2 .taken))
+    (λ c. search needs) (λ c. search needs)
+    (λ c. let a = c .before .before .before .before .before .before .before .args in found-later (a .k) (a .k - 1) (a .table .now) (a .from) (a .shared) (c .before .before .before .before .loop .i) (omega arith) (c .before .before .before .before .loop .inv) (c .before .disjoint .result) (c .before .before .before .loop-test .taken) (c .before .disjoint .ensures) (c .if2 .left))
+    (λ c κs. search needs)
+    (λ c. let a = c .before .before .before .before .before .args in c .nothing .ensures ∙ found-end (a .k) (a .k - 1) (a .table .now) (a .from) (a .shared) (c .before .before .loop .i) (omega arith) (c .before .before .loop .inv) (c .before .loop-test .left))

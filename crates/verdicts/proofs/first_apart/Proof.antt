@@ -14,22 +14,12 @@ Inv-loop table from shared i₀ i = Searching 1 table from shared i
 abbrev μ-loop : tie.MeasureT-loop
 μ-loop table from shared i₀ i = length table - i
 
-loop-holds : tie.Need-loop-holds Inv-loop μ-loop
-loop-holds c = scan-from _ _ _ (c .pre)
-
-returns : tie.Need-returns Inv-loop μ-loop
-unfolding common
-returns c = (search needs, apart-found _ _ _ _ (c .before .before .before .loop .inv) (c .before .before .loop-test .taken) (c .if1 .taken))
-
-loop-again : tie.Need-loop-again Inv-loop μ-loop
-unfolding common
-loop-again c = apart-turn _ _ _ _ (c .before .before .before .loop .inv) (c .before .before .loop-test .taken) (c .if1 .left)
-
-returns-2 : tie.Need-returns-2 Inv-loop μ-loop
-returns-2 c = (search needs, apart-end _ _ _ _ (c .before .loop .inv) (c .loop-test .left))
-
 pub first-apart-spec : {M : Type 1} → statement M
+unfolding common
 first-apart-spec =
     tie.close
     (tie.spec
-    Inv-loop μ-loop loop-holds (λ c. search needs) (λ c. search needs) returns (λ c. search needs) (λ c. search needs) loop-again returns-2)
+    Inv-loop μ-loop (λ c. scan-from _ _ _ (c .pre)) (λ c. search needs) (λ c. search needs)
+    (λ c. (search needs, apart-found _ _ _ _ (c .before .before .before .loop .inv) (c .before .before .loop-test .taken) (c .if1 .taken))) (λ c. search needs) (λ c. search needs)
+    (λ c. apart-turn _ _ _ _ (c .before .before .before .loop .inv) (c .before .before .loop-test .taken) (c .if1 .left))
+    (λ c. (search needs, apart-end _ _ _ _ (c .before .loop .inv) (c .loop-test .left))))

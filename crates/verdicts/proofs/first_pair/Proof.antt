@@ -15,23 +15,13 @@ Inv-loop table from shared i₀ i = Searching 2 table from shared i
 abbrev μ-loop : tie.MeasureT-loop
 μ-loop table from shared i₀ i = length table - i
 
-loop-holds : tie.Need-loop-holds Inv-loop μ-loop
-loop-holds c = scan-from _ _ _ (c .before .pre .0)
-
-returns : tie.Need-returns Inv-loop μ-loop
-unfolding common
-returns c = pair-found _ _ _ _ (c .before .before .before .before .loop .inv) _ (c .before .before .before .loop-test .taken) (c .before .first-apart .ensures .1) (c .if1 .taken)
-
-loop-again : tie.Need-loop-again Inv-loop μ-loop
-unfolding common
-loop-again c = pair-later _ _ _ _ (c .before .before .before .before .loop .inv) _ (c .before .before .before .loop-test .taken) (c .before .first-apart .ensures .1) (c .if1 .left)
-
-returns-2 : tie.Need-returns-2 Inv-loop μ-loop
-returns-2 c = c .nothing .ensures ∙ pair-end _ _ _ _ (c .before .before .loop .inv) (c .before .loop-test .left)
-
 pub first-pair-spec : {M : Type 1} → statement M
+unfolding common
 first-pair-spec =
     tie.close
     (tie.spec
-    Inv-loop μ-loop loop-holds (λ c. search needs) (λ c. search needs) (λ c κs. search needs) (λ c. search needs) (λ c. search needs)
-    (λ c. search needs) (λ c. search needs) returns (λ c. search needs) (λ c. search needs) loop-again (λ c κs. search needs) returns-2)
+    Inv-loop μ-loop (λ c. scan-from _ _ _ (c .before .pre .0)) (λ c. search needs) (λ c. search needs) (λ c κs. search needs) (λ c. search needs)
+    (λ c. search needs) (λ c. search needs) (λ c. search needs)
+    (λ c. pair-found _ _ _ _ (c .before .before .before .before .loop .inv) _ (c .before .before .before .loop-test .taken) (c .before .first-apart .ensures .1) (c .if1 .taken)) (λ c. search needs) (λ c. search needs)
+    (λ c. pair-later _ _ _ _ (c .before .before .before .before .loop .inv) _ (c .before .before .before .loop-test .taken) (c .before .first-apart .ensures .1) (c .if1 .left)) (λ c κs. search needs)
+    (λ c. c .nothing .ensures ∙ pair-end _ _ _ _ (c .before .before .loop .inv) (c .before .loop-test .left)))

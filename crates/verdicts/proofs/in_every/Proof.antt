@@ -15,17 +15,10 @@ Inv-loop table shared common₀ i₀ common i = Scan (inEvery shared table) (inE
 abbrev μ-loop : tie.MeasureT-loop
 μ-loop table shared common₀ i₀ common i = length table - i
 
-loop-holds : tie.Need-loop-holds Inv-loop μ-loop
-loop-holds c = scan-start _ _
-
-loop-again : tie.Need-loop-again Inv-loop μ-loop
-unfolding common inEvery
-loop-again c = scan-turn (c .before .before .loop .inv) (c .before .loop-test .taken) _ refl
-
-returns : tie.Need-returns Inv-loop μ-loop
-unfolding inEvery
-returns c = scan-end (c .before .loop .inv) (c .loop-test .left)
-
 pub in-every-spec : {M : Type 1} → statement M
+unfolding common inEvery
 in-every-spec =
-    tie.close (tie.spec Inv-loop μ-loop loop-holds (λ c. search needs) (λ c. search needs) (λ c. search needs) (λ c. search needs) loop-again returns)
+    tie.close
+    (tie.spec
+    Inv-loop μ-loop (λ c. scan-start _ _) (λ c. search needs) (λ c. search needs) (λ c. search needs) (λ c. search needs)
+    (λ c. scan-turn (c .before .before .loop .inv) (c .before .loop-test .taken) _ refl) (λ c. scan-end (c .before .loop .inv) (c .loop-test .left)))

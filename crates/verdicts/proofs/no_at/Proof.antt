@@ -20,40 +20,15 @@ Inv-loop k n table positions blocks₀ taken₀ i₀ blocks taken i = Splitting 
 abbrev μ-loop : tie.MeasureT-loop
 μ-loop k n table positions blocks₀ taken₀ i₀ blocks taken i = k - i
 
-loop-holds : tie.Need-loop-holds Inv-loop μ-loop
-loop-holds c = filling-start _ _
-
-sub-place : tie.Need-sub-place Inv-loop μ-loop
-sub-place c = let a = c .before .before .before .args in position-within (a .table .now) (a .t4) (a .k) (omega arith) (c .before .loop .i) (c .loop-test .taken) (c .before .before .before .pre .2) .0
-
-mul-outside : tie.Need-mul-outside Inv-loop μ-loop
-mul-outside c = let a = c .before .before .before .args in omega (arith, position-within (a .table .now) (a .t4) (a .k) (omega arith) (c .before .loop .i) (c .loop-test .taken) (c .before .before .before .pre .2) .1)
-
-shared-slice-read-outside : tie.Need-shared-slice-read-outside Inv-loop μ-loop
-shared-slice-read-outside c = let a = c .before .before .before .before .args in omega (arith, position-within (a .table .now) (a .t4) (a .k) (omega arith) (c .before .before .loop .i) (c .before .loop-test .taken) (c .before .before .before .before .pre .2))
-
-loop-again : tie.Need-loop-again Inv-loop μ-loop
-unfolding union
-loop-again c =
-    let a = c .before .before .before .before .before .args in
-    let l = c .before .before .before .loop in
-    let h = c .before .before .loop-test .taken in
-    let named = setsAt (a .table .now) (take (a .k) (a .t4)) in
-    let count = count-named (a .table .now) (a .t4) (a .k) (omega arith) in
-    splitting-turn _ named _ _ _ (omega arith) (l .inv) (omega arith) _
-    (c .outside .ensures ∙ ap (λ (s : ℕ). outside (a .n) (union s (l .taken))) (sym (is-named (a .table .now) (a .t4) (a .k) (omega arith) (l .i) h)))
-
-returns : tie.Need-returns Inv-loop μ-loop
-unfolding withBlocks
-returns c =
-    let a = c .before .before .before .args in
-    ap (λ (l : List ℕ). record { shared = false; positions = a .t4; blocks = l })
-    (let count = count-named (a .table .now) (a .t4) (a .k) (omega arith) in
-    splitting-end _ (setsAt (a .table .now) (take (a .k) (a .t4))) _ _ _ (omega arith) (c .before .loop .inv) (omega arith))
-
 pub no-at-spec : {M : Type 1} → statement M
+unfolding union withBlocks
 no-at-spec =
     tie.close
     (tie.spec
-    Inv-loop μ-loop loop-holds (λ c. search needs) (λ c. search needs) sub-place mul-outside shared-slice-read-outside (λ c κs. search needs)
-    (λ c. search needs) (λ c. search needs) (λ c. search needs) (λ c. search needs) loop-again returns)
+    Inv-loop μ-loop (λ c. filling-start _ _) (λ c. search needs) (λ c. search needs)
+    (λ c. let a = c .before .before .before .args in position-within (a .table .now) (a .t4) (a .k) (omega arith) (c .before .loop .i) (c .loop-test .taken) (c .before .before .before .pre .2) .0)
+    (λ c. let a = c .before .before .before .args in omega (arith, position-within (a .table .now) (a .t4) (a .k) (omega arith) (c .before .loop .i) (c .loop-test .taken) (c .before .before .before .pre .2) .1))
+    (λ c. let a = c .before .before .before .before .args in omega (arith, position-within (a .table .now) (a .t4) (a .k) (omega arith) (c .before .before .loop .i) (c .before .loop-test .taken) (c .before .before .before .before .pre .2)))
+    (λ c κs. search needs) (λ c. search needs) (λ c. search needs) (λ c. search needs) (λ c. search needs)
+    (λ c. let a = c .before .before .before .before .before .args in let l = c .before .before .before .loop in let h = c .before .before .loop-test .taken in let named = setsAt (a .table .now) (take (a .k) (a .t4)) in let count = count-named (a .table .now) (a .t4) (a .k) (omega arith) in splitting-turn _ named _ _ _ (omega arith) (l .inv) (omega arith) _ (c .outside .ensures ∙ ap (λ (s : ℕ). outside (a .n) (union s (l .taken))) (sym (is-named (a .table .now) (a .t4) (a .k) (omega arith) (l .i) h))))
+    (λ c. let a = c .before .before .before .args in ap (λ (l : List ℕ). record { shared = false; positions = a .t4; blocks = l }) (let count = count-named (a .table .now) (a .t4) (a .k) (omega arith) in splitting-end _ (setsAt (a .table .now) (take (a .k) (a .t4))) _ _ _ (omega arith) (c .before .loop .inv) (omega arith))))

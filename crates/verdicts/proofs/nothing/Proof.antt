@@ -4,9 +4,6 @@ use Rattle.verdicts.specs.Held.{foundIn, inFour}
 use Rattle.verdicts.proofs.nothing.Statement.{statement}
 use Rattle.verdicts.proofs.nothing.Tie as tie
 
-returns : tie.Need-returns
-unfolding foundIn inFour
-returns c = refl
-
 pub nothing-spec : {M : Type 1} → statement M
-nothing-spec = tie.close (tie.spec returns)
+unfolding foundIn inFour
+nothing-spec = tie.close (tie.spec (λ c. refl))

@@ -17,7 +17,7 @@ use Rattle.drive_sets.specs.Lists.Laws.{elem-head, elem-tail, elem-cases, elem-
 use Rattle.drive_sets.specs.Lists.Places.{without-one}
 use Rattle.drive_sets.specs.Masks.{has, common}
 use Rattle.drive_sets.specs.Masks.Laws.{has-common, has-some, common-lt}
-use Rattle.verdicts.specs.Verdicts.{orElse, firstWith, disjoint}
+use Rattle.verdicts.specs.Verdicts.{withPosition, firstWith, disjoint}
 use Rattle.verdicts.specs.Meaning.{AllFrom}
 
 -- a drive of m that each of the sets has
@@ -42,11 +42,11 @@ shared-fewer m s l w = (w .0, has-common (w .0) m s ∙ and-intro (w .1) (w .2 s
 module _ (f : ℕ → List ℕ → ℕ → Option (List ℕ)) (p s m : ℕ) (sets : List ℕ) where
   pub first-here : {ps : List ℕ} → f p (s ∷ sets) (common m s) ≡ some ps → firstWith f p (s ∷ sets) m ≡ some (p ∷ ps)
   unfolding firstWith
-  first-here e = ap (λ (o : Option (List ℕ)). orElse p o (firstWith f (suc p) sets m)) e
+  first-here e = ap (λ (o : Option (List ℕ)). withPosition p o (firstWith f (suc p) sets m)) e
 
   pub first-later : f p (s ∷ sets) (common m s) ≡ none → firstWith f p (s ∷ sets) m ≡ firstWith f (suc p) sets m
   unfolding firstWith
-  first-later e = ap (λ (o : Option (List ℕ)). orElse p o (firstWith f (suc p) sets m)) e
+  first-later e = ap (λ (o : Option (List ℕ)). withPosition p o (firstWith f (suc p) sets m)) e
 
 -- ---- where it finds none, every k of the sets share a drive
 

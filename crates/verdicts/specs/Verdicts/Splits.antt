@@ -10,8 +10,8 @@ use lib.Dec.{eqb}
 use lib.ListN.{length, getD}
 use borrow.Author.Tests.{eqb-true, eq-eqb}
 use Rattle.drive_sets.specs.Bools.{by-test, clash, same-test, and-left, or-cases, cond-true, cond-false}
-use Rattle.drive_sets.specs.Lists.{range, keep, any, elem}
-use Rattle.drive_sets.specs.Lists.Laws.{elem-keep, elem-range, range-elem}
+use Rattle.drive_sets.specs.Lists.{range, filter, any, elem}
+use Rattle.drive_sets.specs.Lists.Laws.{elem-filter, elem-range, range-elem}
 use Rattle.drive_sets.specs.Lists.Places.{range-image}
 use Rattle.drive_sets.specs.Masks.{has, full}
 use Rattle.drive_sets.specs.Masks.Laws.{has-bounds, has-ext, full-has, full-lt}
@@ -26,20 +26,20 @@ module _ (n : ℕ) (frame : n ≤ 64) where
       (λ h. let b = has-bounds n d (full n) (full-lt n) h in range-elem d 1 n (b .0) (omega arith))
 
   module _ (block : ℕ → ℕ) (j : ℕ) where
-    kept-bounds : (d : ℕ) → elem d (keep (λ x. eqb (block x) j) (range 1 n)) ≡ true → (1 ≤ d) × (d ≤ n)
+    kept-bounds : (d : ℕ) → elem d (filter (λ x. eqb (block x) j) (range 1 n)) ≡ true → (1 ≤ d) × (d ≤ n)
     kept-bounds d h =
-        let b = elem-range d 1 n (and-left (elem d (range 1 n)) (eqb (block d) j) (sym (elem-keep (λ x. eqb (block x) j) d (range 1 n)) ∙ h)) in
+        let b = elem-range d 1 n (and-left (elem d (range 1 n)) (eqb (block d) j) (sym (elem-filter (λ x. eqb (block x) j) d (range 1 n)) ∙ h)) in
         (b .0, omega arith)
 
     pub blockOf-lt : blockOf n block j < 2 ^ n
     unfolding blockOf
-    blockOf-lt = ofDrives-lt n (keep (λ x. eqb (block x) j) (range 1 n)) (λ d h. kept-bounds d h .1)
+    blockOf-lt = ofDrives-lt n (filter (λ x. eqb (block x) j) (range 1 n)) (λ d h. kept-bounds d h .1)
 
     pub has-blockOf : (d : ℕ) → has d (blockOf n block j) ≡ (has d (full n) && eqb (block d) j)
     unfolding blockOf
     has-blockOf d =
-        has-ofDrives d (keep (λ x. eqb (block x) j) (range 1 n)) (λ x h. let b = kept-bounds x h in (b .0, omega arith))
-        ∙ (elem-keep (λ x. eqb (block x) j) d (range 1 n) ∙ ap (λ (b : Bool). b && eqb (block d) j) (range-full d))
+        has-ofDrives d (filter (λ x. eqb (block x) j) (range 1 n)) (λ x h. let b = kept-bounds x h in (b .0, omega arith))
+        ∙ (elem-filter (λ x. eqb (block x) j) d (range 1 n) ∙ ap (λ (b : Bool). b && eqb (block d) j) (range-full d))
 
 -- ---- a list of blocks
 

@@ -1,12 +1,16 @@
 -- The parts that a message changes.
-use Rattle.exchange.proofs.Receives.{accepted}
+use Rattle.drive_sets.specs.Masks.{union}
+use Rattle.drive_states.specs.Messages.{messageOf}
+use Rattle.drive_states.specs.Messages.Laws.{entries-mask}
+use Rattle.agreement.specs.Calls.{accept}
 use borrow.Author.Needs.{needs}
 use Rattle.exchange.proofs.receiving.accept.Statement.{statement}
 use Rattle.exchange.proofs.receiving.accept.Tie as tie
 
-returns : tie.Need-returns
-returns c = let a = c .before .before .before .before .before .before .before .before .before .before .args in accepted (a .kind) (a .s .now) _ (c .before .before .before .before .before .mask-in .ensures) (a .x) _ _ _ _ (c .before .before .before .sender-of .ensures) (c .before .before .insert .ensures) (c .before .before .before .before .stored .ensures) (c .before .announcing .ensures)
-
 pub accept-spec : {M : Type 1} → statement M
+unfolding accept messageOf union
 accept-spec =
-    tie.close (tie.spec (λ c κs. search needs) (λ c κs. search needs) (λ c κs. search needs) (λ c κs. search needs) (λ c κs. search needs) returns)
+    tie.close
+    (tie.spec
+    (λ c κs. search needs) (λ c κs. search needs) (λ c κs. search needs) (λ c κs. search needs) (λ c κs. search needs)
+    (λ c. rw (entries-mask, ← c .before .before .before .before .before .mask-in .ensures, ← c .before .announcing .ensures, ← c .before .before .before .before .stored .ensures, ← c .before .before .before .sender-of .ensures, ← c .before .before .insert .ensures)))

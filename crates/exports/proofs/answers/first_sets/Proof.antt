@@ -4,14 +4,10 @@ use borrow.Author.Needs.{needs}
 use Rattle.exports.proofs.answers.first_sets.Statement.{statement}
 use Rattle.exports.proofs.answers.first_sets.Tie as tie
 
-returns : tie.Need-returns
-returns c = all-first (c .before .before .args .sets .now) (c .before .before .args .count) (c .before .if1 .taken)
-
-returns-2 : tie.Need-returns-2
-returns-2 c = some-first (c .before .before .args .sets .now) (c .before .before .args .count)
-
 pub first-sets-spec : {M : Type 1} → statement M
 first-sets-spec =
     tie.close
     (tie.spec
-    (λ c. search needs) (λ c. search needs) (λ c. search needs) returns (λ c. search needs) (λ c. search needs) (λ c. search needs) returns-2)
+    (λ c. search needs) (λ c. search needs) (λ c. search needs)
+    (λ c. all-first (c .before .before .args .sets .now) (c .before .before .args .count) (c .before .if1 .taken)) (λ c. search needs)
+    (λ c. search needs) (λ c. search needs) (λ c. some-first (c .before .before .args .sets .now) (c .before .before .args .count)))

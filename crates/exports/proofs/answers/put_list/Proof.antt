@@ -4,16 +4,11 @@ use borrow.Author.Needs.{needs}
 use Rattle.exports.proofs.answers.put_list.Statement.{statement}
 use Rattle.exports.proofs.answers.put_list.Tie as tie
 
-returns : tie.Need-returns
-returns c =
-    let a = c .before .before .before .before .before .args in
-    list-full (a .out .now) _ _ (c .before .before .first-sets .ensures) (c .before .if1 .taken) _ (c .refusal-code .ensures)
-
-returns-2 : tie.Need-returns-2
-returns-2 c =
-    let a = c .before .before .before .before .before .before .before .before .args in
-    list-put (a .out .now) _ _ (c .before .before .before .before .before .first-sets .ensures) (c .before .before .before .before .if1 .left) _ (c .before .before .copy .ensures)
-
 pub put-list-spec : {M : Type 1} → statement M
 put-list-spec =
-    tie.close (tie.spec (λ c κs. search needs) (λ c κs. search needs) returns (λ c κs. search needs) (λ c. search needs) returns-2)
+    tie.close
+    (tie.spec
+    (λ c κs. search needs) (λ c κs. search needs)
+    (λ c. let a = c .before .before .before .before .before .args in list-full (a .out .now) _ _ (c .before .before .first-sets .ensures) (c .before .if1 .taken) _ (c .refusal-code .ensures))
+    (λ c κs. search needs) (λ c. search needs)
+    (λ c. let a = c .before .before .before .before .before .before .before .before .args in list-put (a .out .now) _ _ (c .before .before .before .before .before .first-sets .ensures) (c .before .before .before .before .if1 .left) _ (c .before .before .copy .ensures)))

@@ -14,27 +14,11 @@ Inv-loop times state₀ accepted₀ i₀ state accepted i = Closing times state�
 abbrev μ-loop : tie.MeasureT-loop
 μ-loop times state₀ accepted₀ i₀ state accepted i = times - i
 
-loop-holds : tie.Need-loop-holds Inv-loop μ-loop
-loop-holds c = calling-start closing stateAfter (c .args .times) (c .args .x)
-
-add-accepted : tie.Need-add-accepted Inv-loop μ-loop
-add-accepted c = omega (arith, c .before .before .before .before .loop .inv .bound, c .accepted-by .ensures .1)
-
-loop-again : tie.Need-loop-again Inv-loop μ-loop
-loop-again c =
-    let a = c .before .before .before .before .before .args in
-    let l = c .before .before .before .before .loop in
-    let one = c .accepted-by .ensures in
-    closing-turn (a .times) (a .x) (l .i) (l .accepted) (l .state) (l .inv) (c .before .before .before .loop-test .taken) _ (c .before .before .close .ensures) _ (one .0) (one .1)
-
-returns : tie.Need-returns Inv-loop μ-loop
-returns c =
-    let a = c .before .before .args in
-    let l = c .before .loop in
-    closing-end (a .times) (a .x) (l .i) (l .accepted) (l .state) (l .inv) (c .loop-test .left)
-
 pub close-all-spec : {M : Type 1} → statement M
 close-all-spec =
     tie.close
     (tie.spec
-    Inv-loop μ-loop loop-holds (λ c κs. search needs) (λ c κs. search needs) add-accepted (λ c. search needs) (λ c. search needs) loop-again returns)
+    Inv-loop μ-loop (λ c. calling-start closing stateAfter (c .args .times) (c .args .x)) (λ c κs. search needs) (λ c κs. search needs)
+    (λ c. omega (arith, c .before .before .before .before .loop .inv .bound, c .accepted-by .ensures .1)) (λ c. search needs) (λ c. search needs)
+    (λ c. let a = c .before .before .before .before .before .args in let l = c .before .before .before .before .loop in let one = c .accepted-by .ensures in closing-turn (a .times) (a .x) (l .i) (l .accepted) (l .state) (l .inv) (c .before .before .before .loop-test .taken) _ (c .before .before .close .ensures) _ (one .0) (one .1))
+    (λ c. let a = c .before .before .args in let l = c .before .loop in closing-end (a .times) (a .x) (l .i) (l .accepted) (l .state) (l .inv) (c .loop-test .left)))

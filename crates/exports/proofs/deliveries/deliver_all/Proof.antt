@@ -16,31 +16,14 @@ Inv-loop messages count size state₀ accepted₀ at₀ i₀ state accepted at i
 abbrev μ-loop : tie.MeasureT-loop
 μ-loop messages count size state₀ accepted₀ at₀ i₀ state accepted at i = count - i
 
-loop-holds : tie.Need-loop-holds Inv-loop μ-loop
-loop-holds c = let a = c .before .args in (omega arith, calling-start (hand (a .size)) (handedOn (a .size)) (a .count) (a .x, a .messages .now))
-
-add-accepted : tie.Need-add-accepted Inv-loop μ-loop
-add-accepted c = omega (arith, c .before .before .before .before .before .before .loop .inv .1 .bound, c .accepted-by .ensures .1)
-
-loop-again : tie.Need-loop-again Inv-loop μ-loop
-loop-again c =
-    let a = c .before .before .before .before .before .before .before .before .before .args in
-    let l = c .before .before .before .before .before .before .before .loop in
-    let one = c .before .accepted-by .ensures in (
-      c .further .ensures .0,
-      handing-turn (a .size) (a .count) (a .messages .now) (a .x) (l .i) (l .accepted) (l .at) (l .state) (l .inv .1) (c .before .before .before .before .before .before .loop-test .taken) _
-          (c .before .before .before .before .first-bytes .ensures ∙ ap (take (a .size)) (rest-is (a .messages .now) (l .at))) _ (c .before .before .before .message .ensures) _ (one .0) (one .1) _ (c .further .ensures .1),
-    )
-
-returns : tie.Need-returns Inv-loop μ-loop
-returns c =
-    let a = c .before .before .before .args in
-    let l = c .before .loop in
-    handing-end (a .size) (a .count) (a .messages .now) (a .x) (l .i) (l .accepted) (l .at) (l .state) (l .inv .1) (c .loop-test .left)
-
 pub deliver-all-spec : {M : Type 1} → statement M
 deliver-all-spec =
     tie.close
     (tie.spec
-    Inv-loop μ-loop loop-holds (λ c. search needs) (λ c. search needs) (λ c. search needs) (λ c κs. search needs) (λ c κs. search needs)
-    (λ c κs. search needs) add-accepted (λ c κs. search needs) (λ c. search needs) (λ c. search needs) loop-again returns)
+    Inv-loop μ-loop
+    (λ c. let a = c .before .args in (omega arith, calling-start (hand (a .size)) (handedOn (a .size)) (a .count) (a .x, a .messages .now)))
+    (λ c. search needs) (λ c. search needs) (λ c. search needs) (λ c κs. search needs) (λ c κs. search needs) (λ c κs. search needs)
+    (λ c. omega (arith, c .before .before .before .before .before .before .loop .inv .1 .bound, c .accepted-by .ensures .1)) (λ c κs. search needs)
+    (λ c. search needs) (λ c. search needs)
+    (λ c. let a = c .before .before .before .before .before .before .before .before .before .args in let l = c .before .before .before .before .before .before .before .loop in let one = c .before .accepted-by .ensures in (c .further .ensures .0, handing-turn (a .size) (a .count) (a .messages .now) (a .x) (l .i) (l .accepted) (l .at) (l .state) (l .inv .1) (c .before .before .before .before .before .before .loop-test .taken) _ (c .before .before .before .before .first-bytes .ensures ∙ ap (take (a .size)) (rest-is (a .messages .now) (l .at))) _ (c .before .before .before .message .ensures) _ (one .0) (one .1) _ (c .further .ensures .1)))
+    (λ c. let a = c .before .before .before .args in let l = c .before .loop in handing-end (a .size) (a .count) (a .messages .now) (a .x) (l .i) (l .accepted) (l .at) (l .state) (l .inv .1) (c .loop-test .left)))

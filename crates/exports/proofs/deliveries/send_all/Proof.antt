@@ -15,28 +15,15 @@ Inv-loop x out₀ start times accepted₀ i₀ out accepted i = (length out ≡ 
 abbrev μ-loop : tie.MeasureT-loop
 μ-loop x out₀ start times accepted₀ i₀ out accepted i = times - i
 
-loop-holds : tie.Need-loop-holds Inv-loop μ-loop
-loop-holds c = let a = c .before .args in (refl, calling-start (sendInto (a .x) (a .start)) (sentInto (a .start)) (a .times) (a .out .now))
-
-add-accepted : tie.Need-add-accepted Inv-loop μ-loop
-add-accepted c = omega (arith, c .before .before .before .before .before .before .loop .inv .1 .bound, c .written-by .ensures .1)
-
-loop-again : tie.Need-loop-again Inv-loop μ-loop
-loop-again c =
-    let a = c .before .before .before .before .before .before .before .before .args in
-    let l = c .before .before .before .before .before .before .loop in
-    let one = c .written-by .ensures in
-    (search needs, sending-turn (a .times) (a .x) (a .start) (a .out .now) (l .i) (l .accepted) (l .out) _ (l .inv .1) (c .before .before .before .before .before .loop-test .taken) _ (c .before .before .before .send .ensures) _ (one .0) (one .1))
-
-returns : tie.Need-returns Inv-loop μ-loop
-returns c =
-    let a = c .before .before .before .args in
-    let l = c .before .loop in
-    sending-end (a .times) (a .x) (a .start) (a .out .now) (l .i) (l .accepted) (l .out) (l .inv .1) (c .loop-test .left)
-
 pub send-all-spec : {M : Type 1} → statement M
 send-all-spec =
     tie.close
     (tie.spec
-    Inv-loop μ-loop loop-holds (λ c κs. search needs) (λ c κs. search needs) add-accepted (λ c. search needs) (λ c. search needs) loop-again
-    (λ c. search needs) returns)
+    Inv-loop μ-loop
+    (λ c. let a = c .before .args in (refl, calling-start (sendInto (a .x) (a .start)) (sentInto (a .start)) (a .times) (a .out .now)))
+    (λ c κs. search needs) (λ c κs. search needs)
+    (λ c. omega (arith, c .before .before .before .before .before .before .loop .inv .1 .bound, c .written-by .ensures .1)) (λ c. search needs)
+    (λ c. search needs)
+    (λ c. let a = c .before .before .before .before .before .before .before .before .args in let l = c .before .before .before .before .before .before .loop in let one = c .written-by .ensures in (search needs, sending-turn (a .times) (a .x) (a .start) (a .out .now) (l .i) (l .accepted) (l .out) _ (l .inv .1) (c .before .before .before .before .before .loop-test .taken) _ (c .before .before .before .send .ensures) _ (one .0) (one .1)))
+    (λ c. search needs)
+    (λ c. let a = c .before .before .before .args in let l = c .before .loop in sending-end (a .times) (a .x) (a .start) (a .out .now) (l .i) (l .accepted) (l .out) (l .inv .1) (c .loop-test .left)))

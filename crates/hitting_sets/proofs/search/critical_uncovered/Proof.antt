@@ -10,20 +10,20 @@ use Rattle.hitting_sets.proofs.OneMore.{critical-more, critical-skip, c
 use Rattle.hitting_sets.specs.LookAhead.{covered}
 use Rattle.hitting_sets.specs.Hitting.{critical}
 use Rattle.drive_sets.specs.Masks.{common, union}
-use Rattle.drive_sets.specs.Lists.{keep}
+use Rattle.drive_sets.specs.Lists.{filter}
 use mathlib.Core.Bool.{not}
 use mathlib.Core.Path.{refl, sym, ap, _∙_}
 use Rattle.hitting_sets.proofs.search.critical_uncovered.Statement.{statement}
 use Rattle.hitting_sets.proofs.search.critical_uncovered.Tie as tie
 
 abbrev Inv-loop : tie.InvT-loop
-Inv-loop sets ahead m bar i₀ found₀ i found = Back (λ l. critical (keep (λ s. not (covered ahead m bar s)) l) m) sets i found
+Inv-loop sets ahead m bar i₀ found₀ i found = Back (λ l. critical (filter (λ s. not (covered ahead m bar s)) l) m) sets i found
 
 abbrev μ-loop : tie.MeasureT-loop
 μ-loop sets ahead m bar i₀ found₀ i found = i
 
 loop-holds : tie.Need-loop-holds Inv-loop μ-loop
-unfolding critical keep
+unfolding critical filter
 loop-holds c = back-start _ _ _ refl
 
 loop-again : tie.Need-loop-again Inv-loop μ-loop

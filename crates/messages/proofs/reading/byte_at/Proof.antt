@@ -5,11 +5,10 @@ use borrow.Author.Needs.{needs}
 use Rattle.messages.proofs.reading.byte_at.Statement.{statement}
 use Rattle.messages.proofs.reading.byte_at.Tie as tie
 
-cast-result : tie.Need-cast-result
-cast-result c = let s = c .before .before in omega (arith, field-lt (s .args .s .now) (s .args .at) 1 (λ i. c .before .shared-slice-known .given i .fits), c .field .ensures)
-
-returns : tie.Need-returns
-returns c = c .field .ensures
-
 pub byte-at-spec : {M : Type 1} → statement M
-byte-at-spec = tie.close (tie.spec (λ c κs. search needs) cast-result returns)
+byte-at-spec =
+    tie.close
+    (tie.spec
+    (λ c κs. search needs)
+    (λ c. let s = c .before .before in omega (arith, field-lt (s .args .s .now) (s .args .at) 1 (λ i. c .before .shared-slice-known .given i .fits), c .field .ensures))
+    (λ c. c .field .ensures))

@@ -4,9 +4,6 @@ use borrow.Author.Needs.{needs}
 use Rattle.messages.proofs.reading.mask_of.Statement.{statement}
 use Rattle.messages.proofs.reading.mask_of.Tie as tie
 
-returns : tie.Need-returns
-unfolding maskOf
-returns c = c .field .ensures
-
 pub mask-of-spec : {M : Type 1} → statement M
-mask-of-spec = tie.close (tie.spec (λ c κs. search needs) returns)
+unfolding maskOf
+mask-of-spec = tie.close (tie.spec (λ c κs. search needs) (λ c. c .field .ensures))

@@ -5,11 +5,10 @@ use borrow.Author.Needs.{needs}
 use Rattle.messages.proofs.reading.number_in.Statement.{statement}
 use Rattle.messages.proofs.reading.number_in.Tie as tie
 
-cast-t4 : tie.Need-cast-t4
-cast-t4 c = let s = c .before .before in omega (arith, field-lt (s .args .s .now) (s .args .at) 2 (λ i. c .before .shared-slice-known .given i .fits), c .field .ensures)
-
-returns : tie.Need-returns
-returns c = c .field .ensures
-
 pub number-in-spec : {M : Type 1} → statement M
-number-in-spec = tie.close (tie.spec (λ c κs. search needs) cast-t4 returns)
+number-in-spec =
+    tie.close
+    (tie.spec
+    (λ c κs. search needs)
+    (λ c. let s = c .before .before in omega (arith, field-lt (s .args .s .now) (s .args .at) 2 (λ i. c .before .shared-slice-known .given i .fits), c .field .ensures))
+    (λ c. c .field .ensures))

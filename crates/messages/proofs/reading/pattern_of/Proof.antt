@@ -4,9 +4,6 @@ use borrow.Author.Needs.{needs}
 use Rattle.messages.proofs.reading.pattern_of.Statement.{statement}
 use Rattle.messages.proofs.reading.pattern_of.Tie as tie
 
-returns : tie.Need-returns
-unfolding patternOf
-returns c = c .number-in .ensures
-
 pub pattern-of-spec : {M : Type 1} → statement M
-pattern-of-spec = tie.close (tie.spec (λ c κs. search needs) returns)
+unfolding patternOf
+pattern-of-spec = tie.close (tie.spec (λ c κs. search needs) (λ c. c .number-in .ensures))

@@ -4,9 +4,6 @@ use borrow.Author.Needs.{needs}
 use Rattle.messages.proofs.reading.round_of.Statement.{statement}
 use Rattle.messages.proofs.reading.round_of.Tie as tie
 
-returns : tie.Need-returns
-unfolding roundOf
-returns c = c .byte-at .ensures
-
 pub round-of-spec : {M : Type 1} → statement M
-round-of-spec = tie.close (tie.spec (λ c κs. search needs) returns)
+unfolding roundOf
+round-of-spec = tie.close (tie.spec (λ c κs. search needs) (λ c. c .byte-at .ensures))

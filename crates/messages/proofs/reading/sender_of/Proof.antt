@@ -4,9 +4,6 @@ use borrow.Author.Needs.{needs}
 use Rattle.messages.proofs.reading.sender_of.Statement.{statement}
 use Rattle.messages.proofs.reading.sender_of.Tie as tie
 
-returns : tie.Need-returns
-unfolding senderOf
-returns c = c .byte-at .ensures
-
 pub sender-of-spec : {M : Type 1} → statement M
-sender-of-spec = tie.close (tie.spec (λ c κs. search needs) returns)
+unfolding senderOf
+sender-of-spec = tie.close (tie.spec (λ c κs. search needs) (λ c. c .byte-at .ensures))

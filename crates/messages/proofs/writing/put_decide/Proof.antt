@@ -7,16 +7,11 @@ use borrow.Author.Needs.{needs}
 use Rattle.messages.proofs.writing.put_decide.Statement.{statement}
 use Rattle.messages.proofs.writing.put_decide.Tie as tie
 
-returns : tie.Need-returns
-returns c = let a = c .before .before .args in decide-none (a .sender .0) (a .round .0) (a .pattern .0) (a .part .now) (c .if1 .taken)
-
-returns-2 : tie.Need-returns-2
-unfolding mark markText ascii fromBytes
-returns-2 c = let a = c .before .before .before .before .before .before .before .before .before .before .before .args in decide-written (a .sender .0) (a .round .0) (a .pattern .0) (a .part .now) _ _ _ refl (c .before .before .before .before .before .before .before .before .before .if1 .left) (c .before .before .before .before .before .before .before .put-start .ensures) (c .before .before .put-field .ensures)
-
 pub put-decide-spec : {M : Type 1} → statement M
+unfolding mark markText ascii fromBytes
 put-decide-spec =
     tie.close
     (tie.spec
-    returns (λ c κs. search needs) (λ c. search needs) (λ c. search needs) (λ c. search needs) (λ c. search needs) (λ c κs. search needs)
-    (λ c. search needs) returns-2)
+    (λ c. let a = c .before .before .args in decide-none (a .sender .0) (a .round .0) (a .pattern .0) (a .part .now) (c .if1 .taken))
+    (λ c κs. search needs) (λ c. search needs) (λ c. search needs) (λ c. search needs) (λ c. search needs) (λ c κs. search needs) (λ c. search needs)
+    (λ c. let a = c .before .before .before .before .before .before .before .before .before .before .before .args in decide-written (a .sender .0) (a .round .0) (a .pattern .0) (a .part .now) _ _ _ refl (c .before .before .before .before .before .before .before .before .before .if1 .left) (c .before .before .before .before .before .before .before .put-start .ensures) (c .before .before .put-field .ensures)))

@@ -8,19 +8,13 @@ use Rattle.drive_states.specs.State.{numberIn}
 use Rattle.messages.proofs.writing.put_known.Statement.{statement}
 use Rattle.messages.proofs.writing.put_known.Tie as tie
 
-returns : tie.Need-returns
-returns c = let a = c .before .before .before .args in known-none (a .sender .0) (a .round .0) (a .mask) (numberIn (a .numbers)) (a .part .now) _ (c .before .size .ensures) (c .if1 .taken)
-
-returns-2 : tie.Need-returns-2
-unfolding mark markText ascii fromBytes
-returns-2 c =
-    let a = c .before .before .before .before .before .before .before .before .before .before .before .before .before .before .before .args in
-    known-written (a .sender .0) (a .round .0) (a .mask) (numberIn (a .numbers)) (a .part .now) _ _ _ _ _ _ refl (c .before .before .before .before .before .before .before .before .before .before .before .before .before .size .ensures) (c .before .before .before .before .before .before .before .before .before .before .before .before .if1 .left) (c .before .before .before .before .before .before .before .before .before .before .put-start .ensures) (c .before .before .before .before .before .before .put-field .ensures) refl (c .before .before .put-numbers .ensures)
-
 pub put-known-spec : {M : Type 1} → statement M
+unfolding mark markText ascii fromBytes
 put-known-spec =
     tie.close
     (tie.spec
-    (λ c κs. search needs) (λ c. search needs) (λ c. search needs) (λ c. search needs) returns (λ c κs. search needs) (λ c. search needs)
-    (λ c. search needs) (λ c. search needs) (λ c κs. search needs) (λ c. search needs) (λ c. search needs) (λ c. search needs) (λ c κs. search needs)
-    (λ c. search needs) returns-2)
+    (λ c κs. search needs) (λ c. search needs) (λ c. search needs) (λ c. search needs)
+    (λ c. let a = c .before .before .before .args in known-none (a .sender .0) (a .round .0) (a .mask) (numberIn (a .numbers)) (a .part .now) _ (c .before .size .ensures) (c .if1 .taken))
+    (λ c κs. search needs) (λ c. search needs) (λ c. search needs) (λ c. search needs) (λ c κs. search needs) (λ c. search needs) (λ c. search needs)
+    (λ c. search needs) (λ c κs. search needs) (λ c. search needs)
+    (λ c. let a = c .before .before .before .before .before .before .before .before .before .before .before .before .before .before .before .args in known-written (a .sender .0) (a .round .0) (a .mask) (numberIn (a .numbers)) (a .part .now) _ _ _ _ _ _ refl (c .before .before .before .before .before .before .before .before .before .before .before .before .before .size .ensures) (c .before .before .before .before .before .before .before .before .before .before .before .before .if1 .left) (c .before .before .before .before .before .before .before .before .before .before .put-start .ensures) (c .before .before .before .before .before .before .put-field .ensures) refl (c .before .before .put-numbers .ensures)))

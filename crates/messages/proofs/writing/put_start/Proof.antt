@@ -4,15 +4,10 @@ use borrow.Author.Needs.{needs}
 use Rattle.messages.proofs.writing.put_start.Statement.{statement}
 use Rattle.messages.proofs.writing.put_start.Tie as tie
 
-returns : tie.Need-returns
-returns c = let a = c .before .before .args in start-none (a .m) (a .sender .0) (a .round .0) (a .part .now) (c .if1 .taken)
-
-returns-2 : tie.Need-returns-2
-returns-2 c = let a = c .before .before .before .before .before .before .before .before .before .before .before .before .args in start-written (a .m) (a .sender .0) (a .round .0) (a .part .now) _ _ (c .before .before .before .before .before .before .before .before .before .before .if1 .left) (c .before .before .before .before .before .before .before .put-record .ensures) (c .before .before .put-field .ensures)
-
 pub put-start-spec : {M : Type 1} → statement M
 put-start-spec =
     tie.close
     (tie.spec
-    returns (λ c. search needs) (λ c κs. search needs) (λ c. search needs) (λ c. search needs) (λ c. search needs) (λ c. search needs)
-    (λ c κs. search needs) (λ c. search needs) returns-2)
+    (λ c. let a = c .before .before .args in start-none (a .m) (a .sender .0) (a .round .0) (a .part .now) (c .if1 .taken)) (λ c. search needs)
+    (λ c κs. search needs) (λ c. search needs) (λ c. search needs) (λ c. search needs) (λ c. search needs) (λ c κs. search needs) (λ c. search needs)
+    (λ c. let a = c .before .before .before .before .before .before .before .before .before .before .before .before .args in start-written (a .m) (a .sender .0) (a .round .0) (a .part .now) _ _ (c .before .before .before .before .before .before .before .before .before .before .if1 .left) (c .before .before .before .before .before .before .before .put-record .ensures) (c .before .before .put-field .ensures)))

@@ -1,45 +1,20 @@
 -- The records refused, bytes behind the end, every survivor set touched, or the file.
-use mathlib.Core.Path.{_∙_}
 use Prim.Native.Nat.{_^_, _<_}
-use Rattle.run_files.specs.Reading.{runFileOutcome}
-use Rattle.run_files.proofs.Finishes.{refused-outcome, behind-refused, behind-trailing, none-untouched, some-untouched}
+use Rattle.tables.proofs.Completes.{rest-none, rest-some}
+use Rattle.run_files.specs.RunFiles.{untouchedLeft, wholeRun, readBehind}
+use Rattle.run_files.specs.Reading.{recordsOutcome, runFileOutcome}
+use Rattle.run_files.specs.Reading.Laws.{crashed-in}
 use borrow.Author.Needs.{needs}
 use Rattle.run_files.proofs.reading.read_behind.Statement.{statement}
 use Rattle.run_files.proofs.reading.read_behind.Tie as tie
 
-returns : tie.Need-returns
-returns c =
-    let a = c .before .before .before .before .before .before .before .before .before .args in
-    let r = c .before .before .before .before .before .before .read-records in
-    refused-outcome _ _ (c .refused-file2 .ensures) (a .n)
-    ∙ behind-trailing (a .n) (a .core) (a .sets .now) (a .s .now) (r .result) (r .ensures .0) (c .before .before .enum-told .given .1) (c .before .if1 .taken)
-
-returns-2 : tie.Need-returns-2
-returns-2 c =
-    let a = c .before .before .before .before .before .before .before .before .before .before .before .args in
-    let r = c .before .before .before .before .before .before .before .before .read-records in
-    let word : r .result .crashes .crashed < 2 ^ 64 = search needs in
-    refused-outcome _ _ (c .refused-file3 .ensures) (a .n)
-    ∙ none-untouched (a .n) (a .core) (a .sets .now) (a .s .now) (r .result) (r .ensures .0) (c .before .before .before .before .enum-told .given .1) (c .before .before .before .if1 .left) word _ (c .before .before .meets-all .ensures) (c .before .if2 .taken)
-
-returns-3 : tie.Need-returns-3
-returns-3 c =
-    let a = c .before .before .before .before .before .before .before .before .before .args in
-    let r = c .before .before .before .before .before .before .read-records in
-    refused-outcome _ _ (c .refused-file .ensures) (a .n)
-    ∙ behind-refused (a .n) (a .core) (a .sets .now) (a .s .now) (r .result) (r .ensures .0) _ (c .before .before .answer .given .1)
-
-returns-4 : tie.Need-returns-4
-unfolding runFileOutcome
-returns-4 c =
-    let a = c .before .before .before .before .before .before .before .before .before .before .args in
-    let r = c .before .before .before .before .before .before .before .read-records in
-    let word : r .result .crashes .crashed < 2 ^ 64 = search needs in
-    some-untouched (a .n) (a .core) (a .sets .now) (a .s .now) (r .result) (r .ensures .0) (c .before .before .before .enum-told .given .1) (c .before .before .if1 .left) word _ (c .before .meets-all .ensures) (c .if2 .left)
-
 pub read-behind-spec : {M : Type 1} → statement M
+unfolding runFileOutcome recordsOutcome readBehind wholeRun untouchedLeft
 read-behind-spec =
     tie.close
     (tie.spec
-    (λ c κs. search needs) (λ c. search needs) (λ c κs. search needs) (λ c. search needs) (λ c κs. search needs) returns (λ c κs. search needs)
-    (λ c κs. search needs) returns-2 returns-3 returns-4)
+    (λ c κs. search needs) (λ c. search needs) (λ c κs. search needs) (λ c. search needs) (λ c κs. search needs)
+    (λ c. rw (c .refused-file2 .ensures, ← c .before .before .before .before .before .before .read-records .ensures .0, c .before .before .enum-told .given .1, rest-some _ _ (c .before .if1 .taken))) (λ c κs. search needs) (λ c κs. search needs)
+    (λ c. let r = c .before .before .before .before .before .before .before .before .read-records in let word : r .result .crashes .crashed < 2 ^ 64 = search needs in rw (c .refused-file3 .ensures, ← r .ensures .0, c .before .before .before .before .enum-told .given .1, rest-none _ _ (c .before .before .before .if1 .left), crashed-in (r .result .crashes) word, ← c .before .before .meets-all .ensures, c .before .if2 .taken))
+    (λ c. rw (c .refused-file .ensures, ← c .before .before .before .before .before .before .read-records .ensures .0, c .before .before .answer .given .1))
+    (λ c. let r = c .before .before .before .before .before .before .before .read-records in let word : r .result .crashes .crashed < 2 ^ 64 = search needs in rw (← r .ensures .0, c .before .before .before .enum-told .given .1, rest-none _ _ (c .before .before .if1 .left), crashed-in (r .result .crashes) word, ← c .before .meets-all .ensures, c .if2 .left)))

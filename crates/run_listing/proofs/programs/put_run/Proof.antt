@@ -14,21 +14,17 @@ use borrow.Author.Needs.{needs}
 use Rattle.run_listing.proofs.programs.put_run.Statement.{statement}
 use Rattle.run_listing.proofs.programs.put_run.Tie as tie
 
-put-behind-requires : tie.Need-put-behind-requires
-unfolding readComplete
-put-behind-requires c κs = (table-read (c .before .before .before .before .before .before .before .before .args .input .now) _ (table-read-is (c .before .before .before .before .before .read-table .result) (c .before .before .before .before .before .before .before .before .args .input .now) (readTable (c .before .before .before .before .before .before .before .before .args .input .now)) (c .before .before .before .before .before .read-table .ensures .0) (c .before .before .enum-told .given .1)) .1 .high, c .before .before .before .before .before .read-table .ensures .1 .complete .sets)
-
-returns : tie.Need-returns
-unfolding runProgram simulatedFile readComplete
-returns c = filled-same (ap textBehind (table-read-is (c .before .before .before .before .before .before .before .before .read-table .result) (c .before .before .before .before .before .before .before .before .before .before .before .args .input .now) (readTable (c .before .before .before .before .before .before .before .before .before .before .before .args .input .now)) (c .before .before .before .before .before .before .before .before .read-table .ensures .0) (c .before .before .before .before .before .answer .given .1))) (c .before .before .put-refused .ensures)
-
 returns-2 : tie.Need-returns-2
 unfolding runProgram simulatedFile readComplete
 returns-2 c = let t = c .before .before .before .before .before .before .before .before .read-table .result .complete .table in filled-same (ap textBehind (table-read-is (c .before .before .before .before .before .before .before .before .read-table .result) (c .before .before .before .before .before .before .before .before .before .before .before .args .input .now) (readTable (c .before .before .before .before .before .before .before .before .before .before .before .args .input .now)) (c .before .before .before .before .before .before .before .before .read-table .ensures .0) (c .before .before .before .before .before .enum-told .given .1)) ∙ ap (λ (l : List ℕ). runText (simulatedWith (t .n) (setsOf t) l)) (sym (c .before .before .before .rest .ensures))) (c .before .before .put-behind .ensures)
 
 pub put-run-spec : {M : Type 1} → statement M
+unfolding readComplete runProgram simulatedFile
 put-run-spec =
     tie.close
     (tie.spec
-    (λ c κs. search needs) (λ c. search needs) (λ c κs. search needs) (λ c. search needs) (λ c κs. search needs) put-behind-requires
-    (λ c. search needs) returns (λ c. search needs) returns-2)
+    (λ c κs. search needs) (λ c. search needs) (λ c κs. search needs) (λ c. search needs) (λ c κs. search needs)
+    (λ c κs. (table-read (c .before .before .before .before .before .before .before .before .args .input .now) _ (table-read-is (c .before .before .before .before .before .read-table .result) (c .before .before .before .before .before .before .before .before .args .input .now) (readTable (c .before .before .before .before .before .before .before .before .args .input .now)) (c .before .before .before .before .before .read-table .ensures .0) (c .before .before .enum-told .given .1)) .1 .high, c .before .before .before .before .before .read-table .ensures .1 .complete .sets))
+    (λ c. search needs)
+    (λ c. filled-same (ap textBehind (table-read-is (c .before .before .before .before .before .before .before .before .read-table .result) (c .before .before .before .before .before .before .before .before .before .before .before .args .input .now) (readTable (c .before .before .before .before .before .before .before .before .before .before .before .args .input .now)) (c .before .before .before .before .before .before .before .before .read-table .ensures .0) (c .before .before .before .before .before .answer .given .1))) (c .before .before .put-refused .ensures))
+    (λ c. search needs) returns-2)

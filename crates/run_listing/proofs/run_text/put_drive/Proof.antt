@@ -12,13 +12,11 @@ use borrow.Author.Needs.{needs}
 use Rattle.run_listing.proofs.run_text.put_drive.Statement.{statement}
 use Rattle.run_listing.proofs.run_text.put_drive.Tie as tie
 
-returns : tie.Need-returns
-unfolding driveLine ascii endingAt
-returns c = let a = c .before .before .before .before .before .before .before .before .before .before .before .before .before .before .before .before .before .before .args in filled-both (search needs) (c .before .before .before .before .before .before .before .before .before .before .before .before .put-named .ensures) (filled-both (search needs) (filled-same (ap (λ (b : Bool). endingText (endingFor b (roundAt (a .t5) (a .d .0)) (numberAt (a .t6) (a .d .0)))) (sym (c .before .before .before .before .before .before .before .before .has .ensures))) (c .before .before .before .before .before .before .before .put-ending .ensures)) (c .before .before .put-all .ensures))
-
 pub put-drive-spec : {M : Type 1} → statement M
+unfolding driveLine ascii endingAt
 put-drive-spec =
     tie.close
     (tie.spec
     (λ c. search needs) (λ c. search needs) (λ c. search needs) (λ c. search needs) (λ c. search needs) (λ c. search needs) (λ c. search needs)
-    (λ c κs. search needs) (λ c κs. search needs) (λ c κs. search needs) (λ c. search needs) (λ c κs. search needs) (λ c. search needs) returns)
+    (λ c κs. search needs) (λ c κs. search needs) (λ c κs. search needs) (λ c. search needs) (λ c κs. search needs) (λ c. search needs)
+    (λ c. let a = c .before .before .before .before .before .before .before .before .before .before .before .before .before .before .before .before .before .before .args in filled-both (search needs) (c .before .before .before .before .before .before .before .before .before .before .before .before .put-named .ensures) (filled-both (search needs) (filled-same (ap (λ (b : Bool). endingText (endingFor b (roundAt (a .t5) (a .d .0)) (numberAt (a .t6) (a .d .0)))) (sym (c .before .before .before .before .before .before .before .before .has .ensures))) (c .before .before .before .before .before .before .before .put-ending .ensures)) (c .before .before .put-all .ensures))))

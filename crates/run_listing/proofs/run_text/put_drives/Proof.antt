@@ -6,7 +6,7 @@ use Rattle.drive_sets.specs.Lists.Places.{length-range}
 use Rattle.text.proofs.Puts.{Putting, putting-start, putting-turn, putting-end}
 use Rattle.run_listing.specs.RunListing.{driveLine}
 use Rattle.run_listing.specs.RunParts.{endingAt, driveLines}
-use Rattle.run_listing.proofs.RunTexts.{drive-at}
+use Rattle.run_listing.proofs.RunPrograms.{drive-at}
 use borrow.Author.Needs.{needs}
 use Rattle.run_listing.proofs.run_text.put_drives.Statement.{statement}
 use Rattle.run_listing.proofs.run_text.put_drives.Tie as tie
@@ -17,21 +17,11 @@ Inv-loop buf₀ n crashed rounds numbers at₀ i₀ buf at i = Putting (λ d. dr
 abbrev μ-loop : tie.MeasureT-loop
 μ-loop buf₀ n crashed rounds numbers at₀ i₀ buf at i = n - i
 
-loop-holds : tie.Need-loop-holds Inv-loop μ-loop
-loop-holds c = putting-start _ (omega arith)
-
-loop-again : tie.Need-loop-again Inv-loop μ-loop
-loop-again c = putting-turn (c .before .before .before .before .before .loop .inv) (omega (arith, length-range 1 (c .before .before .before .before .before .before .before .args .n))) (drive-at 1 (c .before .before .before .before .before .before .before .args .n) (c .before .before .before .before .before .loop .i) (c .before .before .before .before .loop-test .taken)) (search needs) (c .before .before .put-drive .ensures)
-
-same-length : tie.Need-same-length Inv-loop μ-loop
-same-length c = c .before .loop .inv .long
-
-returns : tie.Need-returns Inv-loop μ-loop
-unfolding driveLines
-returns c = putting-end (c .before .loop .inv) (omega (arith, length-range 1 (c .before .before .before .args .n)))
-
 pub put-drives-spec : {M : Type 1} → statement M
+unfolding driveLines
 put-drives-spec =
     tie.close
     (tie.spec
-    Inv-loop μ-loop loop-holds (λ c. search needs) (λ c κs. search needs) (λ c. search needs) (λ c. search needs) loop-again same-length returns)
+    Inv-loop μ-loop (λ c. putting-start _ (omega arith)) (λ c. search needs) (λ c κs. search needs) (λ c. search needs) (λ c. search needs)
+    (λ c. putting-turn (c .before .before .before .before .before .loop .inv) (omega (arith, length-range 1 (c .before .before .before .before .before .before .before .args .n))) (drive-at 1 (c .before .before .before .before .before .before .before .args .n) (c .before .before .before .before .before .loop .i) (c .before .before .before .before .loop-test .taken)) (search needs) (c .before .before .put-drive .ensures))
+    (λ c. c .before .loop .inv .long) (λ c. putting-end (c .before .loop .inv) (omega (arith, length-range 1 (c .before .before .before .args .n)))))

@@ -14,24 +14,12 @@ Inv-loop n crashes round began all₀ i₀ all i = Closing n crashes (round .0) 
 abbrev μ-loop : tie.MeasureT-loop
 μ-loop n crashes round began all₀ i₀ all i = n - i
 
-loop-holds : tie.Need-loop-holds Inv-loop μ-loop
-loop-holds c = walk-start (c .args .n) _ (c .args .states) (search needs)
-
-loop-again : tie.Need-loop-again Inv-loop μ-loop
-loop-again c =
-    let a = c .before .before .before .before .before .args in
-    let l = c .before .before .before .before .loop in
-    close-turn (a .n) (a .crashes) (a .round .0) (a .t1) (a .states) (l .all) (l .i) _ (l .inv) (omega arith) (search needs) (c .closed .ensures)
-
-returns : tie.Need-returns Inv-loop μ-loop
-returns c =
-    let a = c .before .before .args in
-    let l = c .before .loop in
-    close-end (a .n) (a .crashes) (a .round .0) (a .t1) (a .states) (l .all) (l .i) (l .inv) (omega arith)
-
 pub close-all-spec : {M : Type 1} → statement M
 close-all-spec =
     tie.close
     (tie.spec
-    Inv-loop μ-loop loop-holds (λ c. search needs) (λ c. search needs) (λ c. search needs) (λ c. search needs) (λ c. search needs) (λ c. search needs)
-    (λ c κs. search needs) (λ c. search needs) (λ c. search needs) (λ c. search needs) (λ c. search needs) loop-again returns)
+    Inv-loop μ-loop (λ c. walk-start (c .args .n) _ (c .args .states) (search needs)) (λ c. search needs) (λ c. search needs) (λ c. search needs)
+    (λ c. search needs) (λ c. search needs) (λ c. search needs) (λ c κs. search needs) (λ c. search needs) (λ c. search needs) (λ c. search needs)
+    (λ c. search needs)
+    (λ c. let a = c .before .before .before .before .before .args in let l = c .before .before .before .before .loop in close-turn (a .n) (a .crashes) (a .round .0) (a .t1) (a .states) (l .all) (l .i) _ (l .inv) (omega arith) (search needs) (c .closed .ensures))
+    (λ c. let a = c .before .before .args in let l = c .before .loop in close-end (a .n) (a .crashes) (a .round .0) (a .t1) (a .states) (l .all) (l .i) (l .inv) (omega arith)))

@@ -1,22 +1,17 @@
 -- The test whether the drive has a CR, then its round.
-use Rattle.simulation.proofs.CrashesByDrive.{not-gone-before, gone-before-by}
+use borrow.Author.Tests.{not-true, not-false}
+use Rattle.runs.specs.Scenario.{goneBefore}
 use Rattle.exchange.proofs.Opens.{own-bounds}
-use Prim.Native.Nat.{_^_, _<_}
+use Rattle.simulation.specs.States.{crashAt}
 use borrow.Author.Needs.{needs}
 use Rattle.simulation.proofs.crashes.gone_before.Statement.{statement}
 use Rattle.simulation.proofs.crashes.gone_before.Tie as tie
 
-returns : tie.Need-returns
-returns c = let a = c .before .before .args in not-gone-before (a .crashes) (a .d .0) _ (c .before .has .ensures) (c .if1 .taken) (a .round .0)
-
-round-at-requires : tie.Need-round-at-requires
-round-at-requires c κs =
-    let a = c .before .before .before .args in
-    let word : a .crashes .crashed < 2 ^ 64 = search needs in
-    own-bounds (a .d .0) (a .crashes .crashed) _ word (c .before .before .has .ensures) (c .before .if1 .left)
-
-returns-2 : tie.Need-returns-2
-returns-2 c = let a = c .before .before .before .before .before .before .args in gone-before-by (a .crashes) (a .d .0) _ (c .before .before .before .before .before .has .ensures) (c .before .before .before .before .if1 .left) (a .round .0) _ (c .before .before .round-at .ensures)
-
 pub gone-before-spec : {M : Type 1} → statement M
-gone-before-spec = tie.close (tie.spec (λ c κs. search needs) returns round-at-requires returns-2)
+unfolding goneBefore crashAt
+gone-before-spec =
+    tie.close
+    (tie.spec
+    (λ c κs. search needs) (λ c. rw (← c .before .has .ensures, not-true (c .before .has .result) (c .if1 .taken)))
+    (λ c κs. let a = c .before .before .before .args in own-bounds (a .d .0) (a .crashes .crashed) _ (search needs) (c .before .before .has .ensures) (c .before .if1 .left))
+    (λ c. rw (← c .before .before .before .before .before .has .ensures, not-false (c .before .before .before .before .before .has .result) (c .before .before .before .before .if1 .left), ← c .before .before .round-at .ensures)))

@@ -1,32 +1,20 @@
 -- No CR, one for another round, one for this round.
-use Rattle.simulation.proofs.CrashesByDrive.{makes-all, other-round, this-round}
+use lib.Seq.{take-all}
+use borrow.Author.Tests.{eq-eqb, ne-eqb, not-true, not-false}
+use Rattle.agreement.specs.Sends.{cut}
 use Rattle.exchange.proofs.Opens.{own-bounds}
-use Prim.Native.Nat.{_^_, _<_}
+use Rattle.simulation.specs.States.{crashAt}
 use borrow.Author.Needs.{needs}
 use Rattle.simulation.proofs.crashes.sends_made.Statement.{statement}
 use Rattle.simulation.proofs.crashes.sends_made.Tie as tie
 
-returns : tie.Need-returns
-returns c = let a = c .before .before .args in makes-all (a .crashes) (a .d .0) _ (c .before .has .ensures) (c .if1 .taken) (a .round .0)
-
-round-at-requires : tie.Need-round-at-requires
-round-at-requires c κs =
-    let a = c .before .before .before .args in
-    let word : a .crashes .crashed < 2 ^ 64 = search needs in
-    own-bounds (a .d .0) (a .crashes .crashed) _ word (c .before .before .has .ensures) (c .before .if1 .left)
-
-returns-2 : tie.Need-returns-2
-returns-2 c = let a = c .before .before .before .before .before .before .before .args in other-round (a .crashes) (a .d .0) _ (c .before .before .before .before .before .before .has .ensures) (c .before .before .before .before .before .if1 .left) (a .round .0) _ (c .before .before .before .round-at .ensures) (c .if2 .taken)
-
-sends-at-requires : tie.Need-sends-at-requires
-sends-at-requires c κs =
-    let a = c .before .before .before .before .before .before .before .before .args in
-    let word : a .crashes .crashed < 2 ^ 64 = search needs in
-    own-bounds (a .d .0) (a .crashes .crashed) _ word (c .before .before .before .before .before .before .before .has .ensures) (c .before .before .before .before .before .before .if1 .left)
-
-returns-3 : tie.Need-returns-3
-returns-3 c = let a = c .before .before .before .before .before .before .before .before .before .args in this-round (a .crashes) (a .d .0) _ (c .before .before .before .before .before .before .before .before .has .ensures) (c .before .before .before .before .before .before .before .if1 .left) (a .round .0) _ (c .before .before .before .before .before .round-at .ensures) (c .before .before .if2 .left) _ (c .sends-at .ensures)
-
 pub sends-made-spec : {M : Type 1} → statement M
+unfolding cut crashAt
 sends-made-spec =
-    tie.close (tie.spec (λ c κs. search needs) returns round-at-requires returns-2 sends-at-requires returns-3)
+    tie.close
+    (tie.spec
+    (λ c κs. search needs) (λ c l g. rw (← c .before .has .ensures, not-true (c .before .has .result) (c .if1 .taken), take-all 64 l g))
+    (λ c κs. let a = c .before .before .before .args in own-bounds (a .d .0) (a .crashes .crashed) _ (search needs) (c .before .before .has .ensures) (c .before .if1 .left))
+    (λ c l g. rw (← c .before .before .before .before .before .before .has .ensures, not-false (c .before .before .before .before .before .before .has .result) (c .before .before .before .before .before .if1 .left), ← c .before .before .before .round-at .ensures, ne-eqb _ _ (c .if2 .taken), take-all 64 l g))
+    (λ c κs. let a = c .before .before .before .before .before .before .before .before .args in own-bounds (a .d .0) (a .crashes .crashed) _ (search needs) (c .before .before .before .before .before .before .before .has .ensures) (c .before .before .before .before .before .before .if1 .left))
+    (λ c l g. rw (← c .before .before .before .before .before .before .before .before .has .ensures, not-false (c .before .before .before .before .before .before .before .before .has .result) (c .before .before .before .before .before .before .before .if1 .left), ← c .before .before .before .before .before .round-at .ensures, eq-eqb _ _ (c .before .before .if2 .left), ← c .sends-at .ensures)))

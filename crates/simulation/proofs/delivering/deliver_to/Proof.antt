@@ -13,49 +13,21 @@ Inv-loop bytes m sends all₀ rest₀ left₀ all rest left = Delivering bytes m
 abbrev μ-loop : tie.MeasureT-loop
 μ-loop bytes m sends all₀ rest₀ left₀ all rest left = size rest
 
-loop-holds : tie.Need-loop-holds Inv-loop μ-loop
-loop-holds c = let a = c .before .args in deliver-start (a .bytes .now) (a .m) (a .sends) (a .states) (search needs) (search needs)
-
-returns : tie.Need-returns Inv-loop μ-loop
-returns c = let a = c .before .before .before .before .args in let l = c .before .before .loop in deliver-none (a .bytes .now) (a .m) (a .sends) (a .states) (l .all) (l .rest) (l .left) (l .inv) (c .if1 .taken)
-
-sub-at : tie.Need-sub-at Inv-loop μ-loop
-sub-at c = let l = c .before .before .before .loop in omega (arith, lowest-bounds (l .inv .word) (c .before .before .loop-test .taken) (c .lowest .ensures) .0)
-
-mul-x : tie.Need-mul-x Inv-loop μ-loop
-mul-x c = let l = c .before .before .before .loop in omega (arith, lowest-bounds (l .inv .word) (c .before .before .loop-test .taken) (c .lowest .ensures) .1)
-
-array-copy-out-x : tie.Need-array-copy-out-x Inv-loop μ-loop
-array-copy-out-x c =
-    let l = c .before .before .before .loop in
-    let b = lowest-bounds (l .inv .word) (c .before .before .loop-test .taken) (c .lowest .ensures) in
-    omega (arith, b .0, b .1)
-
-mul-all : tie.Need-mul-all Inv-loop μ-loop
-mul-all c = let l = c .before .before .before .before .before .before .loop in omega (arith, lowest-bounds (l .inv .word) (c .before .before .before .before .before .loop-test .taken) (c .before .before .before .lowest .ensures) .1)
-
-array-set-from-all : tie.Need-array-set-from-all Inv-loop μ-loop
-array-set-from-all c =
-    let l = c .before .before .before .before .before .before .loop in
-    let b = lowest-bounds (l .inv .word) (c .before .before .before .before .before .loop-test .taken) (c .before .before .before .lowest .ensures) in
-    omega (arith, b .0, b .1)
-
-loop-less : tie.Need-loop-less Inv-loop μ-loop
-loop-less c = let l = c .before .before .before .before .before .before .before .loop in taken-fewer (removed (l .inv .word) (c .before .before .before .before .before .before .loop-test .taken) (c .before .before .before .before .lowest .ensures) (c .remove .ensures))
-
-loop-again : tie.Need-loop-again Inv-loop μ-loop
-loop-again c =
-    let a = c .before .before .before .before .before .before .before .before .before .args in
-    let l = c .before .before .before .before .before .before .before .loop in
-    deliver-turn (a .bytes .now) (a .m) (a .sends) (a .states) (l .all) (l .rest) (l .left) _ _ _ (l .inv) (c .before .before .before .before .before .before .loop-test .taken) (c .before .before .before .before .before .if1 .left)
-    (c .before .before .before .before .lowest .ensures) (c .before .before .message .ensures .state) (c .remove .ensures)
-
-returns-2 : tie.Need-returns-2 Inv-loop μ-loop
-returns-2 c = let a = c .before .before .before .args in let l = c .before .loop in deliver-end (a .bytes .now) (a .m) (a .sends) (a .states) (l .all) (l .rest) (l .left) (l .inv) (c .loop-test .left)
-
 pub deliver-to-spec : {M : Type 1} → statement M
 deliver-to-spec =
     tie.close
     (tie.spec
-    Inv-loop μ-loop loop-holds returns (λ c κs. search needs) sub-at (λ c. search needs) mul-x array-copy-out-x (λ c κs. search needs) mul-all
-    array-set-from-all (λ c κs. search needs) (λ c. search needs) loop-less loop-again returns-2)
+    Inv-loop μ-loop (λ c. let a = c .before .args in deliver-start (a .bytes .now) (a .m) (a .sends) (a .states) (search needs) (search needs))
+    (λ c. let a = c .before .before .before .before .args in let l = c .before .before .loop in deliver-none (a .bytes .now) (a .m) (a .sends) (a .states) (l .all) (l .rest) (l .left) (l .inv) (c .if1 .taken))
+    (λ c κs. search needs)
+    (λ c. let l = c .before .before .before .loop in omega (arith, lowest-bounds (l .inv .word) (c .before .before .loop-test .taken) (c .lowest .ensures) .0))
+    (λ c. search needs)
+    (λ c. let l = c .before .before .before .loop in omega (arith, lowest-bounds (l .inv .word) (c .before .before .loop-test .taken) (c .lowest .ensures) .1))
+    (λ c. let l = c .before .before .before .loop in let b = lowest-bounds (l .inv .word) (c .before .before .loop-test .taken) (c .lowest .ensures) in omega (arith, b .0, b .1))
+    (λ c κs. search needs)
+    (λ c. let l = c .before .before .before .before .before .before .loop in omega (arith, lowest-bounds (l .inv .word) (c .before .before .before .before .before .loop-test .taken) (c .before .before .before .lowest .ensures) .1))
+    (λ c. let l = c .before .before .before .before .before .before .loop in let b = lowest-bounds (l .inv .word) (c .before .before .before .before .before .loop-test .taken) (c .before .before .before .lowest .ensures) in omega (arith, b .0, b .1))
+    (λ c κs. search needs) (λ c. search needs)
+    (λ c. let l = c .before .before .before .before .before .before .before .loop in taken-fewer (removed (l .inv .word) (c .before .before .before .before .before .before .loop-test .taken) (c .before .before .before .before .lowest .ensures) (c .remove .ensures)))
+    (λ c. let a = c .before .before .before .before .before .before .before .before .before .args in let l = c .before .before .before .before .before .before .before .loop in deliver-turn (a .bytes .now) (a .m) (a .sends) (a .states) (l .all) (l .rest) (l .left) _ _ _ (l .inv) (c .before .before .before .before .before .before .loop-test .taken) (c .before .before .before .before .before .if1 .left) (c .before .before .before .before .lowest .ensures) (c .before .before .message .ensures .state) (c .remove .ensures))
+    (λ c. let a = c .before .before .before .args in let l = c .before .loop in deliver-end (a .bytes .now) (a .m) (a .sends) (a .states) (l .all) (l .rest) (l .left) (l .inv) (c .loop-test .left)))

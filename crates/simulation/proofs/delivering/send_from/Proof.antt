@@ -5,26 +5,12 @@ use borrow.Author.Needs.{needs}
 use Rattle.simulation.proofs.delivering.send_from.Statement.{statement}
 use Rattle.simulation.proofs.delivering.send_from.Tie as tie
 
-part-deliver-end : tie.Need-part-deliver-end
-part-deliver-end c =
-    let a = c .before .before .before .before .before .before .before .args in
-    let w = wrote (a .x) _ _ _ (c .before .before .before .before .before .send .ensures) _ (c .before .before .written .given .1) in
-    omega (arith, w .fits, c .before .before .before .before .before .send .kept .1 .0)
-
-returns : tie.Need-returns
-returns c =
-    let a = c .before .before .before .before .before .args in
-    world-unsent _ _ _ (wrote-nothing (a .x) _ _ _ (c .before .before .before .send .ensures) _ (c .enum-told .given .1) _)
-
-returns-2 : tie.Need-returns-2
-returns-2 c =
-    let a = c .before .before .before .before .before .before .before .before .before .args in
-    let w = wrote (a .x) _ _ _ (c .before .before .before .before .before .before .before .send .ensures) _ (c .before .before .before .before .written .given .1) in
-    world-sent (a .x) 140 _ _ w _ _ _ (c .deliver .ensures)
-
 pub send-from-spec : {M : Type 1} → statement M
 send-from-spec =
     tie.close
     (tie.spec
-    (λ c. search needs) (λ c κs. search needs) (λ c. search needs) (λ c. search needs) (λ c. search needs) (λ c. search needs) part-deliver-end
-    (λ c κs. search needs) returns returns-2)
+    (λ c. search needs) (λ c κs. search needs) (λ c. search needs) (λ c. search needs) (λ c. search needs) (λ c. search needs)
+    (λ c. let a = c .before .before .before .before .before .before .before .args in let w = wrote (a .x) _ _ _ (c .before .before .before .before .before .send .ensures) _ (c .before .before .written .given .1) in omega (arith, w .fits, c .before .before .before .before .before .send .kept .1 .0))
+    (λ c κs. search needs)
+    (λ c. let a = c .before .before .before .before .before .args in world-unsent _ _ _ (wrote-nothing (a .x) _ _ _ (c .before .before .before .send .ensures) _ (c .enum-told .given .1) _))
+    (λ c. let a = c .before .before .before .before .before .before .before .before .before .args in let w = wrote (a .x) _ _ _ (c .before .before .before .before .before .before .before .send .ensures) _ (c .before .before .before .before .written .given .1) in world-sent (a .x) 140 _ _ w _ _ _ (c .deliver .ensures)))

@@ -15,28 +15,14 @@ Inv-loop n round states rounds₀ numbers₀ i₀ rounds numbers i = Noting roun
 abbrev μ-loop : tie.MeasureT-loop
 μ-loop n round states rounds₀ numbers₀ i₀ rounds numbers i = n - i
 
-loop-holds : tie.Need-loop-holds Inv-loop μ-loop
-loop-holds c =
-    let a = c .before .before .args in
-    let fields = c .before .before .good .0 .1 .1 in
-    note-start (a .found .rounds) (a .found .numbers) (a .t2) (a .round .0) (sym (length-map (a .found .rounds) _) ∙ fields .0 .1 .0 .1) (sym (length-map (a .found .numbers) _) ∙ fields .1 .0 .1 .0 .1)
-
-loop-again : tie.Need-loop-again Inv-loop μ-loop
-loop-again c =
-    let a = c .before .before .before .before .before .before .before .before .before .before .args in
-    let l = c .before .before .before .before .before .before .before .loop in
-    note-turn (a .found .rounds) (a .found .numbers) (a .t2) (a .round .0) (l .rounds) (l .numbers) (l .i) _ _ (l .inv) (omega arith) (c .before .before .first-decision .ensures)
-
-returns : tie.Need-returns Inv-loop μ-loop
-unfolding foundOf
-returns c =
-    let a = c .before .before .before .before .args in
-    let l = c .before .loop in
-    note-end (a .found .rounds) (a .found .numbers) (a .t2) (a .round .0) (a .n) (l .rounds) (l .numbers) (l .i) (l .inv) (omega arith)
-
 pub note-all-spec : {M : Type 1} → statement M
+unfolding foundOf
 note-all-spec =
     tie.close
     (tie.spec
-    Inv-loop μ-loop loop-holds (λ c. search needs) (λ c. search needs) (λ c. search needs) (λ c. search needs) (λ c. search needs) (λ c. search needs)
-    (λ c κs. search needs) (λ c. search needs) (λ c. search needs) (λ c. search needs) (λ c. search needs) (λ c. search needs) loop-again returns)
+    Inv-loop μ-loop
+    (λ c. let a = c .before .before .args in let fields = c .before .before .good .0 .1 .1 in note-start (a .found .rounds) (a .found .numbers) (a .t2) (a .round .0) (sym (length-map (a .found .rounds) _) ∙ fields .0 .1 .0 .1) (sym (length-map (a .found .numbers) _) ∙ fields .1 .0 .1 .0 .1))
+    (λ c. search needs) (λ c. search needs) (λ c. search needs) (λ c. search needs) (λ c. search needs) (λ c. search needs) (λ c κs. search needs)
+    (λ c. search needs) (λ c. search needs) (λ c. search needs) (λ c. search needs) (λ c. search needs)
+    (λ c. let a = c .before .before .before .before .before .before .before .before .before .before .args in let l = c .before .before .before .before .before .before .before .loop in note-turn (a .found .rounds) (a .found .numbers) (a .t2) (a .round .0) (l .rounds) (l .numbers) (l .i) _ _ (l .inv) (omega arith) (c .before .before .first-decision .ensures))
+    (λ c. let a = c .before .before .before .before .args in let l = c .before .loop in note-end (a .found .rounds) (a .found .numbers) (a .t2) (a .round .0) (a .n) (l .rounds) (l .numbers) (l .i) (l .inv) (omega arith)))

@@ -8,9 +8,6 @@ use Rattle.run_files.specs.Reading.{noRound}
 use Rattle.simulation.proofs.noting.nothing.Statement.{statement}
 use Rattle.simulation.proofs.noting.nothing.Tie as tie
 
-returns : tie.Need-returns
-unfolding foundOf
-returns c d = none-found _ _ (ap (λ (x : Round). x .0) (same-at 64 (d - 1) noRound))
-
 pub nothing-spec : {M : Type 1} → statement M
-nothing-spec = tie.close (tie.spec returns)
+unfolding foundOf
+nothing-spec = tie.close (tie.spec (λ c d. none-found _ _ (ap (λ (x : Round). x .0) (same-at 64 (d - 1) noRound))))

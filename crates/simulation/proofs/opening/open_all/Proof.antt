@@ -12,24 +12,12 @@ Inv-loop n core numbers all₀ i₀ all i = Opening n core numbers all i
 abbrev μ-loop : tie.MeasureT-loop
 μ-loop n core numbers all₀ i₀ all i = n - i
 
-loop-holds : tie.Need-loop-holds Inv-loop μ-loop
-loop-holds c = let a = c .before .args in open-start (a .n) (a .core) (a .t3) _ (search needs)
-
-loop-again : tie.Need-loop-again Inv-loop μ-loop
-loop-again c =
-    let a = c .before .before .before .before .before .args in
-    let l = c .before .before .before .loop in
-    open-turn (a .n) (a .core) (a .t3) (l .all) (l .i) _ (l .inv) (omega arith) (c .initial2 .ensures)
-
-returns : tie.Need-returns Inv-loop μ-loop
-returns c =
-    let a = c .before .before .before .args in
-    let l = c .before .loop in
-    open-end (a .n) (a .core) (a .t3) (l .all) (l .i) (l .inv) (omega arith)
-
 pub open-all-spec : {M : Type 1} → statement M
 open-all-spec =
     tie.close
     (tie.spec
-    Inv-loop μ-loop (λ c κs. search needs) loop-holds (λ c. search needs) (λ c. search needs) (λ c. search needs) (λ c. search needs)
-    (λ c κs. search needs) (λ c. search needs) (λ c. search needs) (λ c. search needs) (λ c. search needs) loop-again returns)
+    Inv-loop μ-loop (λ c κs. search needs) (λ c. let a = c .before .args in open-start (a .n) (a .core) (a .t3) _ (search needs)) (λ c. search needs)
+    (λ c. search needs) (λ c. search needs) (λ c. search needs) (λ c κs. search needs) (λ c. search needs) (λ c. search needs) (λ c. search needs)
+    (λ c. search needs)
+    (λ c. let a = c .before .before .before .before .before .args in let l = c .before .before .before .loop in open-turn (a .n) (a .core) (a .t3) (l .all) (l .i) _ (l .inv) (omega arith) (c .initial2 .ensures))
+    (λ c. let a = c .before .before .before .args in let l = c .before .loop in open-end (a .n) (a .core) (a .t3) (l .all) (l .i) (l .inv) (omega arith)))

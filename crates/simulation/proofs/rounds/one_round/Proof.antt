@@ -9,13 +9,9 @@ use borrow.Author.Needs.{needs}
 use Rattle.simulation.proofs.rounds.one_round.Statement.{statement}
 use Rattle.simulation.proofs.rounds.one_round.Tie as tie
 
-returns : tie.Need-returns
-returns c s g =
-    let a = c .before .before .args in
-    let pre = c .before .before .pre in
-    c .close-all .ensures
-    ∙ (ap (λ (w : World). applyAll w (map closes (closers (a .n) (a .states) (a .crashes) (a .round .0)))) (c .before .send-all .ensures)
-    ∙ sym (round-made (a .n) (a .core) (a .crashes) s (pre .0) (pre .1) g (a .states) (a .round .0)))
-
 pub one-round-spec : {M : Type 1} → statement M
-one-round-spec = tie.close (tie.spec (λ c κs. search needs) (λ c κs. search needs) returns)
+one-round-spec =
+    tie.close
+    (tie.spec
+    (λ c κs. search needs) (λ c κs. search needs)
+    (λ c s g. let a = c .before .before .args in let pre = c .before .before .pre in c .close-all .ensures ∙ (ap (λ (w : World). applyAll w (map closes (closers (a .n) (a .states) (a .crashes) (a .round .0)))) (c .before .send-all .ensures) ∙ sym (round-made (a .n) (a .core) (a .crashes) s (pre .0) (pre .1) g (a .states) (a .round .0)))))

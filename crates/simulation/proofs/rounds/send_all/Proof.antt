@@ -1,6 +1,7 @@
 -- The drives one after the other; one that is no sender changes nothing.
 use borrow.Author.Needs.{needs}
-use Rattle.simulation.proofs.SenderCalls.{Sending, not-sent, sent-all, send-turn, send-end}
+use Rattle.runs.specs.World as worlds
+use Rattle.simulation.proofs.SenderCalls.{Sending, send-turn, send-end}
 use Rattle.simulation.proofs.Walks.{walk-start}
 use Rattle.simulation.specs.States.{worldOf}
 use native.Mathlib.Omega.{arith}
@@ -17,33 +18,12 @@ Inv-loop n core crashes round states all₀ i₀ all i = Sending n core crashes 
 abbrev μ-loop : tie.MeasureT-loop
 μ-loop n core crashes round states all₀ i₀ all i = n - i
 
-loop-holds : tie.Need-loop-holds Inv-loop μ-loop
-loop-holds c = walk-start (c .args .n) _ (c .args .t1) (search needs)
-
-loop-again : tie.Need-loop-again Inv-loop μ-loop
-loop-again c =
-    let a = c .before .before .before .before .before .args in
-    let l = c .before .before .before .before .loop in
-    let sender = c .before .is-sender .ensures in
-    send-turn (a .n) (a .core) (a .crashes) (a .round .0) (a .t1) (l .all) (l .i) (c .if1 .all) (l .inv) (omega arith)
-    (⊎-elim
-    (λ w. ap length (w .2) ∙ search needs)
-    (λ w. ap length (w .1) ∙ l .inv .long)
-    (c .if1 .came))
-    (⊎-elim
-    (λ w. ap (worldOf (a .n)) (w .2) ∙ (w .1 .ensures ∙ sent-all _ sender _ (w .0 .taken)))
-    (λ w. ap (worldOf (a .n)) (w .1) ∙ not-sent _ sender _ (w .0 .left))
-    (c .if1 .came))
-
-returns : tie.Need-returns Inv-loop μ-loop
-returns c =
-    let a = c .before .before .args in
-    let l = c .before .loop in
-    send-end (a .n) (a .core) (a .crashes) (a .round .0) (a .t1) (l .all) (l .i) (l .inv) (omega arith)
-
 pub send-all-spec : {M : Type 1} → statement M
+unfolding worlds.applyAll
 send-all-spec =
     tie.close
     (tie.spec
-    Inv-loop μ-loop loop-holds (λ c. search needs) (λ c. search needs) (λ c. search needs) (λ c. search needs) (λ c κs. search needs)
-    (λ c κs. search needs) (λ c. search needs) (λ c. search needs) loop-again returns)
+    Inv-loop μ-loop (λ c. walk-start (c .args .n) _ (c .args .t1) (search needs)) (λ c. search needs) (λ c. search needs) (λ c. search needs)
+    (λ c. search needs) (λ c κs. search needs) (λ c κs. search needs) (λ c. search needs) (λ c. search needs)
+    (λ c. let a = c .before .before .before .before .before .args in let l = c .before .before .before .before .loop in let sender = c .before .is-sender .ensures in send-turn (a .n) (a .core) (a .crashes) (a .round .0) (a .t1) (l .all) (l .i) (c .if1 .all) (l .inv) (omega arith) (⊎-elim (λ w. ap length (w .2) ∙ search needs) (λ w. ap length (w .1) ∙ l .inv .long) (c .if1 .came)) (⊎-elim (λ w. ap (worldOf (a .n)) (w .2) ∙ (w .1 .ensures ∙ rw (← sender, w .0 .taken))) (λ w. ap (worldOf (a .n)) (w .1) ∙ rw (← sender, w .0 .left)) (c .if1 .came)))
+    (λ c. let a = c .before .before .args in let l = c .before .loop in send-end (a .n) (a .core) (a .crashes) (a .round .0) (a .t1) (l .all) (l .i) (l .inv) (omega arith)))

@@ -11,14 +11,9 @@ use borrow.Author.Needs.{needs}
 use Rattle.simulation.proofs.rounds.sent.Statement.{statement}
 use Rattle.simulation.proofs.rounds.sent.Tie as tie
 
-returns : tie.Need-returns
-returns c =
-    let a = c .before .before .args in
-    let pre = c .before .before .pre in
-    let list = listFor (a .n) (a .core) (a .d .0) in
-    c .send-from .ensures
-    ∙ ap (λ (l : List ℕ). applyAll (worldOf (a .n) (a .states)) (deliveries (sending (a .x) 140 0) l))
-    (sym (c .before .sends-made .ensures list (length-list (a .n) (a .core) (a .d .0) (pre .0) (pre .1))))
-
 pub sent-spec : {M : Type 1} → statement M
-sent-spec = tie.close (tie.spec (λ c κs. search needs) (λ c κs. search needs) returns)
+sent-spec =
+    tie.close
+    (tie.spec
+    (λ c κs. search needs) (λ c κs. search needs)
+    (λ c. let a = c .before .before .args in let pre = c .before .before .pre in let list = listFor (a .n) (a .core) (a .d .0) in c .send-from .ensures ∙ ap (λ (l : List ℕ). applyAll (worldOf (a .n) (a .states)) (deliveries (sending (a .x) 140 0) l)) (sym (c .before .sends-made .ensures list (length-list (a .n) (a .core) (a .d .0) (pre .0) (pre .1))))))

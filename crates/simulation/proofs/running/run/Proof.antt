@@ -15,31 +15,15 @@ Inv-loop n core crashes states₀ found₀ last done₀ states found done = Runn
 abbrev μ-loop : tie.MeasureT-loop
 μ-loop n core crashes states₀ found₀ last done₀ states found done = last - done
 
-loop-holds : tie.Need-loop-holds Inv-loop μ-loop
-loop-holds c = let a = c .before .before .before .args in run-start (a .n) (a .core) (a .crashes) _ _ (c .before .nothing .ensures)
-
-add-t14 : tie.Need-add-t14 Inv-loop μ-loop
-add-t14 c = let a = c .before .before .before .before .before .args in omega (arith, c .before .before .size .ensures, size-le (a .core))
-
-add-done : tie.Need-add-done Inv-loop μ-loop
-add-done c = let a = c .before .before .before .before .before .before .before .args in omega (arith, c .before .before .before .before .size .ensures, size-le (a .core))
-
-loop-again : tie.Need-loop-again Inv-loop μ-loop
-loop-again c =
-    let a = c .before .before .before .before .before .before .before .args in
-    let l = c .before .before .before .loop in
-    run-turn (a .n) (a .core) (a .crashes) _ (l .states) _ (l .found) _ (l .done) (l .inv) (omega (arith, c .before .before .before .before .size .ensures)) (c .before .one-round .ensures) (c .note-all .ensures)
-
-returns : tie.Need-returns Inv-loop μ-loop
-returns c s t d i =
-    let a = c .before .before .before .before .before .args in
-    let l = c .before .loop in
-    run-end (a .n) (a .core) (a .crashes) _ (l .states) (l .found) (l .done) (l .inv) (omega (arith, c .before .before .size .ensures)) s (t .says) d i
-    ∙ all-given (a .core) s d (t .says .core-is) _ (world-opened (a .n) (a .core) (a .numbers) (a .crashes) s t _ (c .before .before .before .before .open-all .ensures))
-
 pub run-spec : {M : Type 1} → statement M
 run-spec =
     tie.close
     (tie.spec
-    Inv-loop μ-loop (λ c κs. search needs) (λ c κs. search needs) (λ c κs. search needs) loop-holds (λ c. search needs) add-t14 (λ c κs. search needs)
-    (λ c κs. search needs) add-done (λ c. search needs) loop-again returns)
+    Inv-loop μ-loop (λ c κs. search needs) (λ c κs. search needs) (λ c κs. search needs)
+    (λ c. let a = c .before .before .before .args in run-start (a .n) (a .core) (a .crashes) _ _ (c .before .nothing .ensures)) (λ c. search needs)
+    (λ c. let a = c .before .before .before .before .before .args in omega (arith, c .before .before .size .ensures, size-le (a .core)))
+    (λ c κs. search needs) (λ c κs. search needs)
+    (λ c. let a = c .before .before .before .before .before .before .before .args in omega (arith, c .before .before .before .before .size .ensures, size-le (a .core)))
+    (λ c. search needs)
+    (λ c. let a = c .before .before .before .before .before .before .before .args in let l = c .before .before .before .loop in run-turn (a .n) (a .core) (a .crashes) _ (l .states) _ (l .found) _ (l .done) (l .inv) (omega (arith, c .before .before .before .before .size .ensures)) (c .before .one-round .ensures) (c .note-all .ensures))
+    (λ c s t d i. let a = c .before .before .before .before .before .args in let l = c .before .loop in run-end (a .n) (a .core) (a .crashes) _ (l .states) (l .found) (l .done) (l .inv) (omega (arith, c .before .before .size .ensures)) s (t .says) d i ∙ all-given (a .core) s d (t .says .core-is) _ (world-opened (a .n) (a .core) (a .numbers) (a .crashes) s t _ (c .before .before .before .before .open-all .ensures))))

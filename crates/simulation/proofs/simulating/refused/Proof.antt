@@ -5,9 +5,6 @@ use borrow.Author.Needs.{needs}
 use Rattle.simulation.proofs.simulating.refused.Statement.{statement}
 use Rattle.simulation.proofs.simulating.refused.Tie as tie
 
-returns : tie.Need-returns
-unfolding simulatedOutcome
-returns c n = refl
-
 pub refused-spec : {M : Type 1} → statement M
-refused-spec = tie.close (tie.spec (λ c κs. search needs) returns)
+unfolding simulatedOutcome
+refused-spec = tie.close (tie.spec (λ c κs. search needs) (λ c n. refl))

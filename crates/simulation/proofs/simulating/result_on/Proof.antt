@@ -9,14 +9,11 @@ use borrow.Author.Needs.{needs}
 use Rattle.simulation.proofs.simulating.result_on.Statement.{statement}
 use Rattle.simulation.proofs.simulating.result_on.Tie as tie
 
-cast-t10 : tie.Need-cast-t10
-cast-t10 c = let a = c .before .before .args in omega (arith, c .size .ensures, size-le (bitAnd (a .core) (a .crashes .crashed)))
-
-returns : tie.Need-returns
-unfolding simulatedOutcome endingsIn common
-returns c s t =
-    let a = c .before .before .args in
-    result-is (a .n) (a .core) (a .crashes) s (t .says) (t .valid) _ (c .before .run .ensures s t) _ (c .size .ensures)
-
 pub result-on-spec : {M : Type 1} → statement M
-result-on-spec = tie.close (tie.spec (λ c κs. search needs) (λ c κs. search needs) cast-t10 returns)
+unfolding simulatedOutcome endingsIn common
+result-on-spec =
+    tie.close
+    (tie.spec
+    (λ c κs. search needs) (λ c κs. search needs)
+    (λ c. let a = c .before .before .args in omega (arith, c .size .ensures, size-le (bitAnd (a .core) (a .crashes .crashed))))
+    (λ c s t. let a = c .before .before .args in result-is (a .n) (a .core) (a .crashes) s (t .says) (t .valid) _ (c .before .run .ensures s t) _ (c .size .ensures)))

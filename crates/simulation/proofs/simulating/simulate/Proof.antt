@@ -9,25 +9,11 @@ use borrow.Author.Needs.{needs}
 use Rattle.simulation.proofs.simulating.simulate.Statement.{statement}
 use Rattle.simulation.proofs.simulating.simulate.Tie as tie
 
-where-checked-requires : tie.Need-where-checked-requires
-where-checked-requires c κs = sym (c .before .before .before .chosen-core .ensures) ∙ ap chosenOutcome (c .before .chosen2 .given .1)
-
-returns : tie.Need-returns
-returns c =
-    let a = c .before .before .before .before .before .before .args in
-    c .refused .ensures (a .n)
-    ∙ table-refused (a .n) (a .sets .now) (take (a .n) (values (a .numbers))) (crashesIn (a .crashes)) _ (sym (c .before .before .before .before .chosen-core .ensures) ∙ ap chosenOutcome (c .before .before .chosen .given .1))
-
-returns-2 : tie.Need-returns-2
-returns-2 c =
-    let a = c .before .before .before .before .before .before .args in
-    let word : a .crashes .crashed < 2 ^ 64 = search needs in
-    c .where-checked .ensures
-    ∙ with-core (a .n) (a .sets .now) (a .numbers) (a .crashes) _ word (sym (c .before .before .before .before .chosen-core .ensures) ∙ ap chosenOutcome (c .before .before .chosen2 .given .1))
-    (take (a .n) (values (a .numbers))) (crashesIn (a .crashes))
-
 pub simulate-spec : {M : Type 1} → statement M
 simulate-spec =
     tie.close
     (tie.spec
-    (λ c κs. search needs) (λ c. search needs) (λ c κs. search needs) (λ c. search needs) where-checked-requires returns returns-2)
+    (λ c κs. search needs) (λ c. search needs) (λ c κs. search needs) (λ c. search needs)
+    (λ c κs. sym (c .before .before .before .chosen-core .ensures) ∙ ap chosenOutcome (c .before .chosen2 .given .1))
+    (λ c. let a = c .before .before .before .before .before .before .args in c .refused .ensures (a .n) ∙ table-refused (a .n) (a .sets .now) (take (a .n) (values (a .numbers))) (crashesIn (a .crashes)) _ (sym (c .before .before .before .before .chosen-core .ensures) ∙ ap chosenOutcome (c .before .before .chosen .given .1)))
+    (λ c. let a = c .before .before .before .before .before .before .args in let word : a .crashes .crashed < 2 ^ 64 = search needs in c .where-checked .ensures ∙ with-core (a .n) (a .sets .now) (a .numbers) (a .crashes) _ word (sym (c .before .before .before .before .chosen-core .ensures) ∙ ap chosenOutcome (c .before .before .chosen2 .given .1)) (take (a .n) (values (a .numbers))) (crashesIn (a .crashes))))

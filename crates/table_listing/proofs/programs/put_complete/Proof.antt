@@ -12,23 +12,15 @@ use borrow.Author.Needs.{needs}
 use Rattle.table_listing.proofs.programs.put_complete.Statement.{statement}
 use Rattle.table_listing.proofs.programs.put_complete.Tie as tie
 
-part-put-listing-end : tie.Need-part-put-listing-end
-part-put-listing-end c = let long : length (c .before .before .before .before .before .before .args .t .table .sets) ≡ 128 = search needs in omega (arith, c .before .before .before .before .before .before .pre .0 .sets)
-
-part-put-listing-end-2 : tie.Need-part-put-listing-end-2
-part-put-listing-end-2 c = let long : length (c .before .before .before .before .before .before .before .before .args .t .cores) ≡ 1024 = search needs in omega (arith, c .before .before .before .before .before .before .before .before .pre .0 .cores)
-
-put-listing-requires : tie.Need-put-listing-requires
-unfolding setsOf
-put-listing-requires c κs = let t = c .before .before .before .before .before .before .before .before .before .args .t in (omega (arith, length-take (t .table .count - 0) (t .table .sets), c .before .before .before .before .before .before .before .before .before .pre .0 .sets), cut (t .cores) (t .found) ∙ (c .before .before .before .before .before .before .before .before .before .pre .1 ∙ sym (ap cores (cut (t .table .sets) (t .table .count)))))
-
-returns : tie.Need-returns
-unfolding setsOf
-returns c = let t = c .before .before .before .before .before .before .before .before .before .before .before .before .args .t in filled-same (ap (listing (t .table .n)) (sym (cut (t .table .sets) (t .table .count)))) (c .before .before .put-listing .ensures)
-
 pub put-complete-spec : {M : Type 1} → statement M
+unfolding setsOf
 put-complete-spec =
     tie.close
     (tie.spec
-    (λ c. search needs) (λ c. search needs) part-put-listing-end (λ c. search needs) (λ c. search needs) part-put-listing-end-2 put-listing-requires
-    (λ c. search needs) returns)
+    (λ c. search needs) (λ c. search needs)
+    (λ c. let long : length (c .before .before .before .before .before .before .args .t .table .sets) ≡ 128 = search needs in omega (arith, c .before .before .before .before .before .before .pre .0 .sets))
+    (λ c. search needs) (λ c. search needs)
+    (λ c. let long : length (c .before .before .before .before .before .before .before .before .args .t .cores) ≡ 1024 = search needs in omega (arith, c .before .before .before .before .before .before .before .before .pre .0 .cores))
+    (λ c κs. let t = c .before .before .before .before .before .before .before .before .before .args .t in (omega (arith, length-take (t .table .count - 0) (t .table .sets), c .before .before .before .before .before .before .before .before .before .pre .0 .sets), cut (t .cores) (t .found) ∙ (c .before .before .before .before .before .before .before .before .before .pre .1 ∙ sym (ap cores (cut (t .table .sets) (t .table .count))))))
+    (λ c. search needs)
+    (λ c. let t = c .before .before .before .before .before .before .before .before .before .before .before .before .args .t in filled-same (ap (listing (t .table .n)) (sym (cut (t .table .sets) (t .table .count)))) (c .before .before .put-listing .ensures)))

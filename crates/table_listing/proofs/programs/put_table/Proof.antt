@@ -9,21 +9,14 @@ use borrow.Author.Needs.{needs}
 use Rattle.table_listing.proofs.programs.put_table.Statement.{statement}
 use Rattle.table_listing.proofs.programs.put_table.Tie as tie
 
-put-complete-requires : tie.Need-put-complete-requires
-unfolding readWholeComplete
-put-complete-requires c κs = (c .before .before .before .before .read-whole .ensures .1 .complete, cores-read (c .before .before .before .before .read-whole .result) (c .before .before .before .before .before .before .before .args .input .now) (readWhole (c .before .before .before .before .before .before .before .args .input .now)) (c .before .before .before .before .read-whole .ensures .0) (c .before .enum-told .given .1))
-
-returns : tie.Need-returns
-unfolding tableProgram readWholeComplete
-returns c = filled-same (ap listingOf (table-read-is (c .before .before .before .before .before .before .before .before .read-whole .result) (c .before .before .before .before .before .before .before .before .before .before .before .args .input .now) (readWhole (c .before .before .before .before .before .before .before .before .before .before .before .args .input .now)) (c .before .before .before .before .before .before .before .before .read-whole .ensures .0) (c .before .before .before .before .before .answer .given .1))) (c .before .before .put-refused .ensures)
-
-returns-2 : tie.Need-returns-2
-unfolding tableProgram readWholeComplete
-returns-2 c = filled-same (ap listingOf (table-read-is (c .before .before .before .before .before .before .before .read-whole .result) (c .before .before .before .before .before .before .before .before .before .before .args .input .now) (readWhole (c .before .before .before .before .before .before .before .before .before .before .args .input .now)) (c .before .before .before .before .before .before .before .read-whole .ensures .0) (c .before .before .before .before .enum-told .given .1))) (c .before .before .put-complete .ensures)
-
 pub put-table-spec : {M : Type 1} → statement M
+unfolding readWholeComplete tableProgram
 put-table-spec =
     tie.close
     (tie.spec
-    (λ c κs. search needs) (λ c. search needs) (λ c κs. search needs) (λ c. search needs) put-complete-requires (λ c. search needs) returns
-    (λ c. search needs) returns-2)
+    (λ c κs. search needs) (λ c. search needs) (λ c κs. search needs) (λ c. search needs)
+    (λ c κs. (c .before .before .before .before .read-whole .ensures .1 .complete, cores-read (c .before .before .before .before .read-whole .result) (c .before .before .before .before .before .before .before .args .input .now) (readWhole (c .before .before .before .before .before .before .before .args .input .now)) (c .before .before .before .before .read-whole .ensures .0) (c .before .enum-told .given .1)))
+    (λ c. search needs)
+    (λ c. filled-same (ap listingOf (table-read-is (c .before .before .before .before .before .before .before .before .read-whole .result) (c .before .before .before .before .before .before .before .before .before .before .before .args .input .now) (readWhole (c .before .before .before .before .before .before .before .before .before .before .before .args .input .now)) (c .before .before .before .before .before .before .before .before .read-whole .ensures .0) (c .before .before .before .before .before .answer .given .1))) (c .before .before .put-refused .ensures))
+    (λ c. search needs)
+    (λ c. filled-same (ap listingOf (table-read-is (c .before .before .before .before .before .before .before .read-whole .result) (c .before .before .before .before .before .before .before .before .before .before .args .input .now) (readWhole (c .before .before .before .before .before .before .before .before .before .before .args .input .now)) (c .before .before .before .before .before .before .before .read-whole .ensures .0) (c .before .before .before .before .enum-told .given .1))) (c .before .before .put-complete .ensures)))

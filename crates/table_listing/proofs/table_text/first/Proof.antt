@@ -4,9 +4,6 @@ use borrow.Author.Needs.{needs}
 use Rattle.table_listing.proofs.table_text.first.Statement.{statement}
 use Rattle.table_listing.proofs.table_text.first.Tie as tie
 
-returns : tie.Need-returns
-returns c = no-first (c .before .args .groups .now) (c .if1 .taken)
-
 pub first-spec : {M : Type 1} → statement M
 first-spec =
-    tie.close (tie.spec returns (λ c. search needs) (λ c. search needs))
+    tie.close (tie.spec (λ c. no-first (c .before .args .groups .now) (c .if1 .taken)) (λ c. search needs) (λ c. search needs))

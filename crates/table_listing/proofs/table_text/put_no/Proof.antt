@@ -6,13 +6,11 @@ use borrow.Author.Needs.{needs}
 use Rattle.table_listing.proofs.table_text.put_no.Statement.{statement}
 use Rattle.table_listing.proofs.table_text.put_no.Tie as tie
 
-returns : tie.Need-returns
-unfolding noPart ascii
-returns c = filled-both (search needs) (c .before .before .before .before .before .before .before .before .before .before .before .before .before .before .before .before .before .before .before .before .put-all .ensures) (filled-both (search needs) (c .before .before .before .before .before .before .before .before .before .before .before .before .before .before .before .before .put-fields .ensures) (filled-both (search needs) (c .before .before .before .before .before .before .before .before .before .before .before .put-all2 .ensures) (filled-both (search needs) (c .before .before .before .before .before .before .before .put-fields2 .ensures) (c .before .before .put-all3 .ensures))))
-
 pub put-no-spec : {M : Type 1} → statement M
+unfolding noPart ascii
 put-no-spec =
     tie.close
     (tie.spec
     (λ c. search needs) (λ c κs. search needs) (λ c κs. search needs) (λ c. search needs) (λ c κs. search needs) (λ c κs. search needs)
-    (λ c. search needs) (λ c κs. search needs) (λ c. search needs) returns)
+    (λ c. search needs) (λ c κs. search needs) (λ c. search needs)
+    (λ c. filled-both (search needs) (c .before .before .before .before .before .before .before .before .before .before .before .before .before .before .before .before .before .before .before .before .put-all .ensures) (filled-both (search needs) (c .before .before .before .before .before .before .before .before .before .before .before .before .before .before .before .before .put-fields .ensures) (filled-both (search needs) (c .before .before .before .before .before .before .before .before .before .before .before .put-all2 .ensures) (filled-both (search needs) (c .before .before .before .before .before .before .before .put-fields2 .ensures) (c .before .before .put-all3 .ensures))))))

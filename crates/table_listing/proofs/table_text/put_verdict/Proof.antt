@@ -11,24 +11,19 @@ use borrow.Author.Needs.{needs}
 use Rattle.table_listing.proofs.table_text.put_verdict.Statement.{statement}
 use Rattle.table_listing.proofs.table_text.put_verdict.Tie as tie
 
-returns : tie.Need-returns
-unfolding verdictLine ascii
-returns c = filled-same (ap (verdictLine (c .before .before .before .before .before .before .before .before .before .before .before .before .before .before .args .k)) (held-yes (c .before .before .before .before .before .before .before .before .before .before .before .before .before .before .args .v) (c .before .before .before .before .before .before .before .before .before .before .before .before .before .before .args .k) (c .before .before .before .before .before .if1 .taken))) (filled-both (search needs) (c .before .before .before .before .before .before .before .before .put-named .ensures) (c .before .before .put-all .ensures))
-
-part-put-no-end : tie.Need-part-put-no-end
-part-put-no-end c = let long : length (c .before .before .before .before .before .before .before .before .before .before .before .before .args .v .positions) ≡ 4 = search needs in omega (arith, ap length (c .before .before .wide .ensures))
-
-part-put-no-end-2 : tie.Need-part-put-no-end-2
-part-put-no-end-2 c = let long : length (c .before .before .before .before .before .before .before .before .before .before .before .before .before .before .args .v .blocks) ≡ 4 = search needs in omega arith
-
 returns-2 : tie.Need-returns-2
 unfolding verdictLine ascii
 returns-2 c = filled-same (ap (verdictLine (c .before .before .before .before .before .before .before .before .before .before .before .before .before .before .before .before .before .before .args .k)) (held-no (c .before .before .before .before .before .before .before .before .before .before .before .before .before .before .before .before .before .before .args .v) (c .before .before .before .before .before .before .before .before .before .before .before .before .before .before .before .before .before .before .args .k) (c .before .before .before .before .before .before .before .before .wide .result) (c .before .before .before .before .before .before .before .before .before .if1 .left) (c .before .before .before .before .before .before .before .before .wide .ensures))) (filled-both (search needs) (c .before .before .before .before .before .before .before .before .before .before .before .before .put-named .ensures) (c .before .before .put-no .ensures))
 
 pub put-verdict-spec : {M : Type 1} → statement M
+unfolding verdictLine ascii
 put-verdict-spec =
     tie.close
     (tie.spec
-    (λ c. search needs) (λ c κs. search needs) (λ c. search needs) (λ c κs. search needs) (λ c. search needs) returns (λ c κs. search needs)
-    (λ c. search needs) (λ c. search needs) part-put-no-end (λ c. search needs) (λ c. search needs) part-put-no-end-2 (λ c κs. search needs)
-    (λ c. search needs) returns-2)
+    (λ c. search needs) (λ c κs. search needs) (λ c. search needs) (λ c κs. search needs) (λ c. search needs)
+    (λ c. filled-same (ap (verdictLine (c .before .before .before .before .before .before .before .before .before .before .before .before .before .before .args .k)) (held-yes (c .before .before .before .before .before .before .before .before .before .before .before .before .before .before .args .v) (c .before .before .before .before .before .before .before .before .before .before .before .before .before .before .args .k) (c .before .before .before .before .before .if1 .taken))) (filled-both (search needs) (c .before .before .before .before .before .before .before .before .put-named .ensures) (c .before .before .put-all .ensures)))
+    (λ c κs. search needs) (λ c. search needs) (λ c. search needs)
+    (λ c. let long : length (c .before .before .before .before .before .before .before .before .before .before .before .before .args .v .positions) ≡ 4 = search needs in omega (arith, ap length (c .before .before .wide .ensures)))
+    (λ c. search needs) (λ c. search needs)
+    (λ c. let long : length (c .before .before .before .before .before .before .before .before .before .before .before .before .before .before .args .v .blocks) ≡ 4 = search needs in omega arith)
+    (λ c κs. search needs) (λ c. search needs) returns-2)

@@ -8,17 +8,6 @@ use borrow.Author.Needs.{needs}
 use Rattle.tables.proofs.completing.complete_sets.Statement.{statement}
 use Rattle.tables.proofs.completing.complete_sets.Tie as tie
 
-part-minimal-hitting-sets-end : tie.Need-part-minimal-hitting-sets-end
-part-minimal-hitting-sets-end c = omega (arith, count-le (c .before .before .before .before .before .args .sets .now) _ _ _ (c .before .before .before .before .before .pre) refl (c .before .before .normal2 .ensures))
-
-returns : tie.Need-returns
-unfolding completeOutcome
-returns c =
-    let a = c .before .before .before .before .before .before .before .before .before .before .args in (
-      too-many (a .n) (a .sets .now) _ _ _ _ (normal-part (a .sets .now) _ _ _ (c .before .before .before .before .before .before .before .before .before .before .pre) refl (c .before .before .before .before .before .before .before .normal2 .ensures)) refl (c .before .before .minimal-hitting-sets .ensures) (c .if1 .taken),
-      record { sets = count-le (a .sets .now) _ _ _ (c .before .before .before .before .before .before .before .before .before .before .pre) refl (c .before .before .before .before .before .before .before .normal2 .ensures); cores = omega arith },
-    )
-
 returns-2 : tie.Need-returns-2
 unfolding completeOutcome setsOf
 returns-2 c =
@@ -29,8 +18,12 @@ returns-2 c =
     )
 
 pub complete-sets-spec : {M : Type 1} → statement M
+unfolding completeOutcome
 complete-sets-spec =
     tie.close
     (tie.spec
-    (λ c. search needs) (λ c κs. search needs) (λ c. search needs) (λ c. search needs) part-minimal-hitting-sets-end (λ c. search needs) (λ c κs. search needs)
-    returns returns-2)
+    (λ c. search needs) (λ c κs. search needs) (λ c. search needs) (λ c. search needs)
+    (λ c. omega (arith, count-le (c .before .before .before .before .before .args .sets .now) _ _ _ (c .before .before .before .before .before .pre) refl (c .before .before .normal2 .ensures)))
+    (λ c. search needs) (λ c κs. search needs)
+    (λ c. let a = c .before .before .before .before .before .before .before .before .before .before .args in (too-many (a .n) (a .sets .now) _ _ _ _ (normal-part (a .sets .now) _ _ _ (c .before .before .before .before .before .before .before .before .before .before .pre) refl (c .before .before .before .before .before .before .before .normal2 .ensures)) refl (c .before .before .minimal-hitting-sets .ensures) (c .if1 .taken), record { sets = count-le (a .sets .now) _ _ _ (c .before .before .before .before .before .before .before .before .before .before .pre) refl (c .before .before .before .before .before .before .before .normal2 .ensures); cores = omega arith }))
+    returns-2)

@@ -5,9 +5,6 @@ use mathlib.Core.Path.{refl}
 use Rattle.tables.proofs.completing.refused.Statement.{statement}
 use Rattle.tables.proofs.completing.refused.Tie as tie
 
-returns : tie.Need-returns
-unfolding completeOutcome
-returns c = (refl, record { sets = omega arith; cores = omega arith })
-
 pub refused-spec : {M : Type 1} → statement M
-refused-spec = tie.close (tie.spec returns)
+unfolding completeOutcome
+refused-spec = tie.close (tie.spec (λ c. (refl, record { sets = omega arith; cores = omega arith })))

@@ -3,11 +3,8 @@ use Rattle.tables.proofs.Steps.{due-first, due-later}
 use Rattle.tables.proofs.reading.due_after.Statement.{statement}
 use Rattle.tables.proofs.reading.due_after.Tie as tie
 
-returns : tie.Need-returns
-returns c = due-first (c .before .args .count) (c .if1 .taken)
-
-returns-2 : tie.Need-returns-2
-returns-2 c = due-later (c .before .args .count) (c .if1 .left)
-
 pub due-after-spec : {M : Type 1} → statement M
-due-after-spec = tie.close (tie.spec returns returns-2)
+due-after-spec =
+    tie.close
+    (tie.spec
+    (λ c. due-first (c .before .args .count) (c .if1 .taken)) (λ c. due-later (c .before .args .count) (c .if1 .left)))

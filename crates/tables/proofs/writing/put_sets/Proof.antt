@@ -15,25 +15,15 @@ Inv-loop part₀ sets at₀ i₀ part at i = Writing part₀ sets part at i
 abbrev μ-loop : tie.MeasureT-loop
 μ-loop part₀ sets at₀ i₀ part at i = length sets - i
 
-returns : tie.Need-returns Inv-loop μ-loop
-returns c = sets-none (c .before .before .before .args .part .now) (c .before .before .before .args .sets .now) (c .if1 .taken)
-
-loop-holds : tie.Need-loop-holds Inv-loop μ-loop
-loop-holds c = writing-start (c .before .before .before .args .part .now) (c .before .before .before .args .sets .now) (c .if1 .left)
-
 loop-again : tie.Need-loop-again Inv-loop μ-loop
 unfolding mark markText ascii fromBytes
 loop-again c = writing-turn _ _ _ _ _ (c .before .before .before .before .before .before .loop .inv) (c .before .before .before .before .before .loop-test .taken) _ _ _ refl refl (c .before .before .put-record .ensures)
-
-same-length : tie.Need-same-length Inv-loop μ-loop
-same-length c = c .before .loop .inv .long
-
-returns-2 : tie.Need-returns-2 Inv-loop μ-loop
-returns-2 c = writing-end _ _ _ _ _ (c .before .loop .inv) (c .loop-test .left)
 
 pub put-sets-spec : {M : Type 1} → statement M
 put-sets-spec =
     tie.close
     (tie.spec
-    Inv-loop μ-loop returns loop-holds (λ c. search needs) (λ c. search needs) (λ c. search needs) (λ c. search needs) (λ c. search needs)
-    (λ c κs. search needs) (λ c. search needs) (λ c. search needs) (λ c. search needs) loop-again same-length returns-2)
+    Inv-loop μ-loop (λ c. sets-none (c .before .before .before .args .part .now) (c .before .before .before .args .sets .now) (c .if1 .taken))
+    (λ c. writing-start (c .before .before .before .args .part .now) (c .before .before .before .args .sets .now) (c .if1 .left)) (λ c. search needs)
+    (λ c. search needs) (λ c. search needs) (λ c. search needs) (λ c. search needs) (λ c κs. search needs) (λ c. search needs) (λ c. search needs)
+    (λ c. search needs) loop-again (λ c. c .before .loop .inv .long) (λ c. writing-end _ _ _ _ _ (c .before .loop .inv) (c .loop-test .left)))

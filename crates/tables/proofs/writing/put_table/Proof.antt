@@ -8,23 +8,14 @@ use borrow.Author.Needs.{needs}
 use Rattle.tables.proofs.writing.put_table.Statement.{statement}
 use Rattle.tables.proofs.writing.put_table.Tie as tie
 
-returns : tie.Need-returns
-returns c = table-none (c .before .before .before .args .n) (c .before .before .before .args .sets .now) (c .before .before .before .args .part .now) (omega arith)
-
-returns-2 : tie.Need-returns-2
-returns-2 c = table-none (c .before .before .before .before .args .n) (c .before .before .before .before .args .sets .now) (c .before .before .before .before .args .part .now) (omega arith)
-
-returns-3 : tie.Need-returns-3
-unfolding mark markText ascii fromBytes
-returns-3 c =
-    let a = c .before .before .before .before .before .before .before .before .before .before .before .before .before .before .before .before .args in
-    table-written (a .n) (a .sets .now) _ _ (a .part .now) _ _ _ _ _ refl refl (omega arith) (c .before .before .before .before .before .before .before .before .before .before .put-record .ensures) (c .before .before .before .before .before .before .put-sets .ensures) refl refl
-    (c .before .before .put-record2 .ensures)
-
 pub put-table-spec : {M : Type 1} → statement M
+unfolding mark markText ascii fromBytes
 put-table-spec =
     tie.close
     (tie.spec
-    returns (λ c. search needs) returns-2 (λ c. search needs) (λ c. search needs) (λ c κs. search needs) (λ c. search needs) (λ c. search needs)
-    (λ c. search needs) (λ c κs. search needs) (λ c. search needs) (λ c. search needs) (λ c. search needs) (λ c κs. search needs) (λ c. search needs)
-    returns-3)
+    (λ c. table-none (c .before .before .before .args .n) (c .before .before .before .args .sets .now) (c .before .before .before .args .part .now) (omega arith))
+    (λ c. search needs)
+    (λ c. table-none (c .before .before .before .before .args .n) (c .before .before .before .before .args .sets .now) (c .before .before .before .before .args .part .now) (omega arith))
+    (λ c. search needs) (λ c. search needs) (λ c κs. search needs) (λ c. search needs) (λ c. search needs) (λ c. search needs) (λ c κs. search needs)
+    (λ c. search needs) (λ c. search needs) (λ c. search needs) (λ c κs. search needs) (λ c. search needs)
+    (λ c. let a = c .before .before .before .before .before .before .before .before .before .before .before .before .before .before .before .before .args in table-written (a .n) (a .sets .now) _ _ (a .part .now) _ _ _ _ _ refl refl (omega arith) (c .before .before .before .before .before .before .before .before .before .before .put-record .ensures) (c .before .before .before .before .before .before .put-sets .ensures) refl refl (c .before .before .put-record2 .ensures)))

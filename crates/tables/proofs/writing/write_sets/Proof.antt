@@ -11,12 +11,6 @@ use borrow.Author.Needs.{needs}
 use Rattle.tables.proofs.writing.write_sets.Statement.{statement}
 use Rattle.tables.proofs.writing.write_sets.Tie as tie
 
-returns : tie.Need-returns
-returns c = let a = c .before .before .before .before .args in written-none (tableBytes (a .n) (a .sets .now)) (a .start) (a .buf .now) _ (sym (length-table (a .n) (a .sets .now))) _ (c .before .fits2 .ensures) (c .if1 .taken)
-
-returns-2 : tie.Need-returns-2
-returns-2 c = let a = c .before .before .before .before .before .before .before .before .args in written-all (tableBytes (a .n) (a .sets .now)) (a .start) (a .buf .now) _ (sym (length-table (a .n) (a .sets .now))) _ (c .before .before .before .before .before .fits2 .ensures) (c .before .before .before .before .if1 .left) _ (c .before .before .put-table .ensures)
-
 part-put-table-start : tie.Need-part-put-table-start
 part-put-table-start c =
     let a = c .before .before .before .before .args in
@@ -26,5 +20,7 @@ pub write-sets-spec : {M : Type 1} → statement M
 write-sets-spec =
     tie.close
     (tie.spec
-    (λ c. search needs) (λ c. search needs) (λ c κs. search needs) returns (λ c. omega (arith, part-put-table-start c)) part-put-table-start
-    (λ c. search needs) (λ c κs. search needs) (λ c. search needs) returns-2)
+    (λ c. search needs) (λ c. search needs) (λ c κs. search needs)
+    (λ c. let a = c .before .before .before .before .args in written-none (tableBytes (a .n) (a .sets .now)) (a .start) (a .buf .now) _ (sym (length-table (a .n) (a .sets .now))) _ (c .before .fits2 .ensures) (c .if1 .taken))
+    (λ c. omega (arith, part-put-table-start c)) part-put-table-start (λ c. search needs) (λ c κs. search needs) (λ c. search needs)
+    (λ c. let a = c .before .before .before .before .before .before .before .before .args in written-all (tableBytes (a .n) (a .sets .now)) (a .start) (a .buf .now) _ (sym (length-table (a .n) (a .sets .now))) _ (c .before .before .before .before .before .fits2 .ensures) (c .before .before .before .before .if1 .left) _ (c .before .before .put-table .ensures)))

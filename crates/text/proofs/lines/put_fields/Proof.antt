@@ -14,22 +14,12 @@ Inv-loop buf₀ start base numbers at₀ i₀ buf at i = Putting (field base) bu
 abbrev μ-loop : tie.MeasureT-loop
 μ-loop buf₀ start base numbers at₀ i₀ buf at i = length numbers - i
 
-loop-holds : tie.Need-loop-holds Inv-loop μ-loop
-loop-holds c = putting-start _ (c .place .ensures)
-
-loop-again : tie.Need-loop-again Inv-loop μ-loop
-loop-again c = putting-turn (c .before .before .before .before .before .before .loop .inv) (c .before .before .before .before .before .loop-test .taken) refl (search needs) (c .before .before .put-field .ensures)
-
-same-length : tie.Need-same-length Inv-loop μ-loop
-same-length c = c .before .loop .inv .long
-
-returns : tie.Need-returns Inv-loop μ-loop
-unfolding fields
-returns c = putting-end (c .before .loop .inv) (c .loop-test .left)
-
 pub put-fields-spec : {M : Type 1} → statement M
+unfolding fields
 put-fields-spec =
     tie.close
     (tie.spec
-    Inv-loop μ-loop (λ c κs. search needs) loop-holds (λ c. search needs) (λ c. search needs) (λ c κs. search needs) (λ c. search needs)
-    (λ c. search needs) loop-again same-length returns)
+    Inv-loop μ-loop (λ c κs. search needs) (λ c. putting-start _ (c .place .ensures)) (λ c. search needs) (λ c. search needs) (λ c κs. search needs)
+    (λ c. search needs) (λ c. search needs)
+    (λ c. putting-turn (c .before .before .before .before .before .before .loop .inv) (c .before .before .before .before .before .loop-test .taken) refl (search needs) (c .before .before .put-field .ensures))
+    (λ c. c .before .loop .inv .long) (λ c. putting-end (c .before .loop .inv) (c .loop-test .left)))

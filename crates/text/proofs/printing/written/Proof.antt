@@ -7,15 +7,11 @@ use borrow.Author.Needs.{needs}
 use Rattle.text.proofs.printing.written.Statement.{statement}
 use Rattle.text.proofs.printing.written.Tie as tie
 
-returns : tie.Need-returns
-returns c = counted (c .before .before .before .before .args .buf .now) (c .before .before .before .before .args .w) _ (omega (arith, ap bytesIn (c .before .before .w .given .1)))
-
-returns-2 : tie.Need-returns-2
-returns-2 c = counted (c .before .before .args .buf .now) (c .before .before .args .w) 0 (omega (arith, ap bytesIn (c .enum-told .given .1)))
-
-returns-3 : tie.Need-returns-3
-returns-3 c = counted (c .before .before .before .before .args .buf .now) (c .before .before .before .before .args .w) _ (omega (arith, ap bytesIn (c .before .before .w .given .1)))
-
 pub written-spec : {M : Type 1} → statement M
 written-spec =
-    tie.close (tie.spec (λ c. search needs) (λ c. search needs) returns returns-2 returns-3)
+    tie.close
+    (tie.spec
+    (λ c. search needs) (λ c. search needs)
+    (λ c. counted (c .before .before .before .before .args .buf .now) (c .before .before .before .before .args .w) _ (omega (arith, ap bytesIn (c .before .before .w .given .1))))
+    (λ c. counted (c .before .before .args .buf .now) (c .before .before .args .w) 0 (omega (arith, ap bytesIn (c .enum-told .given .1))))
+    (λ c. counted (c .before .before .before .before .args .buf .now) (c .before .before .before .before .args .w) _ (omega (arith, ap bytesIn (c .before .before .w .given .1)))))

@@ -39,24 +39,14 @@ K t = (
   put-in-base.Post,
 )
 
-put-in-base-returns : (t : ℕ) → put-in-base-lts.Need-returns (K t) (put-in-base-at t) put-in-base.Post
-put-in-base-returns t c = filled-same (base-none _ _ _ (c .before .before .if1 .taken)) (filled-nothing (c .place .ensures))
-
-put-in-base-digit-requires : (t : ℕ) → put-in-base-lts.Need-digit-requires (K t) (put-in-base-at t) put-in-base.Post
-put-in-base-digit-requires t c κs = omega (arith, mod-lt (c .before .before .before .before .args .x) {m = c .before .before .before .before .args .base} (omega arith))
-
-put-in-base-returns-2 : (t : ℕ) → put-in-base-lts.Need-returns-2 (K t) (put-in-base-at t) put-in-base.Post
-put-in-base-returns-2 t c = filled-same (base-last _ _ _ _ (c .before .before .before .before .before .before .if1 .left) (c .before .before .before .before .before .if2 .taken) (c .before .before .before .digit .ensures)) (c .before .before .put .ensures)
-
-put-in-base-digit-requires-2 : (t : ℕ) → put-in-base-lts.Need-digit-requires-2 (K t) (put-in-base-at t) put-in-base.Post
-put-in-base-digit-requires-2 t c κs = omega (arith, mod-lt (c .before .before .before .args .x) {m = c .before .before .before .args .base} (omega arith))
-
-put-in-base-returns-3 : (t : ℕ) → put-in-base-lts.Need-returns-3 (K t) (put-in-base-at t) put-in-base.Post
-put-in-base-returns-3 t c = filled-same (base-more _ _ _ _ (c .before .before .before .before .before .before .before .before .before .before .if1 .left) (c .before .before .before .before .before .before .before .before .before .if2 .left) (c .before .before .before .before .before .before .before .before .digit2 .ensures)) (filled-both (search needs) (c .before .before .before .before .before .before .put-in-base .ensures) (c .before .before .put2 .ensures))
-
 pub +put-in-base-spec : {M : Type 1} → statement M
 +put-in-base-spec = close μ-put-in-base λ t. put-in-base-lts.spec (K t)
     (put-in-base-at t) put-in-base.Post
-    (λ c κs. search needs) (λ c. search needs) (put-in-base-returns t) (λ c. search needs) (put-in-base-digit-requires t) (λ c κs. search needs)
-    (λ c. search needs) (put-in-base-returns-2 t) (λ c. search needs) (put-in-base-digit-requires-2 t) (λ c. search needs) (λ c. search needs)
-    (λ c κs. search needs) (λ c κs. search needs) (λ c. search needs) (put-in-base-returns-3 t)
+    (λ c κs. search needs) (λ c. search needs)
+    (λ c. filled-same (base-none _ _ _ (c .before .before .if1 .taken)) (filled-nothing (c .place .ensures))) (λ c. search needs)
+    (λ c κs. omega (arith, mod-lt (c .before .before .before .before .args .x) {m = c .before .before .before .before .args .base} (omega arith)))
+    (λ c κs. search needs) (λ c. search needs)
+    (λ c. filled-same (base-last _ _ _ _ (c .before .before .before .before .before .before .if1 .left) (c .before .before .before .before .before .if2 .taken) (c .before .before .before .digit .ensures)) (c .before .before .put .ensures))
+    (λ c. search needs) (λ c κs. omega (arith, mod-lt (c .before .before .before .args .x) {m = c .before .before .before .args .base} (omega arith)))
+    (λ c. search needs) (λ c. search needs) (λ c κs. search needs) (λ c κs. search needs) (λ c. search needs)
+    (λ c. filled-same (base-more _ _ _ _ (c .before .before .before .before .before .before .before .before .before .before .if1 .left) (c .before .before .before .before .before .before .before .before .before .if2 .left) (c .before .before .before .before .before .before .before .before .digit2 .ensures)) (filled-both (search needs) (c .before .before .before .before .before .before .put-in-base .ensures) (c .before .before .put2 .ensures)))

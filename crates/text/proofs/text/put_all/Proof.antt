@@ -15,21 +15,11 @@ Inv-loop buf₀ start text at₀ i₀ buf at i = Putting (λ x. x ∷ []) buf₀
 abbrev μ-loop : tie.MeasureT-loop
 μ-loop buf₀ start text at₀ i₀ buf at i = length text - i
 
-loop-holds : tie.Need-loop-holds Inv-loop μ-loop
-loop-holds c = putting-start _ (c .place .ensures)
-
-loop-again : tie.Need-loop-again Inv-loop μ-loop
-loop-again c = putting-turn (c .before .before .before .before .before .before .loop .inv) (c .before .before .before .before .before .loop-test .taken) refl (search needs) (c .before .before .put .ensures)
-
-same-length : tie.Need-same-length Inv-loop μ-loop
-same-length c = c .before .loop .inv .long
-
-returns : tie.Need-returns Inv-loop μ-loop
-returns c = filled-same (sym (joined-bytes _)) (putting-end (c .before .loop .inv) (c .loop-test .left))
-
 pub put-all-spec : {M : Type 1} → statement M
 put-all-spec =
     tie.close
     (tie.spec
-    Inv-loop μ-loop (λ c κs. search needs) loop-holds (λ c. search needs) (λ c κs. search needs) (λ c. search needs) (λ c. search needs) loop-again
-    same-length returns)
+    Inv-loop μ-loop (λ c κs. search needs) (λ c. putting-start _ (c .place .ensures)) (λ c. search needs) (λ c κs. search needs) (λ c. search needs)
+    (λ c. search needs)
+    (λ c. putting-turn (c .before .before .before .before .before .before .loop .inv) (c .before .before .before .before .before .loop-test .taken) refl (search needs) (c .before .before .put .ensures))
+    (λ c. c .before .loop .inv .long) (λ c. filled-same (sym (joined-bytes _)) (putting-end (c .before .loop .inv) (c .loop-test .left))))

@@ -4,9 +4,6 @@ use Rattle.verdicts.specs.Held.{judgementOf, heldIn, answerOf, inFour}
 use Rattle.verdicts.proofs.calls.refused.Statement.{statement}
 use Rattle.verdicts.proofs.calls.refused.Tie as tie
 
-returns : tie.Need-returns
-unfolding judgementOf heldIn answerOf inFour
-returns c = (λ k. refl, refl)
-
 pub refused-spec : {M : Type 1} → statement M
-refused-spec = tie.close (tie.spec returns)
+unfolding judgementOf heldIn answerOf inFour
+refused-spec = tie.close (tie.spec (λ c. (λ k. refl, refl)))

@@ -1,10 +1,10 @@
 -- A drive of the frame, two tests.
-use Rattle.drive_sets.specs.Bools.{and-first, and-second}
-use Rattle.drive_states.specs.State.{isDrive}
 use lib.Dec.{leb}
 use borrow.Author.Tests.{le-leb, lt-leb}
-use Rattle.exchange.proofs.is_drive.Statement.{statement}
-use Rattle.exchange.proofs.is_drive.Tie as tie
+use Rattle.drive_sets.specs.Bools.{and-first, and-second}
+use Rattle.drive_sets.specs.Counts.{isDrive}
+use Rattle.drive_sets.proofs.is_drive.Statement.{statement}
+use Rattle.drive_sets.proofs.is_drive.Tie as tie
 
 returns : tie.Need-returns
 unfolding isDrive
@@ -15,4 +15,7 @@ unfolding isDrive
 returns-2 c = let a = c .before .args in and-first (leb 1 (a .d .0)) (leb (a .d .0) (a .n)) (lt-leb 1 (a .d .0) (c .if1 .left))
 
 pub is-drive-spec : {M : Type 1} → statement M
-is-drive-spec = tie.close (tie.spec returns returns-2)
+is-drive-spec =
+    tie.close
+    (tie.spec
+    returns returns-2)

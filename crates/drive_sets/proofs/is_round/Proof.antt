@@ -1,13 +1,13 @@
 -- A round of the exchange, two tests.
 use mathlib.Core.Path.{ap, _∙_}
-use borrow.Author.Tests.{le-leb, lt-leb}
 use lib.Dec.{leb}
-use Rattle.runs.specs.CrashRecords.{isRound}
-use Rattle.drive_sets.specs.Masks.{size}
+use borrow.Author.Tests.{le-leb, lt-leb}
 use Rattle.drive_sets.specs.Bools.{and-first, and-second}
+use Rattle.drive_sets.specs.Masks.{size}
+use Rattle.drive_sets.specs.Counts.{isRound}
 use borrow.Author.Needs.{needs}
-use Rattle.run_files.proofs.crashes.is_round.Statement.{statement}
-use Rattle.run_files.proofs.crashes.is_round.Tie as tie
+use Rattle.drive_sets.proofs.is_round.Statement.{statement}
+use Rattle.drive_sets.proofs.is_round.Tie as tie
 
 returns : tie.Need-returns
 unfolding isRound
@@ -18,4 +18,7 @@ unfolding isRound
 returns-2 c = let a = c .before .before .args in and-first (leb 1 (a .round .0)) (leb (a .round .0) (size (a .core))) (lt-leb 1 (a .round .0) (c .if1 .left))
 
 pub is-round-spec : {M : Type 1} → statement M
-is-round-spec = tie.close (tie.spec (λ c κs. search needs) (λ c. search needs) returns returns-2)
+is-round-spec =
+    tie.close
+    (tie.spec
+    (λ c κs. search needs) (λ c. search needs) returns returns-2)

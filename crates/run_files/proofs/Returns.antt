@@ -1,0 +1,22 @@
+-- What the returns of the run file reader share.
+use mathlib.Core.Path.{_≡_, refl, sym, _∙_}
+use Prim.Native.Nat.{ℕ, _-_}
+use native.Mathlib.Omega.{arith}
+use Rattle.drive_sets.specs.Bools.{cond-true, cond-false, by-test}
+use Rattle.drive_sets.specs.Refusals.{result, andThen}
+use Rattle.tables.specs.declared.reading.Answer.{Answer}
+use Rattle.tables.specs.declared.reading.Answer.the-variants as answers
+use Rattle.tables.specs.Reading.{outcomeOf}
+use Rattle.runs.specs.CrashRecords.{mostSends}
+use Rattle.drive_sets.specs.Masks.{has}
+
+-- no drives, no sends
+pub most-none : (n core d : ℕ) → n ≡ 0 → 0 ≡ mostSends n core d
+unfolding mostSends
+most-none n core d e =
+    by-test (has d core) (λ h. let none : 0 ≡ n - 1 = omega arith in none ∙ sym (cond-true (n - 1) 0 h)) (λ h. sym (cond-false (n - 1) 0 h))
+
+-- an answer's outcome, made of another
+pub outcome-made : {A B : Type 0} (a : Answer) (x : A) (f : A → B) → outcomeOf a (f x) ≡ andThen (outcomeOf a x) (λ y. result (f y))
+outcome-made (answers.Refused r) x f = refl
+outcome-made answers.Accepted x f = refl
