@@ -15,7 +15,8 @@ use Rattle.drive_sets.specs.Masks.Tests.{setOf}
 use Rattle.drive_states.specs.declared.Exchange.{Exchange}
 use Rattle.drive_states.specs.declared.Announcement.{Announcement}
 use Rattle.drive_states.specs.declared.Announcement.the-variants.{Absent, By}
-use Rattle.drive_states.specs.State.{pattern, patternLimit}
+use Rattle.drive_states.specs.State.{pattern}
+use Rattle.drive_sets.specs.Limits.{patternLimit}
 use Rattle.drive_states.specs.Messages.{Content, decided, Message, knownOf, messageBytes}
 use Rattle.agreement.specs.Calls.{decisionOn}
 use Rattle.sync_crash.specs.Rounds.{Instance, InFrame, knows, before, decision}

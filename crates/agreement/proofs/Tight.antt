@@ -28,7 +28,7 @@ use Rattle.set_orders.specs.Order.{normal}
 use Rattle.tables.specs.Tables.{chosen, normalTable}
 use Rattle.tables.specs.Tables.Laws.{Accepted, ChosenCore, table-accepted, chosen-core}
 use Rattle.drive_sets.specs.Counts.{isDrive}
-use Rattle.drive_states.specs.State.{patternLimit}
+use Rattle.drive_sets.specs.Limits.{patternLimit}
 use Rattle.drive_sets.specs.Counts.Laws.{is-drive}
 use Rattle.sync_crash.specs.Rounds.{StaysUp, decision, DecidesIn}
 use Rattle.sync_crash.specs.Rounds.Bound.{undecided-failures, LostUnheard, undecided-while-losing}

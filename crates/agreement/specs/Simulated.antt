@@ -11,7 +11,7 @@ use Rattle.runs.specs.World.{Call}
 use Rattle.runs.specs.Scenario.{Crash, stays, crashes, Scenario, frame, coreOf}
 use Rattle.agreement.specs.Document01.{Run}
 use Rattle.agreement.specs.Instance.{instanceOf}
-use Rattle.runs.specs.Statement.{Valid, Untouched, Up, Proposed, coreCrashes, Decides, Agreed}
+use Rattle.runs.specs.Statement.{Valid, Untouched, Up, Proposed, lastRound, Decides, Agreed}
 
 -- a drive decides on a pattern number in a round, or not at all; a drive with a CR counts as stopped, even if it decided before
 pub data Ending : Type 0 where
@@ -49,7 +49,7 @@ EveryRunGives = (s : Scenario) → Valid s → (calls : List Call) (run : Run s 
 -- d decides on v in a round up to f + 1
 pub record EndsSoon (s : Scenario) (d v : ℕ) : Type 0 where
   pub round : ℕ
-  pub upTo : round ≤ suc (coreCrashes s)
+  pub upTo : round ≤ lastRound s
   pub ends : endingOf s (s .crash d) d ≡ decides v round
 
 -- where some survivor set is untouched, every drive that stays up decides, on the number on which the drives of every run agree

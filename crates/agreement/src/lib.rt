@@ -1,1 +1,2 @@
-// Demand 3 proved: every run of a scenario follows the rounds of SyncCrash, and so reaches agreement. No code: proofs in specs/.
+// The four calls of document 01, the simulated exchange, and the proof of demand 3: every run of a scenario follows the rounds of SyncCrash, and so
+// reaches agreement. No code: definitions in specs/, proofs in proofs/.

@@ -17,6 +17,9 @@ pub struct Pattern(pub u16);
 
 pub const MAX_DRIVES: u8 = 64;
 
+// How many bytes a pattern number takes.
+pub const PATTERN_BYTES: usize = 2;
+
 // Why a call is refused, by document 01's list; `number` has its numbers.
 pub enum Refusal {
     // From the input.

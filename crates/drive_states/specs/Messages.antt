@@ -15,7 +15,7 @@ use Rattle.records.specs.Fields.{fromBytes, toBytes, fieldAt}
 use Rattle.records.specs.Marks.{mark, isKind, headOf}
 use Rattle.records.specs.RecordLists.{atRecord}
 use Rattle.drive_sets.specs.Counts.{isDrive}
-use Rattle.drive_states.specs.State.{patternWidth}
+use Rattle.drive_sets.specs.Limits.{patternWidth}
 pub mod Laws
 
 -- ---- what a message says

@@ -16,13 +16,6 @@ pub mod Laws
 unfoldable pub inCore : Exchange → Bool
 inCore x = has (x .own .0) (x .core)
 
--- how many bytes a pattern number takes, and the first that does not fit
-abbrev pub patternWidth : ℕ
-patternWidth = 2
-
-abbrev pub patternLimit : ℕ
-patternLimit = 65536
-
 -- the pattern number that is v
 abbrev pub pattern : ℕ → Pattern
 pattern v = record { 0 = v }

@@ -7,9 +7,9 @@ ghost use Rattle.drive_sets.specs.Masks.{has, drives};
 ghost use Rattle.drive_states.specs.Messages.{entriesFrom};
 ghost use Rattle.agreement.specs.Calls.{anyDiffers, stored};
 use drive_sets::Drive;
+use drive_sets::PATTERN_BYTES;
 use drive_sets::Pattern;
 use drive_states::Exchange;
-use messages::PATTERN_BYTES;
 use messages::reading::number_in;
 
 // The drive's number is known, and is another one.
@@ -23,7 +23,7 @@ fn conflicts(d: Drive, known: u64, held: Pattern, v: Pattern) -> bool
 }
 
 // A number of the entries differs from the one known for its drive.
-pub fn any_differs(x: Exchange, mask: u64, s: &[u8]) -> bool
+pub(crate) fn any_differs(x: Exchange, mask: u64, s: &[u8]) -> bool
     ensures { λ r. ⌜ r ≡ anyDiffers x (entriesFrom (drives mask) (drop 12 (now (s .entry)))) ⌝ }
 {
     let numbers = x.numbers;
@@ -44,7 +44,7 @@ pub fn any_differs(x: Exchange, mask: u64, s: &[u8]) -> bool
 }
 
 // The pattern numbers with those of the entries.
-pub fn stored(numbers: [Pattern; 64], mask: u64, s: &[u8]) -> [Pattern; 64]
+pub(crate) fn stored(numbers: [Pattern; 64], mask: u64, s: &[u8]) -> [Pattern; 64]
     ensures { λ r. ⌜ r ≡ stored numbers (entriesFrom (drives mask) (drop 12 (now (s .entry)))) ⌝ }
 {
     let mut stored = numbers;

@@ -2,12 +2,9 @@
 // each call gives is defined, and shown to reach agreement, in the crate `agreement`.
 ghost use mathlib.Core.Path.{_≡_};
 ghost use mathlib.Core.Bool.{not, _&&_};
-ghost use lib.Dec.{leb};
-ghost use Rattle.drive_sets.specs.Masks.{has, subset, size};
-ghost use Rattle.drive_sets.specs.Counts.{isDrive};
+ghost use Rattle.drive_sets.specs.Masks.{has, subset};
 ghost use Rattle.drive_states.specs.State.{broken};
 use drive_sets::Drive;
-use drive_sets::Round;
 use drive_states::Exchange;
 use tables::reading::Answer;
 

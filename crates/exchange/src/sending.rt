@@ -5,11 +5,11 @@ ghost use Rattle.records.specs.Fields.{written};
 ghost use Rattle.records.specs.LentBuffers.{fitting, Written};
 ghost use Rattle.drive_states.specs.Messages.{messageBytes};
 ghost use Rattle.agreement.specs.Calls.{outgoing, sending};
+use drive_sets::PATTERN_BYTES;
 use drive_sets::Refusal;
 use drive_states::Decision;
 use drive_states::Exchange;
 use messages::DECIDE_BYTES;
-use messages::PATTERN_BYTES;
 use messages::writing;
 use records::Writing;
 

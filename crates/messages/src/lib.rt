@@ -1,6 +1,5 @@
 // The messages of an exchange as bytes: the fields of one that is read, and one that is written.
-// How many bytes a pattern number takes.
-pub const PATTERN_BYTES: usize = 2;
+use drive_sets::PATTERN_BYTES;
 
 // How long a DC is.
 pub const DECIDE_BYTES: usize = 4 + PATTERN_BYTES;

@@ -23,7 +23,7 @@ use Rattle.records.specs.Marks.{bodyWidth, isDue}
 use Rattle.records.specs.RecordLists.{nextOf, ReadList, widthOf, stepOf, readList}
 use Rattle.records.specs.RecordLists.Laws.{OwnKind, other-kind, one-whole}
 use Rattle.records.proofs.Lists.{first-byte, Reading, reading-start, reading-stop, reading-end, end-within, step-taken, reading-turn}
-use Rattle.tables.specs.Tables.{maxDrives}
+use Rattle.drive_sets.specs.Limits.{maxDrives}
 use Rattle.run_files.specs.declared.crashes.Crashes.{Crashes}
 use Rattle.run_files.specs.declared.crash_records.Step.{Step}
 use Rattle.run_files.specs.declared.crash_records.Step.the-variants.{Crash, End, Stop}

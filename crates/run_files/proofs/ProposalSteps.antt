@@ -22,7 +22,7 @@ use Rattle.records.specs.Marks.Laws.{kind-is}
 use Rattle.records.specs.RecordLists.{nextOf, widthOf, stepOf, readList}
 use Rattle.records.specs.RecordLists.Laws.{OwnKind, other-next, one-whole}
 use Rattle.records.proofs.Lists.{first-byte, Reading, reading-start, reading-complete, reading-stop, reading-turn}
-use Rattle.tables.specs.Tables.{maxDrives}
+use Rattle.drive_sets.specs.Limits.{maxDrives}
 use Rattle.run_files.specs.declared.proposals.Proposal.{Proposal}
 use Rattle.run_files.specs.declared.proposals.Proposal.the-variants.{Number, Stop}
 use Rattle.run_files.specs.RunFiles.{proposalList}

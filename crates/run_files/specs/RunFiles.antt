@@ -14,6 +14,7 @@ use Rattle.records.specs.Fields.{fieldAt}
 use Rattle.records.specs.RecordLists.{ListFormat, readList}
 use Rattle.tables.specs.Tables.{isEmpty, chosenCore}
 use Rattle.runs.specs.CrashRecords.{CrashRecord, crashed, checkedCrash}
+use Rattle.drive_sets.specs.Limits.{patternWidth}
 pub mod Laws
 pub mod Accepted
 
@@ -33,7 +34,7 @@ crashOf (c ∷ cs) d = cond (eqb (c .drive) d) (some c) (crashOf cs d)
 unfoldable pub takenProposal : List ℕ → List ℕ → Outcome (List ℕ)
 takenProposal given s =
     refuseIf (not (eqb (fieldAt 2 1 s) (suc (length given)))) DriveNumber
-    (result (given ++ (fieldAt 3 2 s ∷ [])))
+    (result (given ++ (fieldAt 3 patternWidth s ∷ [])))
 
 -- the PR records, with the numbers given so far; they end with drive n's
 abbrev pub proposalList : ℕ → ListFormat (List ℕ)

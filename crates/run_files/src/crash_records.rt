@@ -5,7 +5,7 @@ ghost use lib.ListN.{length};
 ghost use Rattle.records.specs.RecordLists.{stepOf, readList};
 ghost use Rattle.run_files.specs.RunFiles.{CrashList, noCrash, crashList};
 ghost use Rattle.run_files.specs.Reading.{stepOutcome, withCrash, crashesOutcome};
-ghost use Rattle.tables.specs.Tables.{maxDrives};
+ghost use Rattle.drive_sets.specs.Limits.{maxDrives};
 use crate::crashes::Crashes;
 use crate::crashes::check_crash;
 use drive_sets::Drive;
@@ -54,7 +54,7 @@ fn next_step(s: &[u8], n: u8, core: u64, last: Drive, count: usize) -> Step
 }
 
 // No crash.
-pub fn none() -> Crashes
+pub(crate) fn none() -> Crashes
     ensures { λ r. ⌜ (r .crashed ≡ 0) × (length (r .rounds) ≡ 64) × (length (r .sends) ≡ 64) ⌝ }
 {
     Crashes {
@@ -93,7 +93,7 @@ fn note(c: Crashes, drive: Drive, round: Round, made: u8) -> Crashes
 }
 
 // The records after drive n's PR.
-pub fn read_crashes(s: &[u8], n: u8, core: u64) -> CrashesRead
+pub(crate) fn read_crashes(s: &[u8], n: u8, core: u64) -> CrashesRead
     requires { ⌜ n ≤ maxDrives ⌝ }
     ensures { λ r. ⌜ crashesOutcome r (now (s .entry)) ≡ readList (crashList n core) noCrash (now (s .entry)) ⌝ }
     ensures within { λ r. ⌜ r .used ≤ length (now (s .entry)) ⌝ }

@@ -7,8 +7,9 @@ ghost use Rattle.records.specs.Fields.{fieldAt};
 ghost use Rattle.records.specs.RecordLists.{stepOf, readList};
 ghost use Rattle.run_files.specs.RunFiles.{proposalList};
 ghost use Rattle.run_files.specs.Reading.{proposalOutcome, proposalsOutcome};
-ghost use Rattle.tables.specs.Tables.{maxDrives};
+ghost use Rattle.drive_sets.specs.Limits.{maxDrives, patternWidth};
 use drive_sets::Drive;
+use drive_sets::PATTERN_BYTES;
 use drive_sets::Pattern;
 use drive_sets::Refusal;
 use records::Due;
@@ -41,9 +42,9 @@ fn refused(r: Refusal) -> Proposals
 
 // The pattern number of the PR at the start of the bytes.
 fn pattern_at(s: &[u8]) -> Pattern
-    ensures { λ r. ⌜ r .0 ≡ fieldAt 3 2 (now (s .entry)) ⌝ }
+    ensures { λ r. ⌜ r .0 ≡ fieldAt 3 patternWidth (now (s .entry)) ⌝ }
 {
-    Pattern(records::field(s, 3, 2) as u16)
+    Pattern(records::field(s, 3, PATTERN_BYTES) as u16)
 }
 
 // The record at the start of the bytes, where the PR of this drive is due.
@@ -64,7 +65,7 @@ fn next_proposal(s: &[u8], due: Drive) -> Proposal
 }
 
 // The PR of drives 1 to n.
-pub fn read_proposals(s: &[u8], n: u8) -> Proposals
+pub(crate) fn read_proposals(s: &[u8], n: u8) -> Proposals
     requires { ⌜ n ≤ maxDrives ⌝ }
     ensures { λ r. ⌜ (proposalsOutcome n r (now (s .entry)) ≡ readList (proposalList n) [] (now (s .entry))) × (r .used ≤ length (now (s .entry))) ⌝ }
 {

@@ -4,7 +4,7 @@ ghost use Prim.Native.Nat.{_≤_};
 ghost use lib.ListN.{length};
 ghost use Rattle.run_files.specs.RunFiles.{readRecords, readBehind, readRunFile};
 ghost use Rattle.run_files.specs.Reading.{recordsOutcome, runFileOutcome};
-ghost use Rattle.tables.specs.Tables.{maxDrives};
+ghost use Rattle.drive_sets.specs.Limits.{maxDrives};
 use crate::crash_records;
 use crate::crashes::Crashes;
 use crate::proposals;

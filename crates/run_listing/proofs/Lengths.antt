@@ -20,6 +20,7 @@ use Rattle.text.specs.declared.Base.the-variants.{Decimal, Hexadecimal}
 use Rattle.text.specs.Text.{named, line}
 use Rattle.text.proofs.Lengths.{named-length, line-length, refusal-length}
 use Rattle.run_listing.specs.RunListing.{endingText, driveLine, endingLines, coreLine, runText, simulatedWith, simulatedFile, runProgram}
+use Rattle.drive_sets.specs.Limits.{maxText}
 
 ending-length : (e : Ending) → length (endingText e) ≤ 56
 unfolding endingText ascii
@@ -54,11 +55,11 @@ unfolding endings frame
 endings-count s = length-map (frame s) (λ d. endingOf s (s .crash d) d) ∙ length-range 1 (s .n)
 
 -- the text of the run program, whatever its input
-pub run-program-length : (input : List ℕ) → length (runProgram input) ≤ 32768
+pub run-program-length : (input : List ℕ) → length (runProgram input) ≤ maxText
 unfolding runProgram simulatedWith simulatedFile scenario
 run-program-length input = go (simulatedFile input) refl
   where
-    go : (o : Outcome Simulated) → simulatedFile input ≡ o → length (runText o) ≤ 32768
+    go : (o : Outcome Simulated) → simulatedFile input ≡ o → length (runText o) ≤ maxText
     go (refused r) e = refusal-length (number r)
     go (result r) e =
         let table = first-result (readTable input) _ e in

@@ -5,6 +5,7 @@ ghost use Rattle.tables.specs.Reading.{setsOf};
 ghost use Rattle.simulation.specs.Endings.{simulatedOutcome};
 ghost use Rattle.run_listing.specs.RunListing.{runText, simulatedWith, runProgram};
 ghost use Rattle.text.specs.Printing.{Printed};
+ghost use Rattle.drive_sets.specs.Limits.{maxDrives, maxSets};
 use crate::run_text::put_core_line;
 use crate::run_text::put_drives;
 use records::Writing;
@@ -51,7 +52,7 @@ fn put_run_file(buf: &mut [u8], n: u8, sets: &[u64], rest: &[u8]) -> usize
 
 // The same for a table that was read.
 fn put_behind(buf: &mut [u8], table: Table, rest: &[u8]) -> usize
-    requires { ⌜ (table .n ≤ 64) × (table .count ≤ 128) ⌝ }
+    requires { ⌜ (table .n ≤ maxDrives) × (table .count ≤ maxSets) ⌝ }
     ensures { λ r. ⌜ Filled (now (buf .entry)) (now (buf .exit)) 0 r (runText (simulatedWith (table .n) (setsOf table) (now (rest .entry)))) ⌝ }
 {
     let n = table.n;

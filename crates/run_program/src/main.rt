@@ -4,10 +4,11 @@
 // Input behind the first 4096 bytes changes nothing (`run-program-prefix` in run_listing), and is left unread.
 use libc::STDIN_FILENO;
 use libc::STDOUT_FILENO;
+use text::printing::MAX_INPUT;
 use text::printing::MAX_TEXT;
 
 fn main() {
-    let mut input = [0u8; 4096];
+    let mut input = [0u8; MAX_INPUT];
     let n = io::read_full(STDIN_FILENO, &mut input);
     let mut text = [0u8; MAX_TEXT];
     let w = run_listing::programs::run_listing(&input[..n], &mut text, 0);

@@ -2,10 +2,10 @@
 use mathlib.Core.Bool.{Bool, not, _&&_, cond}
 use mathlib.Core.List.{List, [], _∷_, map}
 use Prim.Native.Nat.{ℕ, _-_}
-use lib.Dec.{eqb, leb, ltb}
+use lib.Dec.{eqb, ltb}
 use lib.ListN.{getD}
 use Rattle.drive_sets.specs.declared.Refusal.the-variants.{DriveNumber, CrashRound, CrashSends}
-use Rattle.drive_sets.specs.Masks.{has, size, ofDrives}
+use Rattle.drive_sets.specs.Masks.{has, ofDrives}
 use Rattle.drive_sets.specs.Refusals.{Outcome, result, refuseIf}
 use Rattle.drive_sets.specs.Counts.{isDrive, isRound}
 use Rattle.runs.specs.Scenario.{Crash, stays, crashes, Scenario}

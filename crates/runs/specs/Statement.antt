@@ -12,7 +12,8 @@ use Rattle.set_orders.specs.Order.{normal}
 use Rattle.tables.specs.Tables.{chosen, normalTable}
 use Rattle.drive_states.specs.declared.Decision.the-variants.{Decided}
 use Rattle.drive_sets.specs.Counts.{isDrive}
-use Rattle.drive_states.specs.State.{isDecided, patternLimit}
+use Rattle.drive_states.specs.State.{isDecided}
+use Rattle.drive_sets.specs.Limits.{patternLimit}
 use Rattle.runs.specs.Protocol.{Protocol}
 use Rattle.runs.specs.World.{Call, opens, sends, delivers, closes, World, nothingOpen, apply, applyAll, decisionOf, roundIn}
 use Rattle.runs.specs.Scenario.{Scenario, stays, crashes, coreOf, hasCrash}

@@ -16,7 +16,7 @@ use Rattle.runs.specs.Scenario.{Scenario, coreOf}
 use Rattle.agreement.specs.Simulated.{Ending, decides, undecided, stopped}
 use Rattle.agreement.specs.Canonical.{openingCalls, roundCalls, roundsFrom, canonicalRounds, endingOn, firstDecision, canonicalEnding}
 use Rattle.run_files.specs.declared.crashes.Crashes.{Crashes}
-use Rattle.simulation.specs.declared.simulating.Found.{Found}
+use Rattle.simulation.specs.declared.simulating.Notes.{Notes}
 use Rattle.simulation.specs.States.{stateAt, worldOf, Says}
 use Rattle.simulation.specs.Endings.{foundOf, orLater}
 use Rattle.simulation.proofs.Worlds.{world-at}
@@ -55,12 +55,12 @@ module _ (s : Scenario) (d : ℕ) where
 
 module _ (n core : ℕ) (c : Crashes) (states₀ : List Exchange) where
   -- so many rounds are done
-  pub record Running (states : List Exchange) (found : Found) (done : ℕ) : Type 0 where
+  pub record Running (states : List Exchange) (found : Notes) (done : ℕ) : Type 0 where
     pub upTo : done ≤ size core
     pub same : (s : Scenario) → Says n core c s → (d : ℕ) → isDrive n d ≡ true
         → orLater (foundOf found d) (given s d (size core - done) (suc done) (worldOf n states)) ≡ given s d (size core) 1 (worldOf n states₀)
 
-  pub run-start : (found : Found) → ((d : ℕ) → foundOf found d ≡ undecided) → Running states₀ found 0
+  pub run-start : (found : Notes) → ((d : ℕ) → foundOf found d ≡ undecided) → Running states₀ found 0
   unfolding orLater
   run-start found none = record {
     upTo = omega arith;
@@ -69,7 +69,7 @@ module _ (n core : ℕ) (c : Crashes) (states₀ : List Exchange) where
         ap₂ (λ (e : Ending) (k : ℕ). orLater e (given s d k 1 (worldOf n states₀))) (none d) whole;
   }
 
-  pub run-turn : (states next : List Exchange) (found noted : Found) (done : ℕ) → Running states found done → done < size core
+  pub run-turn : (states next : List Exchange) (found noted : Notes) (done : ℕ) → Running states found done → done < size core
       → ((s : Scenario) → Says n core c s → worldOf n next ≡ applyAll (worldOf n states) (roundCalls s (done + 1) (worldOf n states)))
       → ((d : ℕ) → isDrive n d ≡ true → foundOf noted d ≡ orLater (foundOf found d) (endingOn (stateAt next d .decision) (done + 1) undecided))
       → Running next noted (done + 1)
@@ -87,7 +87,7 @@ module _ (n core : ℕ) (c : Crashes) (states₀ : List Exchange) where
           (made s t ∙ ap (λ (r : ℕ). applyAll (worldOf n states) (roundCalls s r (worldOf n states))) (add-one done))
           ∙ (ap (λ (j : ℕ). orLater (foundOf found d) (given s d j (suc done) (worldOf n states))) more ∙ g .same s t d i))
 
-  pub run-end : (states : List Exchange) (found : Found) (done : ℕ) → Running states found done → size core ≤ done
+  pub run-end : (states : List Exchange) (found : Notes) (done : ℕ) → Running states found done → size core ≤ done
       → (s : Scenario) → Says n core c s → (d : ℕ) → isDrive n d ≡ true → foundOf found d ≡ given s d (size core) 1 (worldOf n states₀)
   unfolding firstDecision roundsFrom
   run-end states found done g h s t d i =

@@ -9,7 +9,7 @@ use denote.Shadow.{shadow}
 use Rattle.drive_sets.specs.declared.Pattern.{Pattern}
 use Rattle.drive_sets.proofs.Pattern as pattern
 use Rattle.simulation.specs.States.{noPattern}
-use Rattle.drive_states.specs.State.{patternLimit}
+use Rattle.drive_sets.specs.Limits.{patternLimit}
 
 pub patterns-below : (numbers : List Pattern) (us : List Val) → shadow (each Pattern (pattern.the-row .own) numbers us) → (i : ℕ) → getD numbers i noPattern .0 < patternLimit
 patterns-below [] us p i = omega arith

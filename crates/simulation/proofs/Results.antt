@@ -23,7 +23,7 @@ use Rattle.set_orders.specs.Order.{normal}
 use Rattle.tables.specs.Tables.{chosen, normalTable, chosenCore}
 use Rattle.tables.specs.Tables.Laws.{Accepted, accepted-table, core-given, chosen-core}
 use Rattle.drive_sets.specs.Counts.{isDrive}
-use Rattle.drive_states.specs.State.{patternLimit}
+use Rattle.drive_sets.specs.Limits.{patternLimit}
 use Rattle.drive_sets.specs.Counts.Laws.{drive-bounds, isDrive-range}
 use Rattle.runs.specs.Scenario.{Crash, stays, crashes, Scenario, frame, coreOf, hasCrash}
 use Rattle.runs.specs.CrashRecords.{CrashRecord, crashed, crashIn, scenario}

@@ -9,7 +9,7 @@ use Rattle.drive_sets.specs.Refusals.{Outcome}
 use Rattle.tables.specs.Reading.{outcomeOf}
 use Rattle.agreement.specs.Simulated.{Ending, decides, undecided, stopped}
 use Rattle.run_files.specs.Reading.{roundAt}
-use Rattle.simulation.specs.declared.simulating.Found.{Found}
+use Rattle.simulation.specs.declared.simulating.Notes.{Notes}
 use Rattle.simulation.specs.declared.simulating.Simulated as answers
 use Rattle.simulation.specs.Simulation.{Simulated}
 use Rattle.simulation.specs.States.{numberAt}
@@ -18,7 +18,7 @@ use Rattle.simulation.specs.States.{numberAt}
 unfoldable pub endingBy : ℕ → ℕ → Ending
 endingBy round number = cond (eqb round 0) undecided (decides number round)
 
-unfoldable pub foundOf : Found → ℕ → Ending
+unfoldable pub foundOf : Notes → ℕ → Ending
 foundOf f d = endingBy (roundAt (f .rounds) d) (numberAt (f .numbers) d)
 
 -- the first decision counts

@@ -24,7 +24,7 @@ fn check_one(n: u8, core: u64, last: Drive, d: Drive, crashes: Crashes) -> Answe
 }
 
 // The first refusal that a crash meets.
-pub fn check_all(n: u8, core: u64, crashes: Crashes) -> Answer
+pub(crate) fn check_all(n: u8, core: u64, crashes: Crashes) -> Answer
     ensures { λ r. ⌜ outcomeOf r (crashesIn crashes) ≡ checkedCrashes n core 0 (crashesIn crashes) (result (crashesIn crashes)) ⌝ }
 {
     let mut rest = crashes.crashed;

@@ -37,7 +37,7 @@ fn closed(was: Exchange, x: Exchange, crashes: Crashes, d: Drive, round: Round) 
 }
 
 // The states after the closes of the drives 1 to n, where the round began with the states `began`.
-pub fn close_all(
+pub(crate) fn close_all(
     began: [Exchange; 64],
     states: [Exchange; 64],
     n: u8,

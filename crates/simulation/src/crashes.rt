@@ -13,7 +13,7 @@ use drive_sets::Round;
 use run_files::crashes::Crashes;
 
 // The round at a drive's place.
-pub fn round_at(rounds: [Round; 64], d: Drive) -> Round
+pub(crate) fn round_at(rounds: [Round; 64], d: Drive) -> Round
     requires { ⌜ (1 ≤ d .0) × (d .0 ≤ 64) ⌝ }
     ensures { λ r. ⌜ r .0 ≡ roundAt rounds (d .0) ⌝ }
 {
@@ -24,7 +24,7 @@ pub fn round_at(rounds: [Round; 64], d: Drive) -> Round
 }
 
 // The sends at a drive's place.
-pub fn sends_at(sends: [u8; 64], d: Drive) -> u8
+pub(crate) fn sends_at(sends: [u8; 64], d: Drive) -> u8
     requires { ⌜ (1 ≤ d .0) × (d .0 ≤ 64) ⌝ }
     ensures { λ r. ⌜ r ≡ getD sends (d .0 - 1) 0 ⌝ }
 {
@@ -33,7 +33,7 @@ pub fn sends_at(sends: [u8; 64], d: Drive) -> u8
 }
 
 // A CR for an earlier round.
-pub fn gone_before(crashes: Crashes, d: Drive, round: Round) -> bool
+pub(crate) fn gone_before(crashes: Crashes, d: Drive, round: Round) -> bool
     ensures { λ r. ⌜ r ≡ goneBefore (crashAt crashes (d .0)) (round .0) ⌝ }
 {
     if !drive_sets::has(d, crashes.crashed) {
@@ -45,7 +45,7 @@ pub fn gone_before(crashes: Crashes, d: Drive, round: Round) -> bool
 }
 
 // A CR for this round or an earlier one.
-pub fn gone_by(crashes: Crashes, d: Drive, round: Round) -> bool
+pub(crate) fn gone_by(crashes: Crashes, d: Drive, round: Round) -> bool
     ensures { λ r. ⌜ r ≡ goneBy (crashAt crashes (d .0)) (round .0) ⌝ }
 {
     if !drive_sets::has(d, crashes.crashed) {
@@ -57,7 +57,7 @@ pub fn gone_by(crashes: Crashes, d: Drive, round: Round) -> bool
 }
 
 // How many sends of this round's list the drive makes; 64, which no list is longer than, where it has no CR for this round.
-pub fn sends_made(crashes: Crashes, d: Drive, round: Round) -> u8
+pub(crate) fn sends_made(crashes: Crashes, d: Drive, round: Round) -> u8
     ensures { λ r. ⌜ ((l : List ℕ) → length l ≤ 64 → cut (crashAt crashes (d .0)) (round .0) l ≡ take r l) ⌝ }
 {
     if !drive_sets::has(d, crashes.crashed) {

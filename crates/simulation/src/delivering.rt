@@ -7,7 +7,7 @@ ghost use Rattle.drive_sets.specs.Masks.{size, drives};
 ghost use Rattle.agreement.specs.Calls.{sending};
 ghost use Rattle.runs.specs.World.{delivers};
 ghost use Rattle.agreement.specs.Document01.{applyAll};
-ghost use Rattle.agreement.specs.Canonical.{deliveries};
+ghost use Rattle.agreement.specs.Canonical.{room, deliveries};
 ghost use Rattle.simulation.specs.States.{worldOf, listFor};
 use drive_sets::Drive;
 use drive_states::Exchange;
@@ -69,7 +69,7 @@ fn deliver(
 }
 
 // A sender's message to the first drives of its list; none where the send is refused.
-pub fn send_from(
+pub(crate) fn send_from(
     x: Exchange,
     states: [Exchange; 64],
     n: u8,
@@ -78,7 +78,7 @@ pub fn send_from(
     sends: u8,
 ) -> [Exchange; 64]
     requires { ⌜ (n ≤ 64) × (core < 2 ^ n) ⌝ }
-    ensures { λ r. ⌜ worldOf n r ≡ applyAll (worldOf n states) (deliveries (sending x 140 0) (take sends (listFor n core (own .0)))) ⌝ }
+    ensures { λ r. ⌜ worldOf n r ≡ applyAll (worldOf n states) (deliveries (sending x room 0) (take sends (listFor n core (own .0)))) ⌝ }
 {
     let mut buf = [0u8; LONGEST];
     let written = exchange::sending::send(x, &mut buf, 0);

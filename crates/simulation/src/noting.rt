@@ -7,7 +7,7 @@ ghost use Rattle.agreement.specs.Simulated.{undecided};
 ghost use Rattle.agreement.specs.Canonical.{endingOn};
 ghost use Rattle.simulation.specs.States.{stateAt};
 ghost use Rattle.simulation.specs.Endings.{endingBy, foundOf, orLater};
-use crate::simulating::Found;
+use crate::simulating::Notes;
 use drive_sets::Pattern;
 use drive_sets::Round;
 use drive_states::Decision;
@@ -20,10 +20,10 @@ struct First {
 }
 
 // Nothing found yet.
-pub fn nothing() -> Found
+pub(crate) fn nothing() -> Notes
     ensures { λ r. ⌜ ((d : ℕ) → foundOf r d ≡ undecided) ⌝ }
 {
-    Found {
+    Notes {
         rounds: [Round(0); 64],
         numbers: [Pattern(0); 64],
     }
@@ -47,7 +47,7 @@ fn first_decision(was: Round, number: Pattern, decision: Decision, round: Round)
 }
 
 // What was found of the drives 1 to n, with their states after this round.
-pub fn note_all(found: Found, states: [Exchange; 64], n: u8, round: Round) -> Found
+pub(crate) fn note_all(found: Notes, states: [Exchange; 64], n: u8, round: Round) -> Notes
     requires { ⌜ (n ≤ 64) × (1 ≤ round .0) ⌝ }
     ensures { λ r. ⌜ ((d : ℕ) → isDrive n d ≡ true → foundOf r d ≡ orLater (foundOf found d) (endingOn (stateAt states d .decision) (round .0) undecided)) ⌝ }
 {
@@ -67,5 +67,5 @@ pub fn note_all(found: Found, states: [Exchange; 64], n: u8, round: Round) -> Fo
         numbers[at] = decided;
         i += 1;
     }
-    Found { rounds, numbers }
+    Notes { rounds, numbers }
 }

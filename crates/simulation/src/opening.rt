@@ -10,7 +10,7 @@ use drive_sets::Pattern;
 use drive_states::Exchange;
 
 // The states of the drives 1 to n at opening, where the table has this chosen core.
-pub fn open_all(n: u8, core: u64, numbers: [Pattern; 64]) -> [Exchange; 64]
+pub(crate) fn open_all(n: u8, core: u64, numbers: [Pattern; 64]) -> [Exchange; 64]
     requires { ⌜ n ≤ 64 ⌝ }
     ensures { λ r. ⌜ ((d : ℕ) → isDrive n d ≡ true → stateAt r d ≡ initial n core d (numberAt numbers d)) ⌝ }
 {

@@ -8,7 +8,7 @@ ghost use Rattle.runs.specs.World.{opened, active};
 ghost use Rattle.agreement.specs.Document01.{applyAll};
 ghost use Rattle.runs.specs.Scenario.{Scenario, goneBefore};
 ghost use Rattle.agreement.specs.Sends.{cut};
-ghost use Rattle.agreement.specs.Canonical.{deliveries, roundCalls};
+ghost use Rattle.agreement.specs.Canonical.{room, deliveries, roundCalls};
 ghost use Rattle.simulation.specs.States.{crashAt, worldOf, listFor, messagesOf, Says};
 use crate::closing;
 use crate::crashes;
@@ -42,7 +42,7 @@ fn sent(
     round: Round,
 ) -> [Exchange; 64]
     requires { ⌜ (n ≤ 64) × (core < 2 ^ n) ⌝ }
-    ensures { λ r. ⌜ worldOf n r ≡ applyAll (worldOf n states) (deliveries (sending x 140 0) (cut (crashAt crashes (d .0)) (round .0) (listFor n core (d .0)))) ⌝ }
+    ensures { λ r. ⌜ worldOf n r ≡ applyAll (worldOf n states) (deliveries (sending x room 0) (cut (crashAt crashes (d .0)) (round .0) (listFor n core (d .0)))) ⌝ }
 {
     let sends = crashes::sends_made(crashes, d, round);
     delivering::send_from(x, states, n, core, d, sends)
@@ -74,7 +74,7 @@ fn send_all(
 }
 
 // The states after a round that begins with these.
-pub fn one_round(
+pub(crate) fn one_round(
     states: [Exchange; 64],
     n: u8,
     core: u64,

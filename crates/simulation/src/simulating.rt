@@ -21,7 +21,7 @@ use tables::calls::Chosen;
 use tables::reading::Answer;
 
 // For each drive, drive 1 first, the round in which it decided, 0 where it has not, and the pattern number.
-pub struct Found {
+pub struct Notes {
     pub rounds: [Round; 64],
     pub numbers: [Pattern; 64],
 }
@@ -30,7 +30,7 @@ pub struct Found {
 pub struct Simulated {
     pub answer: Answer,
     pub crashed: u64,
-    pub found: Found,
+    pub found: Notes,
     pub core: u64,
     pub stops: u8,
 }

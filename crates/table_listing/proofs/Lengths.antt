@@ -17,6 +17,7 @@ use Rattle.text.specs.declared.Base.the-variants.{Decimal, Hexadecimal}
 use Rattle.text.specs.Text.{fields, named, line, lines}
 use Rattle.text.proofs.Lengths.{fields-length, named-length, line-length, lines-length, refusal-length}
 use Rattle.table_listing.specs.TableListing.{noPart, verdictLine, verdictLines, listing, listingOf, tableProgram}
+use Rattle.drive_sets.specs.Limits.{maxText, maxCores}
 
 -- a verdict's line with at most four positions and blocks
 verdict-length : (k : ℕ) (v : Verdict) → ((ps blocks : List ℕ) → v ≡ no ps blocks → (length ps ≤ 4) × (length blocks ≤ 4)) → length (verdictLine k v) ≤ 206
@@ -46,7 +47,7 @@ module _ (n : ℕ) (table : List ℕ) (accepted : Accepted n table) where
       let w = no-witness n table accepted k ps blocks e in
       (omega (arith, w .positions .none-shared .positions .count), omega (arith, w .count)))
 
-  listing-length : length (cores table) ≤ 1024 → length (listing n table) ≤ 32768
+  listing-length : length (cores table) ≤ maxCores → length (listing n table) ≤ maxText
   unfolding listing verdictLines ascii
   listing-length few =
       let drives = line (ascii "drives") Decimal n in
@@ -76,13 +77,13 @@ module _ (n : ℕ) (table : List ℕ) (accepted : Accepted n table) where
       )
 
 -- the text of the table program, whatever its input
-pub program-length : (s : List ℕ) → length (tableProgram s) ≤ 32768
+pub program-length : (s : List ℕ) → length (tableProgram s) ≤ maxText
 unfolding tableProgram
 program-length s = go (readWhole s) refl
   where
-    go : (o : Outcome ReadTable) → readWhole s ≡ o → length (listingOf o) ≤ 32768
+    go : (o : Outcome ReadTable) → readWhole s ≡ o → length (listingOf o) ≤ maxText
     go (refused r) e = refusal-length (number r)
     go (result t) e =
         let w = table-read s t (whole-table s t e .0) in
-        subst (λ (l : List ℕ). length (listing (t .n) l) ≤ 32768) (sym (w .2))
+        subst (λ (l : List ℕ). length (listing (t .n) l) ≤ maxText) (sym (w .2))
         (listing-length (t .n) (normal (w .0)) (accepted-normal (t .n) (w .0) (w .1)) (w .1 .few-cores))

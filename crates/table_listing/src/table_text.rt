@@ -7,6 +7,7 @@ ghost use Rattle.tables.specs.Tables.{cores};
 ghost use Rattle.verdicts.specs.Verdicts.{verdictOn};
 ghost use Rattle.verdicts.specs.Held.{verdictOf};
 ghost use Rattle.table_listing.specs.TableListing.{noPart, verdictLine, verdictLines, listing};
+ghost use Rattle.drive_sets.specs.Limits.{maxSets};
 use text::Base;
 use text::lines::put_fields;
 use text::lines::put_line;
@@ -55,7 +56,7 @@ fn put_verdict(buf: &mut [u8], at: usize, k: u8, v: Verdict) -> usize
 
 // The verdict on k of a normal table, and its line.
 fn put_verdict_on(buf: &mut [u8], at: usize, k: u8, n: u8, sets: &[u64]) -> usize
-    requires { ⌜ (2 ≤ k) × (k ≤ 4) × (length (now sets) ≤ 128) ⌝ }
+    requires { ⌜ (2 ≤ k) × (k ≤ 4) × (length (now sets) ≤ maxSets) ⌝ }
     ensures { λ r. ⌜ Filled (now (buf .entry)) (now (buf .exit)) at r (verdictLine k (verdictOn k n (now (sets .entry)))) ⌝ }
 {
     put_verdict(buf, at, k, verdicts::verdict_on(k, n, sets))
@@ -63,7 +64,7 @@ fn put_verdict_on(buf: &mut [u8], at: usize, k: u8, n: u8, sets: &[u64]) -> usiz
 
 // The verdicts on 2, 3 and 4.
 fn put_verdicts(buf: &mut [u8], at: usize, n: u8, sets: &[u64]) -> usize
-    requires { ⌜ length (now sets) ≤ 128 ⌝ }
+    requires { ⌜ length (now sets) ≤ maxSets ⌝ }
     ensures { λ r. ⌜ Filled (now (buf .entry)) (now (buf .exit)) at r (verdictLines n (now (sets .entry))) ⌝ }
 {
     let two = put_verdict_on(buf, at, 2, n, sets);
@@ -83,7 +84,7 @@ fn first(groups: &[u64]) -> u64
 
 // The listing of a normal table, given its cores, from the buffer's first place on.
 pub(crate) fn put_listing(buf: &mut [u8], n: u8, sets: &[u64], groups: &[u64]) -> usize
-    requires { ⌜ (length (now sets) ≤ 128) × (now groups ≡ cores (now sets)) ⌝ }
+    requires { ⌜ (length (now sets) ≤ maxSets) × (now groups ≡ cores (now sets)) ⌝ }
     ensures { λ r. ⌜ Filled (now (buf .entry)) (now (buf .exit)) 0 r (listing n (now (sets .entry))) ⌝ }
 {
     let counted = put_line(buf, 0, b"drives", Base::Decimal, n as u64);

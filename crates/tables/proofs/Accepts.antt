@@ -14,7 +14,8 @@ use Rattle.drive_sets.specs.Refusals.Laws.{first-result, same-result}
 use Rattle.tables.specs.declared.reading.Answer.{Answer}
 use Rattle.tables.specs.declared.reading.Answer.the-variants as answers
 use Rattle.tables.specs.declared.completing.TableWithCores.{TableWithCores}
-use Rattle.tables.specs.Tables.{maxSets, cores, chosen, dual, normalTable, chosenCore}
+use Rattle.drive_sets.specs.Limits.{maxSets}
+use Rattle.tables.specs.Tables.{cores, chosen, dual, normalTable, chosenCore}
 use Rattle.tables.specs.Tables.Laws.{Accepted, table-accepted, sets-word, some-core, accepted-normal}
 use Rattle.set_orders.specs.declared.sorting.Order.the-variants.{ByMask}
 use Rattle.hitting_sets.specs.Hitting.{hits, minimals}

@@ -18,7 +18,8 @@ use Rattle.set_orders.specs.Order.{sort, bySize, precedes, normal, normalWithin
 use Rattle.set_orders.specs.Order.Sort.{length-sort}
 use Rattle.set_orders.specs.Order.Normal.{normalWithin-fits, length-normal}
 use Rattle.tables.specs.declared.reading.Table.{Table}
-use Rattle.tables.specs.Tables.{maxSets, maxCores, isEmpty, cores, withinCoreLimit}
+use Rattle.drive_sets.specs.Limits.{maxSets, maxCores}
+use Rattle.tables.specs.Tables.{isEmpty, cores, withinCoreLimit}
 use Rattle.tables.specs.Files.{ReadTable, accepted}
 use Rattle.tables.specs.Reading.{setsOf}
 use Rattle.tables.specs.Complete.{withCores, completeSets, readWithCores}

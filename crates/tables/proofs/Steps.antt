@@ -23,7 +23,7 @@ use Rattle.records.specs.RecordLists.{ReadList, widthOf, stepOf, readList}
 use Rattle.records.proofs.Lists.{Reading, reading-start, reading-stop, reading-end, end-within, step-taken, reading-turn}
 use Rattle.tables.specs.declared.reading.Step.{Step}
 use Rattle.tables.specs.declared.reading.Step.the-variants.{Set, End, Stop}
-use Rattle.tables.specs.Tables.{maxSets}
+use Rattle.drive_sets.specs.Limits.{maxSets}
 use Rattle.tables.specs.Files.{ReadTable, dueAfter, takenSet, setList, listedTable}
 use Rattle.tables.specs.Files.Laws.{own-set}
 use Rattle.tables.specs.Reading.{stepOutcome}

@@ -5,7 +5,8 @@ use lib.ListN.{length, take, drop}
 use Rattle.drive_sets.specs.Refusals.{Outcome, result, andThen}
 use Rattle.tables.specs.declared.completing.TableWithCores.{TableWithCores}
 use Rattle.tables.specs.declared.files.TableFile.{TableFile}
-use Rattle.tables.specs.Tables.{maxSets, maxCores, cores, withinCoreLimit, normalTable}
+use Rattle.drive_sets.specs.Limits.{maxSets, maxCores}
+use Rattle.tables.specs.Tables.{cores, withinCoreLimit, normalTable}
 use Rattle.tables.specs.Files.{ReadTable, readTable, readWhole}
 use Rattle.tables.specs.Reading.{setsOf, outcomeOf}
 

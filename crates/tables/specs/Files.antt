@@ -13,7 +13,8 @@ use Rattle.records.specs.declared.Due.the-variants.{AtFrame, AtFirstSet, AtSetO
 use Rattle.records.specs.Fields.{fieldAt}
 use Rattle.records.specs.Marks.{mark, headOf, recordBytes}
 use Rattle.records.specs.RecordLists.{atRecord, ListFormat, ReadList, readList, listBytes}
-use Rattle.tables.specs.Tables.{maxSets, isFrame, isSet, isEmpty, withinCoreLimit, normalTable}
+use Rattle.drive_sets.specs.Limits.{maxSets}
+use Rattle.tables.specs.Tables.{isFrame, isSet, isEmpty, withinCoreLimit, normalTable}
 pub mod Laws
 
 -- what is read: the drives, the sets, and the bytes after EN

@@ -10,7 +10,7 @@ use Rattle.tables.specs.declared.reading.Answer.{Answer}
 use Rattle.tables.specs.declared.reading.Answer.the-variants.{Accepted, Refused}
 use Rattle.tables.specs.declared.reading.Table.{Table}
 use Rattle.tables.specs.declared.reading.TableRead.{TableRead}
-use Rattle.tables.specs.Tables.{maxSets}
+use Rattle.drive_sets.specs.Limits.{maxSets}
 use Rattle.tables.specs.Files.{ReadTable}
 
 -- ---- what an answer says

@@ -12,17 +12,8 @@ use Rattle.drive_sets.specs.Masks.{full, subset}
 use Rattle.drive_sets.specs.Refusals.{Outcome, result, refuseIf, andThen}
 use Rattle.hitting_sets.specs.Hitting.{hits, minimals}
 use Rattle.set_orders.specs.Order.{byMask, bySize, sort, normal}
+use Rattle.drive_sets.specs.Limits.{maxDrives, maxSets, maxCores}
 pub mod Laws
-
--- the most drives of a frame, sets of a table and cores of a table
-abbrev pub maxDrives : ℕ
-maxDrives = 64
-
-abbrev pub maxSets : ℕ
-maxSets = 128
-
-abbrev pub maxCores : ℕ
-maxCores = 1024
 
 -- a frame has 1 to 64 drives
 unfoldable pub isFrame : ℕ → Bool
@@ -36,9 +27,13 @@ unfoldable pub isEmpty : List ℕ → Bool
 isEmpty [] = true
 isEmpty (x ∷ l) = false
 
--- the cores, by size, then by mask; the first is the chosen one
+-- the order of the cores: by size, then by mask
+abbrev pub coreOrder : ℕ → ℕ → Bool
+coreOrder = bySize
+
+-- the cores in their order; the first is the chosen one
 unfoldable pub cores : List ℕ → List ℕ
-cores sets = sort bySize (minimals sets)
+cores sets = sort coreOrder (minimals sets)
 
 unfoldable pub chosen : List ℕ → ℕ
 chosen sets = getD (cores sets) 0 0

@@ -7,6 +7,7 @@ ghost use Rattle.drive_sets.specs.Refusals.{refused, andThen};
 ghost use Rattle.tables.specs.Files.{accepted};
 ghost use Rattle.tables.specs.Reading.{readOutcome, ReadWithin};
 ghost use Rattle.tables.specs.Complete.{completeOutcome, readWithCores, readComplete, readWholeComplete, fileOutcome, FileWithin};
+ghost use Rattle.drive_sets.specs.Limits.{maxSets};
 use crate::completing;
 use crate::completing::TableWithCores;
 use crate::reading;
@@ -32,7 +33,7 @@ fn refused_file(r: Refusal) -> TableFile
 
 // What was listed, made complete.
 fn finish(listed: TableRead) -> TableFile
-    requires { ⌜ listed .table .count ≤ 128 ⌝ }
+    requires { ⌜ listed .table .count ≤ maxSets ⌝ }
     ensures { λ t. ⌜ ((s : List ℕ) → fileOutcome t s ≡ andThen (andThen (readOutcome listed s) accepted) readWithCores) ⌝ }
     ensures within { λ t. ⌜ ((s : List ℕ) → ReadWithin listed s → FileWithin t s) ⌝ }
 {

@@ -7,7 +7,7 @@ ghost use Rattle.tables.specs.Files.{tableBytes, writeTable};
 ghost use Rattle.records.specs.declared.Kind.the-variants.{Survivor};
 ghost use Rattle.records.specs.RecordLists.{listBytes};
 ghost use Rattle.records.specs.LentBuffers.{fitting, Written, WrittenIfRoom};
-ghost use Rattle.tables.specs.Tables.{maxSets};
+ghost use Rattle.drive_sets.specs.Limits.{maxSets};
 use crate::completing;
 use crate::reading::Answer;
 use drive_sets::Refusal;

@@ -10,6 +10,7 @@ use Rattle.records.specs.Marks.{ascii}
 use Rattle.text.specs.declared.Base.{Base}
 use Rattle.text.specs.declared.Base.the-variants.{Decimal, Hexadecimal}
 use Rattle.text.specs.Text.{digit, inBase, digits, joined, field, fields, named, line, lines, refusalLine}
+use Rattle.drive_sets.specs.Limits.{maxText}
 
 base-length : (base most x : ℕ) → length (inBase base most x) ≤ most
 unfolding inBase
@@ -48,6 +49,6 @@ pub lines-length : (word : List ℕ) (base : Base) (l : List ℕ) → length (li
 unfolding lines
 lines-length word base l = joined-length (line word base) (line-length word base) l
 
-pub refusal-length : (k : ℕ) → length (refusalLine k) ≤ 32768
+pub refusal-length : (k : ℕ) → length (refusalLine k) ≤ maxText
 unfolding refusalLine ascii
 refusal-length k = omega (arith, line-length (ascii "refused") Decimal k)

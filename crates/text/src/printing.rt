@@ -9,6 +9,9 @@ use records::Writing;
 // No text of a program is longer: 1024 cores and 128 sets take a line of at most 22 bytes each, the rest less than 1024 bytes.
 pub const MAX_TEXT: usize = 32768;
 
+// The bytes of its input that a program reads; what stands behind them changes nothing.
+pub const MAX_INPUT: usize = 4096;
+
 // A text from the starting place on, touching only its own bytes; nothing where it does not fit.
 pub fn print(text: &[u8], out: &mut [u8], start: usize) -> Writing
     ensures { λ r. ⌜ Printed (now (text .entry)) start (now (out .entry)) (now (out .exit)) r ⌝ }

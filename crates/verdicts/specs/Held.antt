@@ -12,6 +12,7 @@ use Rattle.verdicts.specs.declared.Named.{Named}
 use Rattle.verdicts.specs.declared.calls.Judgement.{Judgement}
 use Rattle.verdicts.specs.declared.Verdict.{Verdict as Answer}
 use Rattle.verdicts.specs.Verdicts.{Verdict, yes, no, verdictOn}
+use Rattle.drive_sets.specs.Limits.{maxSets}
 
 -- the verdict on k that an answer holds: yes, or no with the first k positions and blocks
 unfoldable pub verdictOf : Answer → ℕ → Verdict
@@ -41,7 +42,7 @@ foundAt place sets = cond (ltb place sets) (some (suc place ∷ [])) none
 
 -- what the arrays can hold: k 2 to 4, and at most 128 sets
 unfoldable pub fits : ℕ → ℕ → Bool
-fits k sets = leb 2 k && (leb k 4 && leb sets 128)
+fits k sets = leb 2 k && (leb k 4 && leb sets maxSets)
 
 -- The verdict on a normal table, within these bounds; yes outside them, where the call refuses with 12 or 5.
 unfoldable pub verdictWithin : ℕ → ℕ → List ℕ → Verdict

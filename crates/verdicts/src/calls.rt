@@ -7,6 +7,7 @@ ghost use lib.ListN.{length};
 ghost use Rattle.drive_sets.specs.Refusals.{refused, result};
 ghost use Rattle.verdicts.specs.Verdicts.{verdictOn, verdict};
 ghost use Rattle.verdicts.specs.Held.{judgementOf, heldIn};
+ghost use Rattle.drive_sets.specs.Limits.{maxSets};
 use crate::MAX_BLOCKS;
 use crate::MIN_BLOCKS;
 use crate::Verdict;
@@ -42,7 +43,7 @@ fn refused(r: Refusal) -> Judgement
 
 // The verdict on a normal table, as the answer of the call.
 fn on_normal(k: u8, n: u8, table: &[u64]) -> Judgement
-    requires { ⌜ (2 ≤ k) × (k ≤ 4) × (length (now table) ≤ 128) ⌝ }
+    requires { ⌜ (2 ≤ k) × (k ≤ 4) × (length (now table) ≤ maxSets) ⌝ }
     ensures says { λ j. ⌜ judgementOf j k ≡ result (verdictOn k n (now (table .entry))) ⌝ }
     ensures whole { λ j. ⌜ j .verdict ≡ heldIn (result (verdictOn k n (now (table .entry)))) ⌝ }
 {

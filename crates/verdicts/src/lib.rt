@@ -9,6 +9,7 @@ ghost use Rattle.drive_sets.specs.Lists.{elem};
 ghost use Rattle.verdicts.specs.Verdicts.{setsAt, disjoint, blocksOf};
 ghost use Rattle.verdicts.specs.Meaning.{inEvery};
 ghost use Rattle.verdicts.specs.Held.{verdictOf, answerOf, withBlocks, foundIn, foundAt, fits, verdictWithin};
+ghost use Rattle.drive_sets.specs.Limits.{maxSets};
 use set_orders::MAX_SETS;
 
 pub mod calls;
@@ -58,7 +59,7 @@ fn nothing() -> Named
 
 // The first two positions from the place `from` on, not falling, whose sets have no drive of `shared` in common.
 fn first_pair(table: &[u64], from: usize, shared: u64) -> Named
-    requires { ⌜ (from ≤ length (now table)) × (length (now table) ≤ 128) ⌝ }
+    requires { ⌜ (from ≤ length (now table)) × (length (now table) ≤ maxSets) ⌝ }
     ensures { λ r. ⌜ r ≡ foundIn (disjoint 2 (suc from) (drop from (now (table .entry))) shared) ⌝ }
 {
     let mut i = from;
@@ -78,7 +79,7 @@ fn first_pair(table: &[u64], from: usize, shared: u64) -> Named
 // The first k positions from the place `from` on, not falling, whose sets have no drive of `shared` in common. The two innermost loops
 // are those of `first_pair`, one `and` and one test a set. Where the common part is empty already, each loop ends at its first set.
 fn disjoint(k: u8, table: &[u64], from: usize, shared: u64) -> Named
-    requires { ⌜ (2 ≤ k) × (from ≤ length (now table)) × (length (now table) ≤ 128) ⌝ }
+    requires { ⌜ (2 ≤ k) × (from ≤ length (now table)) × (length (now table) ≤ maxSets) ⌝ }
     ensures { λ r. ⌜ r ≡ foundIn (disjoint k (suc from) (drop from (now (table .entry))) shared) ⌝ }
 {
     if k == 2 {

@@ -5,7 +5,7 @@ use Prim.Native.Nat.{ℕ}
 use native.Mathlib.Omega.{arith}
 use Rattle.drive_sets.specs.Lists.{elem}
 use Rattle.agreement.specs.Calls.Evaluated.{evaluated}
-use Rattle.drive_states.specs.Messages.{decided, knownOf, messageBytes}
+use Rattle.drive_states.specs.Messages.{decided, knownOf, messageBytes, longestMessage}
 use Rattle.runs.specs.World.{Call, opens, sends, delivers, closes, driveOf, nothingOpen, put, afterCall, onState, apply, applyAll, isRefused, refusedBy, refusedIn, active, decisionOf}
 use Rattle.runs.specs.Scenario.{frame, coreOf, goneBefore, goneBy, sendsNone}
 use Rattle.agreement.specs.Sends.{listOf, cut, reach}
@@ -26,7 +26,7 @@ openings = opens 1 2 (1 ∷ 2 ∷ []) 1 7 ∷ opens 2 2 (1 ∷ 2 ∷ []) 2 5 ∷
 
 -- a round in which both send, both are told, and both close
 abbrev roundOf : List ℕ → List ℕ → List Call
-roundOf a b = sends 1 140 0 ∷ sends 2 140 0 ∷ delivers 2 a ∷ delivers 1 b ∷ closes 1 ∷ closes 2 ∷ []
+roundOf a b = sends 1 longestMessage 0 ∷ sends 2 longestMessage 0 ∷ delivers 2 a ∷ delivers 1 b ∷ closes 1 ∷ closes 2 ∷ []
 
 abbrev known : ℕ → ℕ → ℕ → List ℕ
 known d round mask = messageBytes (record { sender = d; round = round; content = knownOf mask proposals })
@@ -74,8 +74,8 @@ coreLast-run : Parts coreLast listened
 unfolding runs
 coreLast-run = record {
   first = opens 1 3 (1 ∷ 2 ∷ []) 1 7 ∷ opens 2 3 (1 ∷ 2 ∷ []) 2 5 ∷ opens 3 3 (1 ∷ 2 ∷ []) 3 5 ∷ [];
-  rounds = (sends 1 140 0 ∷ sends 2 140 0 ∷ delivers 3 (known 1 1 1) ∷ delivers 3 (known 2 1 2) ∷ closes 1 ∷ closes 3 ∷ [])
-      ∷ (sends 1 140 0 ∷ closes 1 ∷ [])
+  rounds = (sends 1 longestMessage 0 ∷ sends 2 longestMessage 0 ∷ delivers 3 (known 1 1 1) ∷ delivers 3 (known 2 1 2) ∷ closes 1 ∷ closes 3 ∷ [])
+      ∷ (sends 1 longestMessage 0 ∷ closes 1 ∷ [])
       ∷ [];
   many = refl;
   opensAll = refl;
@@ -117,7 +117,7 @@ refusesAll-rejected = undecided-refutes pair-valid pair-untouched refusesAll-run
 -- ---- (f) and (g), with drive 2 gone in round 1: drive 1 hears fewer than before and has to close round 2
 
 abbrev aloneRounds : List (List Call)
-aloneRounds = (sends 1 140 0 ∷ closes 1 ∷ []) ∷ (sends 1 140 0 ∷ closes 1 ∷ []) ∷ []
+aloneRounds = (sends 1 longestMessage 0 ∷ closes 1 ∷ []) ∷ (sends 1 longestMessage 0 ∷ closes 1 ∷ []) ∷ []
 
 firstRoundOnly-run : Parts firstRoundOnly halfGone
 unfolding runs

@@ -10,7 +10,7 @@ use Rattle.drive_sets.specs.Refusals.{result}
 use Rattle.set_orders.specs.Order.{normal}
 use Rattle.tables.specs.Tables.{chosen, normalTable}
 use Rattle.drive_sets.specs.Counts.{isDrive}
-use Rattle.drive_states.specs.State.{patternLimit}
+use Rattle.drive_sets.specs.Limits.{patternLimit}
 use Rattle.agreement.specs.Calls.Evaluated.{evaluated}
 use Rattle.runs.specs.Scenario.{stays, crashes, Scenario, coreOf}
 use Rattle.runs.specs.Scenario.Laws.{stays-crashes}

@@ -1,4 +1,4 @@
--- Wrong drives: each has the four calls of document 01 but for one or two.
+-- Wrong drives: each has document 01's calls but for those that its comment names.
 use mathlib.Core.Bool.{Bool, true, not, _&&_, cond}
 use mathlib.Core.List.{List, _++_}
 use Prim.Native.Nat.{ℕ, _+_}

@@ -1,1 +1,1 @@
-// Demand 3 proved: every run of a scenario follows the rounds of SyncCrash, and so reaches agreement. No code: proofs in specs/.
+// Wrong drives, of which the statements of demand 3 are false. No code: the drives and scenarios in specs/, what is proved of them in proofs/.

@@ -18,7 +18,7 @@ use Rattle.drive_sets.specs.Masks.Sizes.{size-le, elem-drives}
 use Rattle.drive_sets.specs.Masks.Tests.{setOf, setOf-lt, union-setOf, insert-setOf, subset-setOf}
 use Rattle.drive_sets.specs.Refusals.{result}
 use Rattle.drive_states.specs.declared.Exchange.{Exchange}
-use Rattle.drive_states.specs.State.{patternLimit}
+use Rattle.drive_sets.specs.Limits.{patternLimit}
 use Rattle.drive_sets.specs.Counts.Laws.{isDrive-range}
 use Rattle.drive_states.specs.Messages.{Content, decided, message, maskIn, entriesIn, knownOf, messageBytes, wrongMask}
 use Rattle.drive_states.specs.Messages.Laws.{Written, known-written, decided-written, read-back}

@@ -9,7 +9,7 @@ use lib.Seq.{take-at, drop-at}
 use borrow.Author.Tests.{le-ltb}
 use Rattle.drive_sets.specs.Lists.{elem}
 use Rattle.drive_sets.specs.Lists.Laws.{elem-head, elem-tail}
-use Rattle.drive_sets.specs.Masks.{has, size, drives}
+use Rattle.drive_sets.specs.Masks.{has, drives}
 use Rattle.drive_sets.specs.Masks.Sizes.{size-le, elem-drives, length-drives, drives-none}
 use Rattle.drive_sets.specs.Refusals.{result}
 use Rattle.records.specs.declared.Due.the-variants.{AtMessage}
@@ -23,7 +23,7 @@ use Rattle.records.specs.Marks.{ascii, markText, mark, bodyWidth, isKind, isDue
 use Rattle.records.specs.Marks.Laws.{head-body}
 use Rattle.records.specs.RecordLists.{atRecord}
 use Rattle.drive_sets.specs.Counts.{isDrive}
-use Rattle.drive_states.specs.State.{patternLimit}
+use Rattle.drive_sets.specs.Limits.{patternLimit}
 use Rattle.drive_states.specs.Messages.{Entry, Content, known, decided, Message, message, maskIn, entriesIn, entryOf, knownOf, entryBytes, kindIn, contentBytes, messageBytes, lengthIn, longestMessage, senderOf, roundOf, maskOf, patternOf, entriesFrom, contentOf, messageOf, wrongMask, checked, readMessage}
 
 -- ---- what is told

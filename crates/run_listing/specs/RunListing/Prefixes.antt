@@ -24,6 +24,7 @@ use Rattle.run_files.specs.RunFiles.Laws.{next-bounds, checked-passes}
 use Rattle.simulation.specs.Simulation.{Simulated, simulated}
 use Rattle.run_listing.specs.RunListing.{runText, simulatedWith, simulatedFile, runProgram}
 use Rattle.table_listing.specs.TableListing.Prefixes.{empty-prefix, listed-prefix}
+use Rattle.drive_sets.specs.Limits.{maxInput}
 
 -- ---- one record: its fields, and one fewer can follow
 
@@ -128,7 +129,7 @@ file-is s = go (readListed s)
     go (refused r) = refl
     go (result t) = refl
 
-pub run-program-prefix : (s : List ℕ) → runProgram (take 4096 s) ≡ runProgram s
+pub run-program-prefix : (s : List ℕ) → runProgram (take maxInput s) ≡ runProgram s
 unfolding runProgram
 run-program-prefix s =
-    ap runText (file-is (take 4096 s) ∙ (listed-prefix (λ t. andThen (accepted t) simulatedTable) 700 table-prefix s 4096 (omega arith) ∙ sym (file-is s)))
+    ap runText (file-is (take maxInput s) ∙ (listed-prefix (λ t. andThen (accepted t) simulatedTable) 700 table-prefix s maxInput (omega arith) ∙ sym (file-is s)))

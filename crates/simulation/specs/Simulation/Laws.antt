@@ -23,7 +23,7 @@ use Rattle.set_orders.specs.Order.{normal}
 use Rattle.tables.specs.Tables.{chosen, normalTable}
 use Rattle.tables.specs.Tables.Laws.{Accepted, table-accepted}
 use Rattle.drive_sets.specs.Counts.{isDrive, isRound}
-use Rattle.drive_states.specs.State.{patternLimit}
+use Rattle.drive_sets.specs.Limits.{patternLimit}
 use Rattle.drive_sets.specs.Counts.Laws.{drive-bounds}
 use Rattle.runs.specs.Scenario.{stays, crashes, Scenario, coreOf}
 use Rattle.runs.specs.Scenario.Laws.{stays-crashes}

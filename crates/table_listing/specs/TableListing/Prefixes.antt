@@ -17,7 +17,8 @@ use Rattle.records.specs.Fields.{fieldAt}
 use Rattle.records.specs.Marks.{bodyWidth, headOf}
 use Rattle.records.specs.RecordLists.{atRecord, ReadList, widthOf, readList}
 use Rattle.records.specs.RecordLists.Prefixes.{drop-prefix, field-prefix, head-prefix, Alike, no-other, at-record, by-cond, list-prefix}
-use Rattle.tables.specs.Tables.{maxSets, isFrame, isSet, isEmpty}
+use Rattle.drive_sets.specs.Limits.{maxSets, maxInput}
+use Rattle.tables.specs.Tables.{isFrame, isSet, isEmpty}
 use Rattle.tables.specs.Files.{ReadTable, takenSet, setList, listedTable, readListed, accepted, readWhole}
 use Rattle.table_listing.specs.TableListing.{listingOf, tableProgram}
 
@@ -82,10 +83,10 @@ module _ {B : Type 0} (finish : ReadTable → Outcome B) (most : ℕ)
 
 -- ---- the table program
 
-whole-prefix : (s : List ℕ) → readWhole (take 4096 s) ≡ readWhole s
+whole-prefix : (s : List ℕ) → readWhole (take maxInput s) ≡ readWhole s
 unfolding readWhole isEmpty
 whole-prefix s =
-    listed-prefix (λ t. refuseIf (not (isEmpty (t .rest))) TrailingBytes (accepted t)) 1 blind s 4096 (omega arith)
+    listed-prefix (λ t. refuseIf (not (isEmpty (t .rest))) TrailingBytes (accepted t)) 1 blind s maxInput (omega arith)
   where
     blind : (n : ℕ) (sets rest : List ℕ) (j : ℕ) → 1 ≤ j
         → refuseIf (not (isEmpty (take j rest))) TrailingBytes (accepted (record { n = n; sets = sets; rest = take j rest }))
@@ -94,6 +95,6 @@ whole-prefix s =
     blind n sets [] (suc j) h = refl
     blind n sets (x ∷ rest) (suc j) h = refl
 
-pub table-program-prefix : (s : List ℕ) → tableProgram (take 4096 s) ≡ tableProgram s
+pub table-program-prefix : (s : List ℕ) → tableProgram (take maxInput s) ≡ tableProgram s
 unfolding tableProgram
 table-program-prefix s = ap listingOf (whole-prefix s)

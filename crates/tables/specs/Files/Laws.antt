@@ -26,7 +26,8 @@ use Rattle.records.specs.Marks.{ascii, markText, mark, bodyWidth, isKind, isDue
 use Rattle.records.specs.Marks.Laws.{length-record, head-record, kind-is, record-field, record-rest}
 use Rattle.records.specs.RecordLists.{ReadList, widthOf, readList, listBytes}
 use Rattle.records.specs.RecordLists.Laws.{OwnKind, other-kind, Leads, length-list, list-back, read-keeps, record-there}
-use Rattle.tables.specs.Tables.{maxDrives, maxSets, maxCores, isFrame, isSet, isEmpty, cores, withinCoreLimit}
+use Rattle.drive_sets.specs.Limits.{maxDrives, maxSets, maxCores}
+use Rattle.tables.specs.Tables.{isFrame, isSet, isEmpty, cores, withinCoreLimit}
 use Rattle.tables.specs.Tables.Laws.{Accepted, set-lt, accepted-within-limit, accepted-frame, accepted-normal}
 use Rattle.tables.specs.Files.{ReadTable, dueAfter, takenSet, setList, listedTable, readListed, accepted, readTable, readWhole, tableBytes}
 

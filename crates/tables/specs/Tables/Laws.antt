@@ -29,7 +29,8 @@ use Rattle.set_orders.specs.Order.Strict.{byMask-strict, bySize-strict}
 use Rattle.hitting_sets.specs.Hitting.Listed.{listed-minimal, minimal-listed, listed-ordered, listed-unique, listed-same}
 use Rattle.set_orders.specs.Order.Normal.{normal-elem, ordered-normal, antichain-normal, normal-idempotent, normal-some, length-normal}
 use Rattle.hitting_sets.specs.Hitting.Normal.{hits-normal}
-use Rattle.tables.specs.Tables.{maxDrives, maxSets, maxCores, isFrame, isSet, isEmpty, cores, chosen, dual, withinCoreLimit, normalTable, survivorSets, chosenCore}
+use Rattle.drive_sets.specs.Limits.{maxDrives, maxSets, maxCores}
+use Rattle.tables.specs.Tables.{isFrame, isSet, isEmpty, cores, chosen, dual, withinCoreLimit, normalTable, survivorSets, chosenCore}
 
 -- ---- what it is for n and sets to meet no refusal
 

@@ -1,6 +1,5 @@
 -- The first set that is missed among those from a place on.
 use native.Mathlib.Omega.{arith}
-use lib.ListN.{length-drop, length-take}
 use Rattle.hitting_sets.proofs.Places.{missed-from}
 use borrow.Author.Needs.{needs}
 use Rattle.hitting_sets.proofs.search.next_missed.Statement.{statement}
