@@ -9,7 +9,7 @@ use lib.ListN.{length}
 use borrow.Author.Tests.{le-leb, lt-leb, eq-eqb}
 use Rattle.drive_sets.specs.declared.Pattern.{Pattern}
 use Rattle.drive_sets.specs.declared.Refusal.the-variants.{DriveNumber, NoRoom, Halted, BrokenState}
-use Rattle.drive_sets.specs.Bools.{by-test, and-fails-left, and-fails-right, or-neither}
+use Rattle.drive_sets.specs.Bools.Laws.{by-test, and-fails-left, and-fails-right, or-neither}
 use Rattle.drive_sets.specs.Options.{isSome}
 use Rattle.drive_sets.specs.Lists.{elem}
 use Rattle.drive_sets.specs.Lists.Laws.{elem-head, elem-tail}

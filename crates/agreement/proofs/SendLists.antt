@@ -9,7 +9,7 @@ use native.Mathlib.Omega.{arith}
 use lib.Dec.{eqb}
 use lib.ListN.{take}
 use borrow.Author.Tests.{eq-eqb, ne-eqb, le-leb, not-true}
-use Rattle.drive_sets.specs.Bools.{clash, by-test, false-of, and-intro, and-left, and-right}
+use Rattle.drive_sets.specs.Bools.Laws.{clash, by-test, false-of, and-intro, and-left, and-right}
 use Rattle.drive_sets.specs.Lists.{filter, elem, distinct}
 use Rattle.drive_sets.specs.Lists.Laws.{elem-append-left, elem-append-right, elem-append-cases, elem-filter}
 use Rattle.drive_sets.specs.Lists.Distinct.{distinct-append}

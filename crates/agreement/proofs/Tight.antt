@@ -13,8 +13,8 @@ use lib.Dec.{eqb, ltb}
 use lib.ListN.{length, take, getD, length-take}
 use lib.Pow.{pow-mono}
 use borrow.Author.Tests.{ltb-true, eqb-true, eqb-false, eq-eqb, le-leb, lt-leb, not-true}
-use Rattle.drive_sets.specs.Bools.{false-of, same-test, and-intro, and-left, and-right}
-use Rattle.drive_sets.specs.Options.{by-option}
+use Rattle.drive_sets.specs.Bools.Laws.{false-of, same-test, and-intro, and-left, and-right}
+use Rattle.drive_sets.specs.Options.Laws.{by-option}
 use Rattle.drive_sets.specs.Lists.{filter, elem, ordered}
 use Rattle.drive_sets.specs.Lists.Laws.{elem-none, elem-filter, filter-same, ordered-filter}
 use Rattle.drive_sets.specs.Lists.Distinct.{ordered-distinct}

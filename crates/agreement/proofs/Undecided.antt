@@ -6,7 +6,7 @@ use mathlib.Core.List.{List, [], _∷_, _++_, append-assoc}
 use Prim.Native.Nat.{ℕ, zero, suc}
 use lib.ListN.{take, drop, getD}
 use borrow.Author.Tests.{eq-eqb, not-true}
-use Rattle.drive_sets.specs.Bools.{clash, by-test, and-intro, and-left, and-right, or-second, or-cases, or-right, false-of}
+use Rattle.drive_sets.specs.Bools.Laws.{clash, by-test, and-intro, and-left, and-right, or-second, or-cases, or-right, false-of}
 use Rattle.drive_sets.specs.Refusals.{result}
 use Rattle.drive_states.specs.declared.Exchange.{Exchange}
 use Rattle.drive_states.specs.declared.Announcement.{Announcement}

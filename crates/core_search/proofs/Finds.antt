@@ -8,7 +8,7 @@ use lib.Dec.{leb}
 use lib.ListN.{length, take, drop}
 use lib.Seq.{take-at, length-take-le}
 use borrow.Author.Tests.{leb-true, leb-false}
-use Rattle.drive_sets.specs.Bools.{clash, by-test}
+use Rattle.drive_sets.specs.Bools.Laws.{clash, by-test}
 use Rattle.drive_sets.specs.Lists.{times}
 use Rattle.drive_sets.specs.Lists.Takes.{drop-behind}
 use Rattle.drive_sets.specs.Filled.{Filled}

@@ -9,7 +9,7 @@ use lib.Dec.{leb}
 use lib.ListN.{length, take, drop, drop-of-length-le}
 use lib.Seq.{take-all, take-at}
 use borrow.Author.Tests.{leb-true, leb-false}
-use Rattle.drive_sets.specs.Bools.{clash, by-test}
+use Rattle.drive_sets.specs.Bools.Laws.{clash, by-test}
 use Rattle.drive_sets.specs.Lists.{elem, times}
 use Rattle.drive_sets.specs.Lists.Times.{elem-same-times}
 use Rattle.hitting_sets.specs.Hitting.{minimals}

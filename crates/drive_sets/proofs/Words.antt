@@ -8,7 +8,7 @@ use lib.Arith.{digits-div}
 use lib.Pow.{pow-lt, ones-split, ones-lt}
 use lib.Dec.{eqb}
 use borrow.Author.Tests.{lt-ltb, le-ltb}
-use Rattle.drive_sets.specs.Bools.{false-of, cond-true, cond-false}
+use Rattle.drive_sets.specs.Bools.Laws.{false-of, cond-true, cond-false}
 use Rattle.drive_sets.specs.Masks.{has, single, full}
 use Rattle.drive_sets.specs.Masks.Laws.{has-bounds, full-is}
 

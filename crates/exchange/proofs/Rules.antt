@@ -5,7 +5,7 @@ use mathlib.Core.Logic.{⊎-elim}
 use Prim.Native.Nat.{ℕ, _^_, _≤_, _<_}
 use native.Mathlib.Omega.{arith}
 use borrow.Author.Tests.{not-false}
-use Rattle.drive_sets.specs.Bools.{same-test, and-intro, and-left, and-right, or-right, or-cases, or-false-left, or-false-right}
+use Rattle.drive_sets.specs.Bools.Laws.{same-test, and-intro, and-left, and-right, or-right, or-cases, or-false-left, or-false-right}
 use Rattle.drive_sets.specs.Masks.{has, union, subset}
 use Rattle.drive_sets.specs.Masks.Laws.{has-union, union-lt, subset-has, has-subset, subset-trans, subset-union}
 use Rattle.drive_sets.specs.Masks.Sizes.{size-le}

@@ -1,13 +1,11 @@
 -- What the answer of a call that is handed a state says: a refusal, which keeps the state, or the new state.
-use mathlib.Core.Path.{_≡_, refl}
-use mathlib.Core.Bool.{true}
+use mathlib.Core.Path.{_≡_}
 use Rattle.drive_sets.specs.Refusals.{Outcome, refused, result}
 use Rattle.tables.specs.Reading.{outcomeOf}
-use Rattle.tables.specs.Tables.{isFrame}
 use Rattle.drive_states.specs.declared.Exchange.{Exchange}
 use Rattle.exchange.specs.declared.Reply.{Reply}
-use Rattle.drive_states.specs.State.{broken}
 use Rattle.agreement.specs.Calls.{initial}
+pub mod Laws
 
 unfoldable pub replyOf : Reply → Outcome Exchange
 replyOf r = outcomeOf (r .answer) (r .state)
@@ -20,10 +18,6 @@ stateAfter x (result y) = y
 -- what stands beside a refused opening: a state of no drives, which every call refuses with 28
 unfoldable pub notOpened : Exchange
 notOpened = initial 0 0 0 0
-
-pub not-opened-broken : broken notOpened ≡ true
-unfolding notOpened initial broken isFrame
-not-opened-broken = refl
 
 -- the answer and the state, each as its definition has it
 pub record Replied (due : Outcome Exchange) (x : Exchange) (r : Reply) : Type 0 where

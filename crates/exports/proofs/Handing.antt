@@ -8,7 +8,7 @@ use lib.Dec.{leb}
 use lib.ListN.{length, take, drop, drop-of-length-le}
 use lib.Seq.{drop-drop}
 use borrow.Author.Tests.{leb-true, leb-false}
-use Rattle.drive_sets.specs.Bools.{by-test}
+use Rattle.drive_sets.specs.Bools.Laws.{by-test}
 use Rattle.drive_sets.specs.Refusals.{Outcome, refused, result}
 use Rattle.records.specs.declared.Writing.{Writing}
 use Rattle.records.specs.LentBuffers.{writingOutcome, sizeWritten, Written}

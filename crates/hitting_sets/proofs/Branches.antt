@@ -8,7 +8,7 @@ use native.Mathlib.Numerals.{add-one}
 use lib.ListN.{length, getD, take, drop, take-append-drop}
 use lib.Seq.{take-suc, drop-cons}
 use borrow.Author.Tests.{not-true}
-use Rattle.drive_sets.specs.Bools.{clash, and-left, and-right}
+use Rattle.drive_sets.specs.Bools.Laws.{clash, and-left, and-right}
 use Rattle.drive_sets.specs.Masks.{has, single, union, minus, meets, drives, Below}
 use Rattle.drive_sets.specs.Masks.Laws.{has-none, has-minus}
 use Rattle.drive_sets.specs.Masks.Sizes.{drives-none}

@@ -8,7 +8,7 @@ use lib.Dec.{eqb}
 use lib.ListN.{length, take, drop, length-drop, take-append-drop}
 use lib.Seq.{take-all}
 use borrow.Author.Tests.{not-true}
-use Rattle.drive_sets.specs.Bools.{clash, false-of, and-right}
+use Rattle.drive_sets.specs.Bools.Laws.{clash, false-of, and-right}
 use Rattle.drive_sets.specs.Lists.{filter}
 use Rattle.drive_sets.specs.Lists.Laws.{any-append, any-elem, filter-same}
 use Rattle.drive_sets.specs.Masks.{has, union, minus, subset, drives}

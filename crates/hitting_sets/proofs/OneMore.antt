@@ -6,7 +6,7 @@ use mathlib.Core.List.{List, _∷_}
 use Prim.Native.Nat.{ℕ}
 use lib.Dec.{eqb}
 use borrow.Author.Tests.{eq-eqb, ne-eqb}
-use Rattle.drive_sets.specs.Bools.{by-test, cond-true, cond-false}
+use Rattle.drive_sets.specs.Bools.Laws.{by-test, cond-true, cond-false}
 use Rattle.drive_sets.specs.Lists.{filter}
 use Rattle.drive_sets.specs.Lists.Laws.{filter-true, filter-false}
 use Rattle.drive_sets.specs.Masks.{union, common, subset, size}

@@ -8,7 +8,7 @@ use lib.Dec.{eqb}
 use lib.ListN.{length, getD, take, drop, drop-of-length-le, length-drop}
 use lib.Seq.{take-suc, take-all, drop-cons, getD-drop}
 use borrow.Author.Tests.{eqb-true, eqb-false}
-use Rattle.drive_sets.specs.Bools.{by-test}
+use Rattle.drive_sets.specs.Bools.Laws.{by-test}
 use Rattle.drive_sets.specs.Lists.{firstFailing}
 use Rattle.drive_sets.specs.Lists.FirstFailing.{failing-within, failing-before, failing-there}
 use Rattle.drive_sets.specs.Masks.{meets}

@@ -9,7 +9,7 @@ use lib.Dec.{leb, ltb}
 use lib.ListN.{length, take, drop, set, length-append}
 use lib.Seq.{drop-set-lt}
 use borrow.Author.Tests.{leb-true, ltb-true, leb-false, ltb-false}
-use Rattle.drive_sets.specs.Bools.{by-test, and-left, and-right, and-not}
+use Rattle.drive_sets.specs.Bools.Laws.{by-test, and-left, and-right, and-not}
 use Rattle.drive_sets.specs.Masks.{has, single, union, drives}
 use Rattle.drive_sets.specs.Masks.Sizes.{drives-none}
 use Rattle.drive_sets.specs.Filled.{Filled}

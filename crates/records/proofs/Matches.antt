@@ -7,7 +7,7 @@ use native.Mathlib.Omega.{arith}
 use lib.Dec.{eqb}
 use lib.ListN.{take, length-take}
 use lib.Seq.{take-all}
-use Rattle.drive_sets.specs.Bools.{or-first, or-second}
+use Rattle.drive_sets.specs.Bools.Laws.{or-first, or-second}
 use borrow.Author.Tests.{eq-eqb, ne-eqb}
 use Rattle.records.specs.declared.Kind.{Kind}
 use Rattle.records.specs.Fields.{fromBytes}

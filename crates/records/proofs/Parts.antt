@@ -6,7 +6,7 @@ use native.Mathlib.Nat.{le-of-eq, le-of-lt}
 use lib.ListN.{length, take, drop, length-take, length-drop, drop-of-length-le}
 use lib.Dec.{leb}
 use borrow.Author.Tests.{leb-true, leb-false}
-use Rattle.drive_sets.specs.Bools.{by-test}
+use Rattle.drive_sets.specs.Bools.Laws.{by-test}
 use lib.Seq.{take-all, take-nil, take-take}
 use borrow.Rule.Slice.PartMut.{putMid}
 use native.Mathlib.Omega.{arith}

@@ -9,7 +9,7 @@ use lib.ListN.{length, getD, take, drop, length-append, length-set}
 use Rattle.drive_sets.specs.declared.Drive.{Drive}
 use Rattle.drive_sets.specs.declared.Round.{Round}
 use Rattle.drive_sets.specs.declared.Refusal.{Refusal}
-use Rattle.drive_sets.specs.Bools.{clash}
+use Rattle.drive_sets.specs.Bools.Laws.{clash}
 use Rattle.drive_sets.specs.Masks.{has}
 use Rattle.drive_sets.specs.Masks.Laws.{has-none}
 use Rattle.drive_sets.specs.Masks.OneDrive.{insert-cases, insert-lt}

@@ -2,7 +2,7 @@
 use mathlib.Core.Path.{_≡_, refl, sym, _∙_}
 use Prim.Native.Nat.{ℕ, _-_}
 use native.Mathlib.Omega.{arith}
-use Rattle.drive_sets.specs.Bools.{cond-true, cond-false, by-test}
+use Rattle.drive_sets.specs.Bools.Laws.{cond-true, cond-false, by-test}
 use Rattle.drive_sets.specs.Refusals.{result, andThen}
 use Rattle.tables.specs.declared.reading.Answer.{Answer}
 use Rattle.tables.specs.declared.reading.Answer.the-variants as answers

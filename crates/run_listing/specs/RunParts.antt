@@ -7,7 +7,7 @@ use Rattle.drive_sets.specs.declared.Round.{Round}
 use Rattle.drive_sets.specs.Masks.{has}
 use Rattle.agreement.specs.Simulated.{Ending, stopped}
 use Rattle.run_files.specs.Reading.{roundAt}
-use Rattle.simulation.specs.States.{numberAt}
+use Rattle.drive_states.specs.State.{numberIn}
 use Rattle.simulation.specs.Endings.{endingBy}
 use Rattle.text.specs.Text.{joined}
 use Rattle.run_listing.specs.RunListing.{driveLine}
@@ -18,7 +18,7 @@ endingFor crashes round number = cond crashes stopped (endingBy round number)
 
 -- the same from the drives with a CR, and the rounds and numbers by drive
 unfoldable pub endingAt : ℕ → List Round → List Pattern → ℕ → Ending
-endingAt crashed rounds numbers d = endingFor (has d crashed) (roundAt rounds d) (numberAt numbers d)
+endingAt crashed rounds numbers d = endingFor (has d crashed) (roundAt rounds d) (numberIn numbers d)
 
 -- the lines of some drives
 unfoldable pub driveLines : (ℕ → Ending) → List ℕ → List ℕ

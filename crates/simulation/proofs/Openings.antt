@@ -13,7 +13,7 @@ use Rattle.drive_sets.specs.declared.Pattern.{Pattern}
 use Rattle.drive_sets.specs.Lists.{elem, range}
 use Rattle.drive_sets.specs.Lists.Laws.{elem-none, elem-head, elem-tail, elem-cases}
 use Rattle.drive_sets.specs.Refusals.{result}
-use Rattle.drive_sets.specs.Bools.{clash, by-test, false-of}
+use Rattle.drive_sets.specs.Bools.Laws.{clash, by-test, false-of}
 use Rattle.drive_states.specs.declared.Exchange.{Exchange}
 use Rattle.drive_sets.specs.Counts.{isDrive}
 use Rattle.drive_sets.specs.Counts.Laws.{drive-bounds, isDrive-range}
@@ -27,7 +27,8 @@ use Rattle.runs.specs.World.Laws.{put-same, put-other}
 use Rattle.runs.specs.Scenario.{Scenario, frame, coreOf}
 use Rattle.agreement.specs.Canonical.{openingCalls}
 use Rattle.run_files.specs.declared.crashes.Crashes.{Crashes}
-use Rattle.simulation.specs.States.{noPattern, numberAt, blank, stateAt, worldOf, Told}
+use Rattle.drive_states.specs.State.{pattern, numberIn}
+use Rattle.simulation.specs.States.{blank, stateAt, worldOf, Told}
 
 -- ---- the loop
 
@@ -35,30 +36,30 @@ module _ (n core : ℕ) (numbers : List Pattern) where
   -- the drives 1 to i are open
   pub record Opening (all : List Exchange) (i : ℕ) : Type 0 where
     pub long : length all ≡ 64
-    pub same : (d : ℕ) → 1 ≤ d → d ≤ i → stateAt all d ≡ initial n core d (numberAt numbers d)
+    pub same : (d : ℕ) → 1 ≤ d → d ≤ i → stateAt all d ≡ initial n core d (numberIn numbers d)
 
   pub open-start : (all : List Exchange) → length all ≡ 64 → Opening all 0
   open-start all long = record { long = long; same = λ d low high. absurd (omega (arith, low, high)) }
 
-  pub open-turn : (all : List Exchange) (i : ℕ) (x : Exchange) → Opening all i → i < 64 → x ≡ initial n core (i + 1) (getD numbers i noPattern .0) → Opening (set all i x) (i + 1)
-  unfolding stateAt
+  pub open-turn : (all : List Exchange) (i : ℕ) (x : Exchange) → Opening all i → i < 64 → x ≡ initial n core (i + 1) (getD numbers i (pattern 0) .0) → Opening (set all i x) (i + 1)
+  unfolding numberIn stateAt
   open-turn all i x g h e = record { long = length-set all i x ∙ g .long; same = same }
     where
-      same : (d : ℕ) → 1 ≤ d → d ≤ i + 1 → stateAt (set all i x) d ≡ initial n core d (numberAt numbers d)
+      same : (d : ℕ) → 1 ≤ d → d ≤ i + 1 → stateAt (set all i x) d ≡ initial n core d (numberIn numbers d)
       same d low high =
           by-test (eqb (d - 1) i)
           (λ t. let here : d - 1 ≡ i = eqb-true (d - 1) i t in
           let is : i + 1 ≡ d = omega (arith, here, low) in
           ap (λ (k : ℕ). getD (set all i x) k blank) here
           ∙ (getD-set-same all i x blank (omega (arith, h, g .long))
-          ∙ (e ∙ ap₂ (λ (k j : ℕ). initial n core k (getD numbers j noPattern .0)) is (sym here))))
+          ∙ (e ∙ ap₂ (λ (k j : ℕ). initial n core k (getD numbers j (pattern 0) .0)) is (sym here))))
           (λ t. let other = eqb-false (d - 1) i t in
           getD-set-other all i (d - 1) x blank other ∙ g .same d low (less other))
         where
           less : (d - 1 ≡ i → ⊥) → d ≤ i
           less other = omega (arith, other, low, high)
 
-  pub open-end : (all : List Exchange) (i : ℕ) → Opening all i → n ≤ i → (d : ℕ) → isDrive n d ≡ true → stateAt all d ≡ initial n core d (numberAt numbers d)
+  pub open-end : (all : List Exchange) (i : ℕ) → Opening all i → n ≤ i → (d : ℕ) → isDrive n d ≡ true → stateAt all d ≡ initial n core d (numberIn numbers d)
   open-end all i g h d t = let b = drive-bounds n d t in g .same d (b .0) (omega (arith, b .1, h))
 
 -- ---- the world
@@ -66,7 +67,7 @@ module _ (n core : ℕ) (numbers : List Pattern) where
 module _ (n core : ℕ) (numbers : List Pattern) (c : Crashes) (s : Scenario) (g : Told n core numbers c s) where
   -- the state of a drive at opening
   abbrev first : ℕ → Exchange
-  first d = initial n core d (numberAt numbers d)
+  first d = initial n core d (numberIn numbers d)
 
   in-frame : (d : ℕ) → isDrive n d ≡ true → isDrive (s .n) d ≡ true
   in-frame d h = ap (λ (m : ℕ). isDrive m d) (g .says .frame-is) ∙ h

@@ -7,11 +7,11 @@ use mir.Val.{Val}
 use denote.Array.{each}
 use denote.Shadow.{shadow}
 use Rattle.drive_sets.specs.declared.Pattern.{Pattern}
-use Rattle.drive_sets.proofs.Pattern as pattern
-use Rattle.simulation.specs.States.{noPattern}
+use Rattle.drive_sets.proofs.Pattern as patterns
+use Rattle.drive_states.specs.State.{pattern}
 use Rattle.drive_sets.specs.Limits.{patternLimit}
 
-pub patterns-below : (numbers : List Pattern) (us : List Val) → shadow (each Pattern (pattern.the-row .own) numbers us) → (i : ℕ) → getD numbers i noPattern .0 < patternLimit
+pub patterns-below : (numbers : List Pattern) (us : List Val) → shadow (each Pattern (patterns.the-row .own) numbers us) → (i : ℕ) → getD numbers i (pattern 0) .0 < patternLimit
 patterns-below [] us p i = omega arith
 patterns-below (v ∷ numbers) [] p i = absurd p
 patterns-below (v ∷ numbers) (u ∷ us) p zero = p .0 .1 .1 .0 .1

@@ -8,7 +8,7 @@ use lib.ListN.{length, getD, take, List·getD-map}
 use lib.Seq.{getD-take}
 use lib.Dec.{eqb}
 use borrow.Author.Tests.{eqb-true, eqb-false, eq-eqb, ne-eqb}
-use Rattle.drive_sets.specs.Bools.{by-test, cond-true, cond-false}
+use Rattle.drive_sets.specs.Bools.Laws.{by-test, cond-true, cond-false}
 use Rattle.drive_sets.specs.Lists.{range, elem}
 use Rattle.drive_sets.specs.Lists.Laws.{elem-none, elem-head, elem-tail, any-true, any-false, filter-same}
 use Rattle.drive_sets.specs.Lists.Takes.{filter-filter}
@@ -36,7 +36,8 @@ use Rattle.run_files.specs.Reading as files
 use Rattle.run_files.specs.Reading.{values, roundAt}
 use Rattle.simulation.specs.Simulation.{checkedCrashes, Simulated, simulatedOf, unlessTouched, simulated}
 use Rattle.simulation.specs.Simulation.Laws.{checked-valid}
-use Rattle.simulation.specs.States.{crashAt, noPattern, numberAt, Says, Told}
+use Rattle.drive_states.specs.State.{pattern, numberIn}
+use Rattle.simulation.specs.States.{crashAt, Says, Told}
 
 -- ---- lists
 
@@ -113,10 +114,10 @@ module _ (n : ℕ) (sets : List ℕ) (numbers : List Pattern) (c : Crashes) (cor
   pub chosen-bounds : (n ≤ 64) × (core < 2 ^ n)
   chosen-bounds = (given .0 .high, subst (λ (x : ℕ). x < 2 ^ n) (given .1) (chosen-core n sets (given .0) .within))
 
-  pub told : ((i : ℕ) → getD numbers i noPattern .0 < patternLimit)
+  pub told : ((i : ℕ) → getD numbers i (pattern 0) .0 < patternLimit)
       → checkedCrashes n core 0 (files.crashesIn c) (result (files.crashesIn c)) ≡ result (files.crashesIn c)
       → Told n core numbers c (scenario n sets (take n (values numbers)) (files.crashesIn c))
-  unfolding scenario coreOf crashAt files.crashesIn
+  unfolding scenario coreOf crashAt numberIn files.crashesIn
   told small checks = record {
     says = record { frame-is = refl; core-is = given .1; crash-is = crash-is };
     valid = checked-valid n sets (take n (values numbers)) (files.crashesIn c) (accepted-table n sets (given .0))
@@ -125,10 +126,10 @@ module _ (n : ℕ) (sets : List ℕ) (numbers : List Pattern) (c : Crashes) (cor
     proposal-is = proposed;
   }
     where
-      proposed : (d : ℕ) → isDrive n d ≡ true → getD (take n (values numbers)) (d - 1) 0 ≡ numberAt numbers d
+      proposed : (d : ℕ) → isDrive n d ≡ true → getD (take n (values numbers)) (d - 1) 0 ≡ numberIn numbers d
       proposed d h =
           let b = drive-bounds n d h in
-          getD-take n (values numbers) (d - 1) 0 (omega (arith, b .0, b .1)) ∙ List·getD-map (λ (v : Pattern). v .0) numbers (d - 1) noPattern
+          getD-take n (values numbers) (d - 1) 0 (omega (arith, b .0, b .1)) ∙ List·getD-map (λ (v : Pattern). v .0) numbers (d - 1) (pattern 0)
 
       crash-is : (d : ℕ) → crashIn (files.crashesIn c) d ≡ crashAt c d
       crash-is d =

@@ -6,7 +6,7 @@ use mathlib.Core.List.{List, [], _∷_, _++_, map}
 use Prim.Native.Nat.{ℕ, _+_, _^_, _≤_, _<_}
 use native.Mathlib.Omega.{arith}
 use lib.Dec.{eqb}
-use Rattle.drive_sets.specs.Bools.{by-test}
+use Rattle.drive_sets.specs.Bools.Laws.{by-test}
 use Rattle.drive_sets.specs.Lists.{range, filter, elem}
 use Rattle.drive_sets.specs.Lists.Laws.{elem-head, elem-tail, elem-range, filter-same}
 use Rattle.drive_sets.specs.Masks.{has, single, minus, outside, drives}

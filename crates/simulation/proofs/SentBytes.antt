@@ -10,7 +10,7 @@ use borrow.Author.Tests.{leb-true, le-leb, not-false}
 use mathlib.Core.Bool.{not}
 use Rattle.drive_sets.specs.declared.Refusal.{Refusal}
 use Rattle.drive_sets.specs.declared.Refusal.the-variants.{BrokenState, Halted, ListenerSends, NoRoom}
-use Rattle.drive_sets.specs.Bools.{cond-true}
+use Rattle.drive_sets.specs.Bools.Laws.{cond-true}
 use Rattle.drive_sets.specs.Refusals.{Outcome, refused, result}
 use Rattle.drive_sets.specs.Refusals.Laws.{refused-no-result, same-result, passed, first-result}
 use Rattle.records.specs.Fields.{written, writtenAt}

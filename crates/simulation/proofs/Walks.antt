@@ -6,7 +6,7 @@ use Prim.Native.Nat.{ℕ, suc, _-_, _+_, _≤_, _<_}
 use native.Mathlib.Numerals.{add-one, unary-clauses}
 use native.Mathlib.Omega.{arith}
 use lib.ListN.{length}
-use Rattle.drive_sets.specs.Bools.{by-test}
+use Rattle.drive_sets.specs.Bools.Laws.{by-test}
 use Rattle.drive_sets.specs.Lists.{range, filter}
 use Rattle.drive_states.specs.declared.Exchange.{Exchange}
 use Rattle.runs.specs.World.{Call, World}

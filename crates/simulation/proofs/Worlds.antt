@@ -8,7 +8,7 @@ use lib.Dec.{eqb}
 use lib.ListN.{length, getD, set}
 use lib.Seq.{getD-set-same, getD-set-other}
 use borrow.Author.Tests.{eqb-true, eqb-false}
-use Rattle.drive_sets.specs.Bools.{by-test, cond-true}
+use Rattle.drive_sets.specs.Bools.Laws.{by-test, cond-true}
 use Rattle.drive_sets.specs.Refusals.{Outcome, refused, result}
 use Rattle.drive_states.specs.declared.Exchange.{Exchange}
 use Rattle.drive_sets.specs.Counts.{isDrive}

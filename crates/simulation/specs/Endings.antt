@@ -12,14 +12,14 @@ use Rattle.run_files.specs.Reading.{roundAt}
 use Rattle.simulation.specs.declared.simulating.Notes.{Notes}
 use Rattle.simulation.specs.declared.simulating.Simulated as answers
 use Rattle.simulation.specs.Simulation.{Simulated}
-use Rattle.simulation.specs.States.{numberAt}
+use Rattle.drive_states.specs.State.{numberIn}
 
 -- from a round, 0 where the drive has not decided, and a pattern number
 unfoldable pub endingBy : ℕ → ℕ → Ending
 endingBy round number = cond (eqb round 0) undecided (decides number round)
 
 unfoldable pub foundOf : Notes → ℕ → Ending
-foundOf f d = endingBy (roundAt (f .rounds) d) (numberAt (f .numbers) d)
+foundOf f d = endingBy (roundAt (f .rounds) d) (numberIn (f .numbers) d)
 
 -- the first decision counts
 unfoldable pub orLater : Ending → Ending → Ending

@@ -10,6 +10,7 @@ use Rattle.drive_sets.specs.Masks.{has, single, minus, outside, drives}
 use Rattle.drive_states.specs.declared.Exchange.{Exchange}
 use Rattle.drive_states.specs.declared.Announcement.the-variants.{Absent}
 use Rattle.drive_states.specs.declared.Decision.the-variants.{Undecided}
+use Rattle.drive_states.specs.State.{numberIn}
 use Rattle.drive_sets.specs.Counts.{isDrive}
 use Rattle.agreement.specs.Calls.{sending}
 use Rattle.runs.specs.World.{Call, World, unopened, opened, active}
@@ -24,14 +25,6 @@ use Rattle.run_files.specs.Reading.{roundAt}
 -- the CR of a drive
 unfoldable pub crashAt : Crashes → ℕ → Crash
 crashAt c d = cond (has d (c .crashed)) (crashes (roundAt (c .rounds) d) (getD (c .sends) (d - 1) 0)) stays
-
--- a pattern number for the places that an array does not have
-abbrev pub noPattern : Pattern
-noPattern = record { 0 = 0 }
-
--- the pattern number at the place of a drive
-abbrev pub numberAt : List Pattern → ℕ → ℕ
-numberAt numbers d = getD numbers (d - 1) noPattern .0
 
 -- a state for the places that an array does not have
 abbrev pub blank : Exchange
@@ -89,4 +82,4 @@ pub record Says (n core : ℕ) (c : Crashes) (s : Scenario) : Type 0 where
 pub record Told (n core : ℕ) (numbers : List Pattern) (c : Crashes) (s : Scenario) : Type 0 where
   pub says : Says n core c s
   pub valid : Valid s
-  pub proposal-is : (d : ℕ) → isDrive n d ≡ true → s .proposal d ≡ numberAt numbers d
+  pub proposal-is : (d : ℕ) → isDrive n d ≡ true → s .proposal d ≡ numberIn numbers d

@@ -4,7 +4,8 @@ ghost use mathlib.Core.Bool.{true};
 ghost use Prim.Native.Nat.{ℕ, _≤_};
 ghost use Rattle.drive_sets.specs.Counts.{isDrive};
 ghost use Rattle.agreement.specs.Calls.{initial};
-ghost use Rattle.simulation.specs.States.{numberAt, stateAt};
+ghost use Rattle.drive_states.specs.State.{numberIn};
+ghost use Rattle.simulation.specs.States.{stateAt};
 use drive_sets::Drive;
 use drive_sets::Pattern;
 use drive_states::Exchange;
@@ -12,7 +13,7 @@ use drive_states::Exchange;
 // The states of the drives 1 to n at opening, where the table has this chosen core.
 pub(crate) fn open_all(n: u8, core: u64, numbers: [Pattern; 64]) -> [Exchange; 64]
     requires { ⌜ n ≤ 64 ⌝ }
-    ensures { λ r. ⌜ ((d : ℕ) → isDrive n d ≡ true → stateAt r d ≡ initial n core d (numberAt numbers d)) ⌝ }
+    ensures { λ r. ⌜ ((d : ℕ) → isDrive n d ≡ true → stateAt r d ≡ initial n core d (numberIn numbers d)) ⌝ }
 {
     let first = exchange::opening::initial(n, core, Drive(1), Pattern(0));
     let mut all = [first; 64];

@@ -6,7 +6,7 @@ use Prim.Native.Nat.{ℕ, _-_, _≤_}
 use native.Mathlib.Omega.{arith}
 use lib.ListN.{length, getD, take}
 use borrow.Author.Tests.{le-leb}
-use Rattle.drive_sets.specs.Bools.{cond-true, cond-false, and-intro}
+use Rattle.drive_sets.specs.Bools.Laws.{cond-true, cond-false, and-intro}
 use Rattle.verdicts.specs.declared.Verdict.{Verdict as Answer}
 use Rattle.verdicts.specs.Verdicts.{yes, no, verdictOn}
 use Rattle.verdicts.specs.Held.{verdictOf, verdictWithin, fits}

@@ -5,7 +5,7 @@ use Prim.Native.Nat.{ℕ, zero, suc, _+_, _*_, _/_, _%_, _≤_}
 use native.Mathlib.Omega.{arith}
 use lib.Dec.{ltb}
 use lib.ListN.{length, length-append}
-use Rattle.drive_sets.specs.Bools.{by-test, cond-true, cond-false}
+use Rattle.drive_sets.specs.Bools.Laws.{by-test, cond-true, cond-false}
 use Rattle.records.specs.Marks.{ascii}
 use Rattle.text.specs.declared.Base.{Base}
 use Rattle.text.specs.declared.Base.the-variants.{Decimal, Hexadecimal}

@@ -9,7 +9,7 @@ use lib.ListN.{length, take, drop, length-take, length-drop}
 use lib.Seq.{take-all}
 use borrow.Author.Tests.{le-leb, leb-true, not-false}
 use borrow.Rule.Slice.PartMut.{putMid}
-use Rattle.drive_sets.specs.Bools.{cond-true}
+use Rattle.drive_sets.specs.Bools.Laws.{cond-true}
 use Rattle.drive_sets.specs.Filled.{Filled}
 use Rattle.records.specs.declared.Writing.{Writing}
 use Rattle.records.specs.declared.Writing.the-variants as writings

@@ -7,7 +7,7 @@ use native.Mathlib.Numerals.{add-one}
 use lib.ListN.{length, getD, take}
 use lib.Seq.{take-suc, take-all}
 use borrow.Author.Tests.{lt-ltb, le-ltb}
-use Rattle.drive_sets.specs.Bools.{cond-true, cond-false}
+use Rattle.drive_sets.specs.Bools.Laws.{cond-true, cond-false}
 use Rattle.drive_sets.specs.Filled.{Filled}
 use Rattle.drive_sets.specs.Filled.Laws.{filled-then, filled-same}
 use Rattle.text.specs.Text.{digit, inBase, joined}

@@ -8,8 +8,8 @@ use native.Mathlib.Omega.{arith}
 use lib.Dec.{leb}
 use lib.ListN.{length, take, length-map}
 use borrow.Author.Tests.{leb-true, not-false}
-use Rattle.drive_sets.specs.Bools.{by-test, and-left, and-right, cond-true, cond-false}
-use Rattle.drive_sets.specs.Options.{by-option}
+use Rattle.drive_sets.specs.Bools.Laws.{by-test, and-left, and-right, cond-true, cond-false}
+use Rattle.drive_sets.specs.Options.Laws.{by-option}
 use Rattle.drive_sets.specs.Lists.{elem}
 use Rattle.drive_sets.specs.Masks.{full}
 use Rattle.drive_sets.specs.Masks.Laws.{full-word, has-some}

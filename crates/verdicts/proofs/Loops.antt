@@ -7,7 +7,7 @@ use Prim.Native.Nat.{ℕ, suc, _+_, _≤_, _<_}
 use native.Mathlib.Numerals.{add-one}
 use lib.ListN.{length, getD, drop}
 use borrow.Author.Tests.{eq-eqb, ne-eqb, lt-ltb, le-ltb}
-use Rattle.drive_sets.specs.Bools.{clash, cond-true, cond-false}
+use Rattle.drive_sets.specs.Bools.Laws.{clash, cond-true, cond-false}
 use Rattle.drive_sets.specs.Loops.Scan.{drop-next, Scan, scan-next, scan-turn, scan-end}
 use Rattle.drive_sets.specs.Masks.{common}
 use Rattle.verdicts.specs.Verdicts.{firstWith, disjoint}

@@ -8,7 +8,7 @@ use native.Mathlib.Omega.{arith}
 use lib.Dec.{eqb}
 use lib.ListN.{length}
 use borrow.Author.Tests.{eqb-true}
-use Rattle.drive_sets.specs.Bools.{clash, by-test, and-left, and-right, or-cases}
+use Rattle.drive_sets.specs.Bools.Laws.{clash, by-test, and-left, and-right, or-cases}
 use Rattle.drive_sets.specs.Refusals.Laws.{refused-no-result}
 use Rattle.drive_states.specs.declared.Exchange.{Exchange}
 use Rattle.agreement.specs.Calls.{initial}

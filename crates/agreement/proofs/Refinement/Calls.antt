@@ -10,7 +10,7 @@ use Prim.Native.Nat.{ℕ, suc, _+_, _<_}
 use lib.Dec.{eqb, leb}
 use lib.ListN.{length}
 use borrow.Author.Tests.{eqb-true, eq-eqb, leb-true, leb-false, not-true}
-use Rattle.drive_sets.specs.Bools.{clash, by-test, false-of, and-intro, and-left, and-right, or-left, or-right, or-second, or-cases, or-false-right, cond-true, cond-false, same-sets}
+use Rattle.drive_sets.specs.Bools.Laws.{clash, by-test, false-of, and-intro, and-left, and-right, or-left, or-right, or-second, or-cases, or-false-right, cond-true, cond-false, same-sets}
 use Rattle.drive_sets.specs.Lists.{elem}
 use Rattle.drive_sets.specs.Lists.Laws.{all-elem}
 use Rattle.drive_sets.specs.Masks.{has, size}

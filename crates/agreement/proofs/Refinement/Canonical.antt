@@ -8,7 +8,7 @@ use native.Mathlib.Omega.{arith}
 use lib.Dec.{eqb}
 use lib.ListN.{length}
 use borrow.Author.Tests.{eq-eqb, ne-eqb}
-use Rattle.drive_sets.specs.Bools.{clash, and-intro, or-left, or-neither, or-swap, or-false}
+use Rattle.drive_sets.specs.Bools.Laws.{clash, and-intro, or-left, or-neither, or-swap, or-false}
 use Rattle.drive_sets.specs.Lists.{any, elem, distinct}
 use Rattle.drive_sets.specs.Lists.Laws.{elem-head, elem-tail, elem-none, all-intro}
 use Rattle.drive_sets.specs.Lists.Distinct.{distinct-head, distinct-tail}

@@ -9,7 +9,7 @@ use Prim.Native.Nat.{ℕ, _<_}
 use native.Mathlib.Omega.{arith}
 use lib.Dec.{eqb, ltb}
 use borrow.Author.Tests.{eqb-true, eqb-false, ne-eqb, ltb-true, not-true}
-use Rattle.drive_sets.specs.Bools.{clash, by-test, false-of, unless, and-intro, and-left, and-right, or-left, or-right, or-neither, or-swap, or-false}
+use Rattle.drive_sets.specs.Bools.Laws.{clash, by-test, false-of, unless, and-intro, and-left, and-right, or-left, or-right, or-neither, or-swap, or-false}
 use Rattle.drive_sets.specs.Lists.{filter, all, any, elem, ordered, distinct}
 use Rattle.drive_sets.specs.Lists.Laws.{elem-head, elem-tail, elem-cases, elem-filter, elem-none, all-elem, all-intro, any-intro, ordered-filter}
 use Rattle.drive_sets.specs.Lists.Takes.{first-kept-least}

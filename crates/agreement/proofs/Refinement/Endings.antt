@@ -9,8 +9,8 @@ use native.Mathlib.Omega.{arith}
 use lib.Dec.{ltb}
 use lib.ListN.{length}
 use borrow.Author.Tests.{ltb-true, ltb-false}
-use Rattle.drive_sets.specs.Bools.{by-test, and-left, and-right}
-use Rattle.drive_sets.specs.Options.{by-option, none-some, same-some}
+use Rattle.drive_sets.specs.Bools.Laws.{by-test, and-left, and-right}
+use Rattle.drive_sets.specs.Options.Laws.{by-option, none-some, same-some}
 use Rattle.drive_sets.specs.Masks.{size}
 use Rattle.agreement.specs.Calls.{decisionOn}
 use Rattle.sync_crash.specs.Rounds.{Instance, Lawful, DecidesIn, start, after, decision}

@@ -6,7 +6,7 @@ use Prim.Native.Nat.{ℕ, _-_, _≤_}
 use lib.Dec.{eqb}
 use lib.ListN.{set, replicate}
 use borrow.Author.Tests.{eqb-true}
-use Rattle.drive_sets.specs.Bools.{clash, by-test, and-left, and-right, and-fails-left, and-fails-right, or-second}
+use Rattle.drive_sets.specs.Bools.Laws.{clash, by-test, and-left, and-right, and-fails-left, and-fails-right, or-second}
 use Rattle.drive_sets.specs.Lists.Laws.{all-elem}
 use Rattle.drive_sets.specs.Lists.{range}
 use Rattle.drive_sets.specs.Masks.{has, single}

@@ -3,7 +3,7 @@
 use mathlib.Core.Path.{_≡_, sym, ap, _∙_}
 use mathlib.Core.Bool.{true, false, not}
 use Prim.Native.Nat.{ℕ, suc, _<_}
-use Rattle.drive_sets.specs.Bools.{clash, false-of, and-intro, and-left, and-right}
+use Rattle.drive_sets.specs.Bools.Laws.{clash, false-of, and-intro, and-left, and-right}
 use Rattle.drive_sets.specs.Masks.{has, size}
 use Rattle.drive_sets.specs.Counts.Laws.{isDrive-range}
 use Rattle.sync_crash.specs.Rounds.{InFrame, halted}

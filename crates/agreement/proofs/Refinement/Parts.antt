@@ -7,7 +7,7 @@ use mathlib.Core.List.{List, [], _∷_}
 use Prim.Native.Nat.{ℕ, suc, _<_}
 use lib.ListN.{getD}
 use borrow.Author.Tests.{not-true}
-use Rattle.drive_sets.specs.Bools.{clash, by-test, and-left, and-right, or-left, or-second, or-cases}
+use Rattle.drive_sets.specs.Bools.Laws.{clash, by-test, and-left, and-right, or-left, or-second, or-cases}
 use Rattle.drive_sets.specs.Lists.{filter, all}
 use Rattle.drive_sets.specs.Lists.Laws.{first-kept-passes, all-elem}
 use Rattle.drive_sets.specs.Masks.{size}

@@ -10,7 +10,7 @@ use lib.Dec.{ltb}
 use lib.ListN.{length, take, getD, List·getD-eq-default}
 use lib.Seq.{take-all}
 use borrow.Author.Tests.{ltb-true, ltb-false}
-use Rattle.drive_sets.specs.Bools.{clash, by-test, and-left, and-right, or-second, cond-true, cond-false}
+use Rattle.drive_sets.specs.Bools.Laws.{clash, by-test, and-left, and-right, or-second, cond-true, cond-false}
 use Rattle.drive_sets.specs.Masks.{size}
 use Rattle.drive_states.specs.declared.Decision.the-variants.{Undecided, Decided}
 use Rattle.agreement.specs.Calls.{decisionOn}

@@ -9,8 +9,8 @@ use Prim.Native.Nat.{ℕ, _<_}
 use native.Mathlib.Omega.{arith}
 use lib.Dec.{eqb, ltb}
 use borrow.Author.Tests.{ltb-true, le-ltb, ne-eqb}
-use Rattle.drive_sets.specs.Bools.{clash, and-left, and-right, cond-true, cond-false}
-use Rattle.drive_sets.specs.Options.{by-option}
+use Rattle.drive_sets.specs.Bools.Laws.{clash, and-left, and-right, cond-true, cond-false}
+use Rattle.drive_sets.specs.Options.Laws.{by-option}
 use Rattle.drive_sets.specs.Lists.{all, elem, ordered, firstSome}
 use Rattle.drive_sets.specs.Lists.Laws.{elem-none, elem-head, elem-tail, elem-cases, all-elem}
 use Rattle.drive_states.specs.declared.Announcement.{Announcement}

@@ -8,8 +8,9 @@ use Prim.Native.Nat.{ℕ, suc, _+_, _<_}
 use native.Mathlib.Omega.{arith}
 use lib.Dec.{eqb}
 use borrow.Author.Tests.{ne-eqb}
-use Rattle.drive_sets.specs.Bools.{by-test, or-neither, or-false, cond-true, cond-false}
-use Rattle.drive_sets.specs.Options.{isSome, by-option}
+use Rattle.drive_sets.specs.Bools.Laws.{by-test, or-neither, or-false, cond-true, cond-false}
+use Rattle.drive_sets.specs.Options.{isSome}
+use Rattle.drive_sets.specs.Options.Laws.{by-option}
 use Rattle.drive_sets.specs.Lists.{range, filter, elem, smallest}
 use Rattle.drive_sets.specs.Lists.Smallest.{smallest-same}
 use Rattle.drive_sets.specs.Masks.{size, drives}

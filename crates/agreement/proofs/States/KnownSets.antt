@@ -7,7 +7,8 @@ use mathlib.Core.List.{List}
 use Prim.Native.Nat.{ℕ}
 use lib.Dec.{eqb}
 use borrow.Author.Tests.{eqb-true, eq-eqb}
-use Rattle.drive_sets.specs.Bools.{clash, false-of, same-test, and-intro, and-left, and-right, or-left, or-right, or-cases, or-false, _⊆_}
+use Rattle.drive_sets.specs.Bools.{_⊆_}
+use Rattle.drive_sets.specs.Bools.Laws.{clash, false-of, same-test, and-intro, and-left, and-right, or-left, or-right, or-cases, or-false}
 use Rattle.drive_sets.specs.Options.{isSome}
 use Rattle.drive_sets.specs.Lists.{range, any, elem}
 use Rattle.drive_sets.specs.Lists.Laws.{any-elem, any-intro}

@@ -9,7 +9,7 @@ use lib.ListN.{length, getD, set, replicate, length-set, length-map}
 use lib.Seq.{ext-getD, getD-set-same, getD-set-other}
 use borrow.Author.Tests.{eqb-true, eqb-false}
 use Rattle.drive_sets.specs.declared.Pattern.{Pattern}
-use Rattle.drive_sets.specs.Bools.{by-test, or-right, or-false}
+use Rattle.drive_sets.specs.Bools.Laws.{by-test, or-right, or-false}
 use Rattle.drive_sets.specs.Lists.{range, any, elem}
 use Rattle.drive_sets.specs.Lists.Laws.{elem-head, elem-tail}
 use Rattle.drive_sets.specs.Lists.Places.{length-range}

@@ -8,8 +8,8 @@ use Prim.Native.Nat.{ℕ, suc, _<_}
 use native.Mathlib.Omega.{arith}
 use lib.Dec.{eqb}
 use borrow.Author.Tests.{eqb-true, eq-eqb, ne-eqb}
-use Rattle.drive_sets.specs.Bools.{by-test, and-intro, or-neither, or-right, or-false, cond-true, cond-false}
-use Rattle.drive_sets.specs.Options.{by-option}
+use Rattle.drive_sets.specs.Bools.Laws.{by-test, and-intro, or-neither, or-right, or-false, cond-true, cond-false}
+use Rattle.drive_sets.specs.Options.Laws.{by-option}
 use Rattle.drive_sets.specs.Lists.{range, elem}
 use Rattle.drive_sets.specs.Lists.Laws.{ordered-range}
 use Rattle.drive_sets.specs.Masks.{has, union, subset, drives}

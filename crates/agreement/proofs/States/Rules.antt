@@ -5,7 +5,8 @@ use mathlib.Core.Bool.{Bool, true, false}
 use Prim.Native.Nat.{ℕ, _≤_}
 use native.Mathlib.Omega.{arith}
 use borrow.Author.Tests.{le-leb}
-use Rattle.drive_sets.specs.Bools.{and-intro, _⊆_}
+use Rattle.drive_sets.specs.Bools.{_⊆_}
+use Rattle.drive_sets.specs.Bools.Laws.{and-intro}
 use Rattle.drive_sets.specs.Lists.{range}
 use Rattle.drive_sets.specs.Lists.Laws.{elem-range, any-intro}
 use Rattle.drive_sets.specs.Masks.{has, full, subset}

@@ -7,7 +7,7 @@ use native.Mathlib.Omega.{arith}
 use lib.Dec.{eqb}
 use lib.ListN.{length, getD}
 use borrow.Author.Tests.{eq-eqb, ne-eqb}
-use Rattle.drive_sets.specs.Bools.{clash, by-test}
+use Rattle.drive_sets.specs.Bools.Laws.{clash, by-test}
 use Rattle.drive_sets.specs.Lists.{any, elem, distinct}
 use Rattle.drive_sets.specs.Lists.Distinct.{distinct-head, distinct-tail}
 use Rattle.drive_sets.specs.Lists.Places.{getD-elem}

@@ -1,7 +1,7 @@
 -- A drive of the frame, two tests.
 use lib.Dec.{leb}
 use borrow.Author.Tests.{le-leb, lt-leb}
-use Rattle.drive_sets.specs.Bools.{and-first, and-second}
+use Rattle.drive_sets.specs.Bools.Laws.{and-first, and-second}
 use Rattle.drive_sets.specs.Counts.{isDrive}
 use Rattle.drive_sets.proofs.is_drive.Statement.{statement}
 use Rattle.drive_sets.proofs.is_drive.Tie as tie

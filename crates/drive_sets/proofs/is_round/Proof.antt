@@ -2,7 +2,7 @@
 use mathlib.Core.Path.{ap, _∙_}
 use lib.Dec.{leb}
 use borrow.Author.Tests.{le-leb, lt-leb}
-use Rattle.drive_sets.specs.Bools.{and-first, and-second}
+use Rattle.drive_sets.specs.Bools.Laws.{and-first, and-second}
 use Rattle.drive_sets.specs.Masks.{size}
 use Rattle.drive_sets.specs.Counts.{isRound}
 use borrow.Author.Needs.{needs}

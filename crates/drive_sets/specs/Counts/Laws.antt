@@ -5,7 +5,7 @@ use Prim.Native.Nat.{ℕ, _≤_}
 use native.Mathlib.Omega.{arith}
 use lib.Dec.{leb}
 use borrow.Author.Tests.{leb-true, le-leb}
-use Rattle.drive_sets.specs.Bools.{same-test, and-intro, and-left, and-right}
+use Rattle.drive_sets.specs.Bools.Laws.{same-test, and-intro, and-left, and-right}
 use Rattle.drive_sets.specs.Counts.{isDrive, isRound}
 use Rattle.drive_sets.specs.Lists.{range, elem}
 use Rattle.drive_sets.specs.Lists.Laws.{elem-range, range-elem}

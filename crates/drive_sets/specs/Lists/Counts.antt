@@ -6,7 +6,7 @@ use mathlib.Core.List.{List, [], _∷_}
 use Prim.Native.Nat.{ℕ, suc, _+_, _≤_, _<_, zero-le}
 use native.Mathlib.Omega.{arith}
 use lib.ListN.{length}
-use Rattle.drive_sets.specs.Bools.{clash, by-test}
+use Rattle.drive_sets.specs.Bools.Laws.{clash, by-test}
 use Rattle.drive_sets.specs.Lists.{filter, elem}
 use Rattle.drive_sets.specs.Lists.Laws.{elem-head, elem-tail, elem-cases, elem-none, filter-true, filter-false}
 

@@ -5,7 +5,7 @@ use mathlib.Core.Logic.{⊎-elim}
 use mathlib.Core.List.{List, [], _∷_, _++_}
 use Prim.Native.Nat.{ℕ}
 use borrow.Author.Tests.{not-true}
-use Rattle.drive_sets.specs.Bools.{clash, by-test, false-of, and-intro, and-left, and-right}
+use Rattle.drive_sets.specs.Bools.Laws.{clash, by-test, false-of, and-intro, and-left, and-right}
 use Rattle.drive_sets.specs.Lists.{filter, all, elem, distinct, ordered}
 use Rattle.drive_sets.specs.Lists.Laws.{elem-head, elem-tail, elem-append-cases, all-elem, filter-true, filter-false, elem-filter}
 

@@ -5,8 +5,8 @@ use mathlib.Core.Logic.{⊎-elim}
 use mathlib.Core.List.{List, [], _∷_}
 use mathlib.Core.Option.{Option, none, some, orElse}
 use Prim.Native.Nat.{ℕ}
-use Rattle.drive_sets.specs.Bools.{clash}
-use Rattle.drive_sets.specs.Options.{by-option, none-some}
+use Rattle.drive_sets.specs.Bools.Laws.{clash}
+use Rattle.drive_sets.specs.Options.Laws.{by-option, none-some}
 use Rattle.drive_sets.specs.Lists.{elem, firstSome}
 use Rattle.drive_sets.specs.Lists.Laws.{elem-head, elem-tail, elem-cases, elem-none}
 

@@ -8,7 +8,7 @@ use native.Mathlib.Omega.{arith}
 use lib.Dec.{eqb, ltb}
 use lib.ListN.{length, getD}
 use borrow.Author.Tests.{eqb-true, eqb-false, eq-eqb, lt-ltb}
-use Rattle.drive_sets.specs.Bools.{clash, by-test, false-of, same-test, and-intro, and-left, and-right, and-not, or-left, or-right, or-cases, or-false, cond-true, cond-false}
+use Rattle.drive_sets.specs.Bools.Laws.{clash, by-test, false-of, same-test, and-intro, and-left, and-right, and-not, or-left, or-right, or-cases, or-false, cond-true, cond-false}
 use Rattle.drive_sets.specs.Lists.{range, filter, all, any, elem, ordered}
 
 -- ---- membership

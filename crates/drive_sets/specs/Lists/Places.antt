@@ -7,7 +7,7 @@ use Prim.Native.Nat.{ℕ, zero, suc, _+_, _<_, zero-le, suc-le-suc}
 use native.Mathlib.Nat.{add-zero}
 use native.Mathlib.Omega.{arith}
 use lib.ListN.{length, getD, take, drop, take-append-drop}
-use Rattle.drive_sets.specs.Bools.{clash, or-false-left}
+use Rattle.drive_sets.specs.Bools.Laws.{clash, or-false-left}
 use Rattle.drive_sets.specs.Lists.{range, any, elem}
 use Rattle.drive_sets.specs.Lists.Laws.{elem-head, elem-tail, elem-cases, elem-none, any-append}
 

@@ -10,8 +10,8 @@ use native.Mathlib.Nat.{le-antisymm}
 use native.Mathlib.Omega.{arith}
 use lib.Dec.{leb}
 use borrow.Author.Tests.{leb-true, leb-false}
-use Rattle.drive_sets.specs.Bools.{clash, by-test}
-use Rattle.drive_sets.specs.Options.{by-option, none-some, same-some}
+use Rattle.drive_sets.specs.Bools.Laws.{clash, by-test}
+use Rattle.drive_sets.specs.Options.Laws.{by-option, none-some, same-some}
 use Rattle.drive_sets.specs.Lists.{elem, smaller, smallest}
 use Rattle.drive_sets.specs.Lists.Laws.{elem-head, elem-tail, elem-cases, elem-none, no-elem}
 

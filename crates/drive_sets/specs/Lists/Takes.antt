@@ -11,7 +11,7 @@ use lib.Dec.{ltb}
 use lib.ListN.{length, take, drop, getD}
 use lib.Seq.{drop-drop, drop-append-add}
 use borrow.Author.Tests.{ltb-true}
-use Rattle.drive_sets.specs.Bools.{clash, by-test, false-of, and-intro, and-left, and-right}
+use Rattle.drive_sets.specs.Bools.Laws.{clash, by-test, false-of, and-intro, and-left, and-right}
 use Rattle.drive_sets.specs.Lists.{filter, all, elem, ordered, distinct}
 use Rattle.drive_sets.specs.Lists.Laws.{elem-head, elem-tail, elem-cases, elem-none, all-elem, all-intro, filter-true, filter-false}
 use Rattle.drive_sets.specs.Lists.Distinct.{distinct-none, distinct-cons, distinct-head, distinct-tail}

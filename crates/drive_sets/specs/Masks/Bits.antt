@@ -6,7 +6,7 @@ use native.Mathlib.Nat.{mod-lt, pow-suc, div-div-eq-div-mul, mul-comm, div-one, 
 use native.Mathlib.Omega.{arith}
 use native.Mathlib.Numerals.{add-one}
 use borrow.Author.Tests.{eqb-true, eqb-false}
-use Rattle.drive_sets.specs.Bools.{by-test}
+use Rattle.drive_sets.specs.Bools.Laws.{by-test}
 use lib.Arith.{lt-one, digits-mod}
 use lib.Pow.{shr-lt, pow-mono}
 use lib.Bits.{bitAnd, bitOr, and-le-l, and-step, or-step, and-shr, or-shr}

@@ -8,7 +8,7 @@ use native.Mathlib.Nat.{lt-of-lt-of-le}
 use native.Mathlib.Omega.{arith}
 use lib.Pow.{pow-mono}
 use lib.ListN.{length, getD}
-use Rattle.drive_sets.specs.Bools.{clash, same-test, and-intro, and-right}
+use Rattle.drive_sets.specs.Bools.Laws.{clash, same-test, and-intro, and-right}
 use Rattle.drive_sets.specs.Lists.{range, filter, elem}
 use Rattle.drive_sets.specs.Lists.Laws.{elem-none, elem-cases, elem-append-left, elem-filter, range-elem, ordered-filter, ordered-range}
 use Rattle.drive_sets.specs.Masks.{has, size, drives, Below}

@@ -9,7 +9,7 @@ use lib.Pow.{pow-lt, pow-pos, pow-mono, ones-lt}
 use lib.Bits.{bitAnd, and-le-l, and-le-r, and-comm, and-self, and-zero-l, or-lt, or-zero-r, or-add-and}
 use lib.Dec.{eqb, ltb, leb}
 use borrow.Author.Tests.{eqb-true, eqb-false, eq-eqb, ne-eqb, lt-ltb, le-leb, leb-true, leb-false, not-true}
-use Rattle.drive_sets.specs.Bools.{clash, by-test, false-of, true-of, same-test, and-intro, and-left, and-right, or-left, cond-true}
+use Rattle.drive_sets.specs.Bools.Laws.{clash, by-test, false-of, true-of, same-test, and-intro, and-left, and-right, or-left, cond-true}
 use Rattle.drive_sets.specs.Masks.{has, single, full, union, common, minus, meets, subset}
 use Rattle.drive_sets.specs.Masks.Bits.{bit, bit-lt, bit-zero, bit-suc, bit-none, bit-above, half-lt, bit-ext, bit-and, bit-or, bit-minus, bit-one, bit-ones, on-digits, digit-ext}
 

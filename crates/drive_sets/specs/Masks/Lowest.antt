@@ -8,7 +8,7 @@ use lib.Bits.{bitAnd, and-step, and-self}
 use lib.Count.{trailingZeros, under}
 use lib.Dec.{eqb}
 use borrow.Author.Tests.{eqb-true, eq-eqb, lt-ltb}
-use Rattle.drive_sets.specs.Bools.{same-test, cond-true}
+use Rattle.drive_sets.specs.Bools.Laws.{same-test, cond-true}
 use Rattle.drive_sets.specs.Masks.{single, common, minus, size, lowest}
 use Rattle.drive_sets.specs.Masks.Bits.{half-lt}
 use Rattle.drive_sets.specs.Masks.Laws.{has-bounds, minus-lt}

@@ -6,7 +6,7 @@ use Prim.Native.Nat.{ℕ, _^_, _≤_, _<_}
 use native.Mathlib.Omega.{arith}
 use lib.Dec.{eqb}
 use borrow.Author.Tests.{eqb-true, eqb-false, eq-eqb, ne-eqb, not-true}
-use Rattle.drive_sets.specs.Bools.{clash, by-test, same-test, and-intro, and-left, and-right, or-left, or-right, or-cases}
+use Rattle.drive_sets.specs.Bools.Laws.{clash, by-test, same-test, and-intro, and-left, and-right, or-left, or-right, or-cases}
 use Rattle.drive_sets.specs.Masks.{has, single, union, common, minus, subset, size, lowest}
 use Rattle.drive_sets.specs.Masks.Laws.{has-union, has-common, has-minus, has-single, has-bounds, has-ext, common-lt-right, union-lt, minus-lt, single-lt, subset-has}
 use Rattle.drive_sets.specs.Masks.Sizes.{size-none, lowest-has, size-single, single-subset, subset-size}

@@ -3,7 +3,7 @@ use mathlib.Core.Path.{_≡_, sym, ap, _∙_}
 use mathlib.Core.Bool.{true, false, not, _&&_}
 use Prim.Native.Nat.{ℕ, _^_, _≤_, _<_}
 use borrow.Author.Tests.{not-true}
-use Rattle.drive_sets.specs.Bools.{clash, false-of, same-test, and-intro, and-right}
+use Rattle.drive_sets.specs.Bools.Laws.{clash, false-of, same-test, and-intro, and-right}
 use Rattle.drive_sets.specs.Masks.{has, full, outside, meets, subset}
 use Rattle.drive_sets.specs.Masks.Laws.{has-minus, has-bounds, full-has, minus-lt, full-lt, subset-has, has-subset, subset-not, has-meets, meets-has, meets-not, not-meets}
 

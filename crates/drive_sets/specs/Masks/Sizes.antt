@@ -12,7 +12,7 @@ use lib.Count.{ones, onesIn, ones-step, ones-cat, ones-ones, trailingZeros, unde
 use lib.Dec.{eqb, ltb}
 use lib.ListN.{length}
 use borrow.Author.Tests.{eqb-true, eqb-false, eq-eqb, lt-ltb, ltb-true, not-true}
-use Rattle.drive_sets.specs.Bools.{clash, by-test, same-test, and-intro, and-left, and-right, cond-true}
+use Rattle.drive_sets.specs.Bools.Laws.{clash, by-test, same-test, and-intro, and-left, and-right, cond-true}
 use Rattle.drive_sets.specs.Lists.{range, filter, any, elem, ordered, distinct}
 use Rattle.drive_sets.specs.Lists.Laws.{elem-head, elem-tail, all-intro, filter-true, filter-false, elem-filter, range-elem, ordered-filter, ordered-range, ordered-unique}
 use Rattle.drive_sets.specs.Lists.Distinct.{ordered-distinct}

@@ -6,7 +6,8 @@ use Prim.Native.Nat.{ℕ, _^_, _≤_, _<_}
 use native.Mathlib.Omega.{arith}
 use lib.Dec.{eqb}
 use borrow.Author.Tests.{eqb-true, eq-eqb, not-true}
-use Rattle.drive_sets.specs.Bools.{clash, false-of, true-of, same-test, and-left, and-right, beq-eq, eq-beq, _⊆_}
+use Rattle.drive_sets.specs.Bools.{_⊆_}
+use Rattle.drive_sets.specs.Bools.Laws.{clash, false-of, true-of, same-test, and-left, and-right, beq-eq, eq-beq}
 use Rattle.drive_sets.specs.Lists.{range, filter, all, any, elem}
 use Rattle.drive_sets.specs.Lists.Laws.{elem-range, range-elem, elem-filter, all-elem, all-intro, any-elem, any-intro}
 use Rattle.drive_sets.specs.Masks.{has, single, union, subset, drives, ofDrives}

@@ -5,7 +5,7 @@ use mathlib.Core.Bool.{Bool, true, false}
 use mathlib.Core.List.{List}
 use Prim.Native.Nat.{ℕ, zero, suc, _^_, _≤_, _<_}
 use native.Mathlib.Omega.{arith}
-use Rattle.drive_sets.specs.Bools.{clash, false-of, true-of}
+use Rattle.drive_sets.specs.Bools.Laws.{clash, false-of, true-of}
 use Rattle.drive_sets.specs.Lists.{any, elem}
 use Rattle.drive_sets.specs.Lists.Laws.{all-not, any-elem, any-intro}
 use Rattle.drive_sets.specs.Masks.{has, single, minus, meets, subset, size, Below}
@@ -49,8 +49,8 @@ module _ {Φ : Type 0} (n : ℕ) (frame : n ≤ 64) (sets : List ℕ) (correct :
         ∙ meets-subset n m (s .0) (correct φ) (subset-lt n (s .0) (correct φ) (s .2) (described .within φ)) (s .2)
         (meets-sym m (s .0) ∙ hits-meets sets m (s .0) h (s .1))
 
-    pub core-minimal : (c : ℕ) → Core n correct c → Minimal sets c
-    core-minimal c core =
+    pub core-hitting : (c : ℕ) → Core n correct c → Minimal sets c
+    core-hitting c core =
         record {
           all-met = meets-hits sets c (λ s e.
               let w = described .occurs s e in subst (λ (x : ℕ). meets x c ≡ true) (w .1) (core .some-correct (w .0)));
@@ -63,9 +63,9 @@ module _ {Φ : Type 0} (n : ℕ) (frame : n ≤ 64) (sets : List ℕ) (correct :
               (w .1)));
         }
 
-    pub minimal-core : (c : ℕ) → c < 2 ^ n → Minimal sets c → Core n correct c
+    pub hitting-core : (c : ℕ) → c < 2 ^ n → Minimal sets c → Core n correct c
     unfolding hits
-    minimal-core c lt min =
+    hitting-core c lt min =
         record {
           within = lt;
           some-correct = meets-correct c (min .all-met);

@@ -6,7 +6,7 @@ use mathlib.Core.List.{List, [], _++_}
 use Prim.Native.Nat.{ℕ, _^_, _≤_, _<_}
 use lib.Dec.{eqb}
 use borrow.Author.Tests.{eqb-false, eq-eqb, not-true}
-use Rattle.drive_sets.specs.Bools.{clash, false-of, or-cases, and-intro, and-left, and-right}
+use Rattle.drive_sets.specs.Bools.Laws.{clash, false-of, or-cases, and-intro, and-left, and-right}
 use Rattle.drive_sets.specs.Lists.{filter}
 use Rattle.drive_sets.specs.Lists.Laws.{no-elem, any-elem, elem-filter}
 use Rattle.drive_sets.specs.Masks.{has, single, union, common, minus, subset, drives, Below}

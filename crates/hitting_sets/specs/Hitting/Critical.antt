@@ -6,7 +6,7 @@ use Prim.Native.Nat.{ℕ, _^_, _≤_, _<_}
 use lib.Pow.{pow-pos}
 use lib.Dec.{eqb}
 use borrow.Author.Tests.{eqb-true, eqb-false, eq-eqb, ne-eqb}
-use Rattle.drive_sets.specs.Bools.{by-test, false-of, cond-true, cond-false}
+use Rattle.drive_sets.specs.Bools.Laws.{by-test, false-of, cond-true, cond-false}
 use Rattle.drive_sets.specs.Lists.{any, elem}
 use Rattle.drive_sets.specs.Lists.Laws.{any-elem, any-intro}
 use Rattle.drive_sets.specs.Masks.{has, single, union, common, subset, size}

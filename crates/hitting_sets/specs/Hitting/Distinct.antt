@@ -5,7 +5,7 @@ use mathlib.Core.List.{List, [], _∷_, _++_}
 use Prim.Native.Nat.{ℕ}
 use lib.Dec.{eqb}
 use borrow.Author.Tests.{eqb-true, not-true}
-use Rattle.drive_sets.specs.Bools.{clash, by-test, and-left, and-right, cond-false}
+use Rattle.drive_sets.specs.Bools.Laws.{clash, by-test, and-left, and-right, cond-false}
 use Rattle.drive_sets.specs.Lists.{any, elem, distinct}
 use Rattle.drive_sets.specs.Lists.Laws.{elem-head, elem-tail}
 use Rattle.drive_sets.specs.Lists.Distinct.{distinct-append}

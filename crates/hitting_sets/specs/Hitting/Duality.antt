@@ -9,7 +9,7 @@ use Prim.Native.Nat.{ℕ, _^_, _≤_, _<_}
 use native.Mathlib.Nat.{lt-of-lt-of-le}
 use lib.Pow.{pow-mono}
 use borrow.Author.Tests.{not-true}
-use Rattle.drive_sets.specs.Bools.{clash, false-of, true-of, same-test}
+use Rattle.drive_sets.specs.Bools.Laws.{clash, false-of, true-of, same-test}
 use Rattle.drive_sets.specs.Lists.{any, elem, distinct, ordered}
 use Rattle.drive_sets.specs.Lists.Laws.{all-not, any-elem, any-intro, any-not}
 use Rattle.drive_sets.specs.Masks.{outside, meets, subset, Below}

@@ -8,7 +8,7 @@ use Prim.Native.Nat.{ℕ, _^_, _≤_, _<_}
 use native.Mathlib.Nat.{le-refl}
 use lib.Dec.{eqb}
 use borrow.Author.Tests.{eqb-true, eq-eqb, ne-eqb, not-true}
-use Rattle.drive_sets.specs.Bools.{clash, by-test, false-of, and-intro, and-left, and-right, and-not, or-left, or-right, or-cases, cond-false}
+use Rattle.drive_sets.specs.Bools.Laws.{clash, by-test, false-of, and-intro, and-left, and-right, and-not, or-left, or-right, or-cases, cond-false}
 use Rattle.drive_sets.specs.Lists.{range, filter, elem}
 use Rattle.drive_sets.specs.Lists.Laws.{elem-head, elem-tail, elem-none, elem-cases, elem-append-left, elem-append-right, elem-filter, filter-true, filter-false, filter-same}
 use Rattle.drive_sets.specs.Lists.Takes.{filter-filter}

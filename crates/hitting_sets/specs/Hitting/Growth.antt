@@ -6,7 +6,7 @@ use mathlib.Core.List.{List, [], _∷_, _++_}
 use Prim.Native.Nat.{ℕ, _^_, _≤_, _<_}
 use lib.Dec.{eqb}
 use borrow.Author.Tests.{eqb-true, eqb-false}
-use Rattle.drive_sets.specs.Bools.{clash, by-test, false-of, and-intro, and-left}
+use Rattle.drive_sets.specs.Bools.Laws.{clash, by-test, false-of, and-intro, and-left}
 use Rattle.drive_sets.specs.Lists.{elem}
 use Rattle.drive_sets.specs.Lists.Laws.{elem-head, elem-append-right, elem-append-cases, elem-one}
 use Rattle.drive_sets.specs.Masks.{has, single, union, common, minus, meets, subset, Below}

@@ -4,7 +4,7 @@ use mathlib.Core.Bool.{true, _&&_}
 use mathlib.Core.List.{List, [], _∷_, _++_}
 use Prim.Native.Nat.{ℕ, _^_, _≤_, _<_}
 use native.Mathlib.Nat.{le-refl}
-use Rattle.drive_sets.specs.Bools.{and-intro, and-left, and-right}
+use Rattle.drive_sets.specs.Bools.Laws.{and-intro, and-left, and-right}
 use Rattle.drive_sets.specs.Lists.{all, elem}
 use Rattle.drive_sets.specs.Lists.Laws.{all-elem, all-intro, all-append, all-same-elements}
 use Rattle.drive_sets.specs.Masks.{has, full, common, meets, subset, Below}

@@ -3,7 +3,7 @@ use mathlib.Core.Path.{_≡_, sym, _∙_}
 use mathlib.Core.Bool.{Bool, true}
 use mathlib.Core.List.{List}
 use Prim.Native.Nat.{ℕ}
-use Rattle.drive_sets.specs.Bools.{same-test}
+use Rattle.drive_sets.specs.Bools.Laws.{same-test}
 use Rattle.drive_sets.specs.Lists.{elem, ordered}
 use Rattle.drive_sets.specs.Lists.Laws.{ordered-unique}
 use Rattle.hitting_sets.specs.Hitting.{hits, Minimal, minimals}

@@ -6,7 +6,7 @@ use Prim.Native.Nat.{ℕ, zero, suc, _^_, _≤_, _<_}
 use native.Mathlib.Omega.{arith}
 use lib.Dec.{eqb}
 use borrow.Author.Tests.{eqb-true, eqb-false}
-use Rattle.drive_sets.specs.Bools.{clash, by-test, true-of, same-test}
+use Rattle.drive_sets.specs.Bools.Laws.{clash, by-test, true-of, same-test}
 use Rattle.drive_sets.specs.Lists.{any, elem}
 use Rattle.drive_sets.specs.Lists.Laws.{any-elem, any-intro}
 use Rattle.drive_sets.specs.Masks.{has, single, common, minus, meets, subset, size}

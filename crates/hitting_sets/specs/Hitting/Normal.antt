@@ -2,7 +2,7 @@
 use mathlib.Core.Path.{_≡_, _∙_}
 use mathlib.Core.List.{List}
 use Prim.Native.Nat.{ℕ}
-use Rattle.drive_sets.specs.Bools.{same-test}
+use Rattle.drive_sets.specs.Bools.Laws.{same-test}
 use Rattle.drive_sets.specs.Masks.{Below}
 use Rattle.drive_sets.specs.Masks.Laws.{meets-sym, meets-subset}
 use Rattle.set_orders.specs.Order.{normal}

@@ -7,7 +7,7 @@ use Prim.Native.Nat.{ℕ, _^_, _<_}
 use lib.Seq.{append-snoc}
 use lib.Dec.{eqb}
 use borrow.Author.Tests.{eqb-true, eq-eqb}
-use Rattle.drive_sets.specs.Bools.{clash, by-test, cond-true, cond-false}
+use Rattle.drive_sets.specs.Bools.Laws.{clash, by-test, cond-true, cond-false}
 use Rattle.drive_sets.specs.Lists.{elem}
 use Rattle.drive_sets.specs.Lists.Laws.{elem-head, elem-tail, elem-none, elem-one, elem-cases, elem-append-left, elem-append-right, elem-append-cases}
 use Rattle.drive_sets.specs.Masks.{single, union, meets, subset, drives, Below}

@@ -9,7 +9,7 @@ use lib.ListN.{length, take, drop, length-append}
 use lib.Seq.{take-at, drop-at}
 use lib.Dec.{ltb}
 use borrow.Author.Tests.{le-ltb, ltb-false, eqb-true, not-false}
-use Rattle.drive_sets.specs.Bools.{by-test, cond-true, cond-false}
+use Rattle.drive_sets.specs.Bools.Laws.{by-test, cond-true, cond-false}
 use Rattle.drive_sets.specs.declared.Refusal.{Refusal}
 use Rattle.records.specs.declared.Due.{Due}
 use Rattle.records.specs.declared.Kind.{Kind}

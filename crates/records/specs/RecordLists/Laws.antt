@@ -10,8 +10,8 @@ use native.Mathlib.Omega.{arith}
 use lib.Dec.{eqb}
 use lib.ListN.{length, drop, length-append}
 use borrow.Author.Tests.{lt-ltb, eq-eqb}
-use Rattle.drive_sets.specs.Bools.{clash, by-test, or-cases, cond-true, cond-false}
-use Rattle.drive_sets.specs.Options.{none-some, same-some}
+use Rattle.drive_sets.specs.Bools.Laws.{clash, by-test, or-cases, cond-true, cond-false}
+use Rattle.drive_sets.specs.Options.Laws.{none-some, same-some}
 use Rattle.drive_sets.specs.declared.Refusal.{Refusal}
 use Rattle.drive_sets.specs.declared.Refusal.the-variants.{EndsTooSoon, CountDiffers}
 use Rattle.drive_sets.specs.Refusals.{Outcome, result, andThen}

@@ -9,7 +9,7 @@ use lib.ListN.{length, getD, set}
 use lib.Seq.{getD-set-same, getD-set-other}
 use borrow.Author.Tests.{lt-ltb}
 use Rattle.drive_sets.specs.declared.Round.{Round}
-use Rattle.drive_sets.specs.Bools.{and-intro, and-left, and-right}
+use Rattle.drive_sets.specs.Bools.Laws.{and-intro, and-left, and-right}
 use Rattle.drive_sets.specs.Lists.{all, elem, ordered}
 use Rattle.drive_sets.specs.Lists.Laws.{elem-head, elem-tail, elem-last, all-append}
 use Rattle.drive_sets.specs.Masks.{has, single, union, drives, ofDrives}

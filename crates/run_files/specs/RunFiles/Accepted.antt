@@ -10,13 +10,14 @@ use native.Mathlib.Omega.{arith}
 use lib.Dec.{eqb, leb, ltb}
 use lib.ListN.{length, getD}
 use borrow.Author.Tests.{leb-true, lt-ltb, eqb-true, eqb-false, ne-eqb}
-use Rattle.drive_sets.specs.Bools.{clash, by-test, and-intro, and-left, and-right, cond-true, cond-false}
+use Rattle.drive_sets.specs.Bools.Laws.{clash, by-test, and-intro, and-left, and-right, cond-true, cond-false}
 use Rattle.drive_sets.specs.Lists.{all, elem, ordered}
 use Rattle.drive_sets.specs.Lists.Laws.{elem-none, elem-head, elem-cases, any-false, all-intro, all-not}
 use Rattle.drive_sets.specs.Masks.{has, size, meets}
 use Rattle.drive_sets.specs.Masks.Laws.{meets-not}
 use Rattle.drive_sets.specs.Masks.Sizes.{has-ofDrives}
-use Rattle.drive_sets.specs.Options.{isSome, none-some, same-some, none-of}
+use Rattle.drive_sets.specs.Options.{isSome}
+use Rattle.drive_sets.specs.Options.Laws.{none-some, same-some, none-of}
 use Rattle.drive_sets.specs.declared.Refusal.the-variants.{TrailingBytes, NoneUntouched}
 use Rattle.drive_sets.specs.Refusals.{result}
 use Rattle.drive_sets.specs.Refusals.Laws.{same-result, passed, first-result}

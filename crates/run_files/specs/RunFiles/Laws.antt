@@ -9,7 +9,7 @@ use lib.Dec.{eqb, leb, ltb}
 use lib.ListN.{length, getD, take, drop, length-take, length-append}
 use lib.Seq.{getD-drop, append-snoc}
 use borrow.Author.Tests.{not-false, leb-true, leb-false, ltb-true, ltb-false}
-use Rattle.drive_sets.specs.Bools.{clash, and-left, and-right}
+use Rattle.drive_sets.specs.Bools.Laws.{clash, and-left, and-right}
 use Rattle.drive_sets.specs.declared.Refusal.the-variants.{DriveNumber, CrashRound, CrashSends}
 use Rattle.drive_sets.specs.Refusals.{result}
 use Rattle.drive_sets.specs.Refusals.Laws.{same-result, passed, first-result}

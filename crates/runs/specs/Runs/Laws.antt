@@ -7,7 +7,7 @@ use mathlib.Core.List.{List, [], _∷_}
 use Prim.Native.Nat.{ℕ}
 use lib.Dec.{eqb}
 use borrow.Author.Tests.{eqb-true, eq-eqb, not-true}
-use Rattle.drive_sets.specs.Bools.{clash, and-intro, and-left, and-right, and-not, or-cases, or-false-left, or-false-right}
+use Rattle.drive_sets.specs.Bools.Laws.{clash, and-intro, and-left, and-right, and-not, or-cases, or-false-left, or-false-right}
 use Rattle.drive_sets.specs.Counts.{isDrive}
 use Rattle.runs.specs.Protocol.{Protocol}
 use Rattle.runs.specs.Scenario.{Scenario}

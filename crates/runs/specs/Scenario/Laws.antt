@@ -5,7 +5,7 @@ use Prim.Native.Nat.{ℕ, suc}
 use native.Mathlib.Omega.{arith}
 use lib.Dec.{ltb, leb·suc-suc}
 use borrow.Author.Tests.{ltb-true, leb-false, lt-leb}
-use Rattle.drive_sets.specs.Bools.{clash}
+use Rattle.drive_sets.specs.Bools.Laws.{clash}
 use Rattle.drive_sets.specs.Lists.{filter, distinct, ordered}
 use Rattle.drive_sets.specs.Lists.Laws.{ordered-range}
 use Rattle.drive_sets.specs.Lists.Distinct.{distinct-filter, ordered-distinct}

@@ -6,7 +6,7 @@ use mathlib.Core.List.{List, [], _∷_, _++_}
 use Prim.Native.Nat.{ℕ}
 use lib.Dec.{eqb}
 use borrow.Author.Tests.{eqb-true, eq-eqb}
-use Rattle.drive_sets.specs.Bools.{clash, by-test, cond-true, cond-false}
+use Rattle.drive_sets.specs.Bools.Laws.{clash, by-test, cond-true, cond-false}
 use Rattle.drive_sets.specs.Refusals.{Outcome, refused, result}
 use Rattle.drive_states.specs.declared.Exchange.{Exchange}
 use Rattle.runs.specs.Protocol.{Protocol}

@@ -8,7 +8,7 @@ use native.Mathlib.Omega.{arith}
 use lib.Dec.{eqb, leb}
 use lib.ListN.{length}
 use borrow.Author.Tests.{eqb-true, eqb-false, ne-eqb, leb-true, leb-false, le-leb, lt-leb, not-true}
-use Rattle.drive_sets.specs.Bools.{clash, by-test, false-of, true-of, same-test, and-intro, and-left, and-right, or-and-not, cond-true, cond-false}
+use Rattle.drive_sets.specs.Bools.Laws.{clash, by-test, false-of, true-of, same-test, and-intro, and-left, and-right, or-and-not, cond-true, cond-false}
 use Rattle.drive_sets.specs.Lists.{filter, any, elem, distinct, ordered}
 use Rattle.drive_sets.specs.Lists.Laws.{elem-some, some-elem, any-elem, any-intro, elem-filter, filter-append, filter-same, length-filter, ordered-unique}
 use Rattle.drive_sets.specs.Lists.Takes.{filter-filter}

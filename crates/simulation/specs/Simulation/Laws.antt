@@ -10,7 +10,7 @@ use lib.Dec.{eqb, leb, ltb}
 use lib.ListN.{getD}
 use borrow.Author.Tests.{ltb-false, eqb-true, leb-true, not-false}
 use Rattle.drive_sets.specs.declared.Refusal.the-variants.{DriveNumber, CrashRound, CrashSends, NoneUntouched}
-use Rattle.drive_sets.specs.Bools.{clash, by-test, false-of, and-left, and-right, cond-true, cond-false}
+use Rattle.drive_sets.specs.Bools.Laws.{clash, by-test, false-of, and-left, and-right, cond-true, cond-false}
 use Rattle.drive_sets.specs.Lists.{elem}
 use Rattle.drive_sets.specs.Lists.Laws.{elem-head, elem-tail, elem-cases, elem-none, all-not}
 use Rattle.drive_sets.specs.Masks.{size, meets}

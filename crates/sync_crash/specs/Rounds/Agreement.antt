@@ -8,8 +8,8 @@ use Prim.Native.Nat.{ℕ, suc, _≤_, _<_}
 use native.Mathlib.Nat.{le-of-suc-le-suc}
 use native.Mathlib.Omega.{arith}
 use lib.ListN.{length}
-use Rattle.drive_sets.specs.Bools.{and-left}
-use Rattle.drive_sets.specs.Options.{by-option}
+use Rattle.drive_sets.specs.Bools.Laws.{and-left}
+use Rattle.drive_sets.specs.Options.Laws.{by-option}
 use Rattle.drive_sets.specs.Lists.{range, filter}
 use Rattle.drive_sets.specs.Lists.Counts.{length-filter-lt}
 use Rattle.sync_crash.specs.Rounds.{Instance, InFrame, Lawful, decision, StaysUp, failures, DecidesIn}

@@ -9,8 +9,8 @@ use mathlib.Core.Option.{none}
 use Prim.Native.Nat.{ℕ, zero, suc, _+_, _≤_, _<_}
 use native.Mathlib.Omega.{arith}
 use lib.ListN.{length}
-use Rattle.drive_sets.specs.Bools.{clash, false-of, and-intro, and-left, and-right, beq-differ}
-use Rattle.drive_sets.specs.Options.{by-option, none-some, is-none}
+use Rattle.drive_sets.specs.Bools.Laws.{clash, false-of, and-intro, and-left, and-right, beq-differ}
+use Rattle.drive_sets.specs.Options.Laws.{by-option, none-some, is-none}
 use Rattle.drive_sets.specs.Lists.{range, filter, all}
 use Rattle.drive_sets.specs.Lists.Laws.{all-not, any-intro}
 use Rattle.drive_sets.specs.Lists.Counts.{length-filter-le, length-filter-lt, length-filter-split}

@@ -9,8 +9,9 @@ use native.Mathlib.Omega.{arith}
 use native.Mathlib.Decide.{le-ind}
 use lib.Dec.{leb}
 use borrow.Author.Tests.{leb-true, leb-false}
-use Rattle.drive_sets.specs.Bools.{by-test, cond-true, cond-false}
-use Rattle.drive_sets.specs.Options.{isSome, by-option, none-some, same-some, is-some, some-of}
+use Rattle.drive_sets.specs.Bools.Laws.{by-test, cond-true, cond-false}
+use Rattle.drive_sets.specs.Options.{isSome}
+use Rattle.drive_sets.specs.Options.Laws.{by-option, none-some, same-some, is-some, some-of}
 use Rattle.drive_sets.specs.Lists.{range}
 use Rattle.drive_sets.specs.Lists.FirstSome.{first-elem, first-none}
 use Rattle.sync_crash.specs.Rounds.{Instance, Lawful, start, smallestOf, announces, announced, stable, ifStable, decides, reaches, after, knows, decision, DecidesIn}

@@ -8,7 +8,8 @@ use mathlib.Core.Logic.{⊎-elim}
 use Prim.Native.Nat.{ℕ, zero, suc}
 use lib.Dec.{eqb}
 use borrow.Author.Tests.{eqb-true, eqb-false}
-use Rattle.drive_sets.specs.Bools.{clash, by-test, and-left, _⊆_}
+use Rattle.drive_sets.specs.Bools.{_⊆_}
+use Rattle.drive_sets.specs.Bools.Laws.{clash, by-test, and-left}
 use Rattle.sync_crash.specs.Rounds.{Instance, InFrame, Lawful, start, heard, after, knows, before}
 use Rattle.sync_crash.specs.Rounds.Steps.{Active, Sender, Reaches, Closer, Learnt, by-close, before-now, knows-stays, closer-active, active-closed, sender-active, active-sends, heard-self, heard-reaches, heard-cases, learns, learnt}
 

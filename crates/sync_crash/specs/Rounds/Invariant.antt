@@ -5,8 +5,9 @@ use mathlib.Core.Bool.{Bool, true, false, _&&_}
 use mathlib.Core.Logic.{_⊎_, inl, inr, ⊎-elim}
 use mathlib.Core.Option.{none, some}
 use Prim.Native.Nat.{ℕ, suc}
-use Rattle.drive_sets.specs.Bools.{clash, by-test, false-of, and-intro, and-left, and-right, same-sets}
-use Rattle.drive_sets.specs.Options.{isSome, same-some, some-of, none-of}
+use Rattle.drive_sets.specs.Bools.Laws.{clash, by-test, false-of, and-intro, and-left, and-right, same-sets}
+use Rattle.drive_sets.specs.Options.{isSome}
+use Rattle.drive_sets.specs.Options.Laws.{same-some, some-of, none-of}
 use Rattle.drive_sets.specs.Lists.{range, any}
 use Rattle.drive_sets.specs.Lists.Laws.{any-elem, any-not}
 use Rattle.sync_crash.specs.Rounds.{Instance, InFrame, Lawful, smallestOf, knows, decision, halted}

@@ -6,8 +6,8 @@ use mathlib.Core.Logic.{inl, inr, ⊎-elim}
 use mathlib.Core.Option.{none, some}
 use Prim.Native.Nat.{ℕ, zero, suc}
 use borrow.Author.Tests.{not-true}
-use Rattle.drive_sets.specs.Bools.{clash, by-test}
-use Rattle.drive_sets.specs.Options.{by-option, none-some, same-some, is-some, is-none, some-of}
+use Rattle.drive_sets.specs.Bools.Laws.{clash, by-test}
+use Rattle.drive_sets.specs.Options.Laws.{by-option, none-some, same-some, is-some, is-none, some-of}
 use Rattle.sync_crash.specs.Rounds.{Instance, InFrame, Lawful, start, smallestOf, after, knows, decision, StaysUp}
 use Rattle.sync_crash.specs.Rounds.Steps.{Closer, undecided-awake, decision-stays}
 use Rattle.sync_crash.specs.Rounds.Decisions.{Announcement, StableClose, undecided-other, reached-decides, how-decided, decided-stays}

@@ -4,7 +4,8 @@ use mathlib.Core.Bool.{true, not, _&&_, _||_, cond}
 use mathlib.Core.Logic.{⊎-elim}
 use mathlib.Core.Option.{Option, none, orElse}
 use Prim.Native.Nat.{ℕ, zero, suc}
-use Rattle.drive_sets.specs.Bools.{and-right, or-cases, _⊆_}
+use Rattle.drive_sets.specs.Bools.{_⊆_}
+use Rattle.drive_sets.specs.Bools.Laws.{and-right, or-cases}
 use Rattle.drive_sets.specs.Options.{isSome}
 use Rattle.drive_sets.specs.Lists.{range, filter, elem}
 use Rattle.drive_sets.specs.Lists.Laws.{elem-filter, any-elem}

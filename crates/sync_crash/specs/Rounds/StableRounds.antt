@@ -5,7 +5,8 @@ use mathlib.Core.Bool.{true, false}
 use mathlib.Core.Logic.{⊎-elim}
 use mathlib.Core.Option.{none, some}
 use Prim.Native.Nat.{ℕ, suc}
-use Rattle.drive_sets.specs.Bools.{by-test, and-left, and-right, beq-eq, _⊆_, same-sets}
+use Rattle.drive_sets.specs.Bools.{_⊆_}
+use Rattle.drive_sets.specs.Bools.Laws.{by-test, and-left, and-right, beq-eq, same-sets}
 use Rattle.drive_sets.specs.Lists.{range, any}
 use Rattle.drive_sets.specs.Lists.Laws.{all-elem, any-elem}
 use Rattle.sync_crash.specs.Rounds.{Instance, InFrame, Lawful, heard, unchanged, stable, after, knows, before, decision}

@@ -5,8 +5,9 @@ use mathlib.Core.Logic.{_⊎_, inl, inr, ⊎-elim}
 use mathlib.Core.Option.{none, some, orElse}
 use Prim.Native.Nat.{ℕ, zero, suc}
 use borrow.Author.Tests.{eqb-true, eq-eqb, not-true}
-use Rattle.drive_sets.specs.Bools.{clash, by-test, false-of, and-intro, and-left, and-right, or-left, or-right, or-cases, cond-true, cond-false}
-use Rattle.drive_sets.specs.Options.{isSome, by-option, none-some, is-some, is-none, some-of, none-of}
+use Rattle.drive_sets.specs.Bools.Laws.{clash, by-test, false-of, and-intro, and-left, and-right, or-left, or-right, or-cases, cond-true, cond-false}
+use Rattle.drive_sets.specs.Options.{isSome}
+use Rattle.drive_sets.specs.Options.Laws.{by-option, none-some, is-some, is-none, some-of, none-of}
 use Rattle.drive_sets.specs.Lists.{range}
 use Rattle.drive_sets.specs.Lists.Laws.{any-elem, any-intro}
 use Rattle.sync_crash.specs.Rounds.{Instance, InFrame, Lawful, start, sends, reaches, adds, known, heard, decides, halts, closes, closed, step, after, knows, before, decision, halted}

@@ -5,8 +5,9 @@ use mathlib.Core.Logic.{⊎-elim}
 use mathlib.Core.Option.{some}
 use Prim.Native.Nat.{ℕ, zero, suc}
 use borrow.Author.Tests.{eqb-true, eq-eqb}
-use Rattle.drive_sets.specs.Bools.{and-intro, and-left, and-right, _⊆_}
-use Rattle.drive_sets.specs.Options.{by-option, none-some, same-some}
+use Rattle.drive_sets.specs.Bools.{_⊆_}
+use Rattle.drive_sets.specs.Bools.Laws.{and-intro, and-left, and-right}
+use Rattle.drive_sets.specs.Options.Laws.{by-option, none-some, same-some}
 use Rattle.drive_sets.specs.Lists.{range, filter, elem}
 use Rattle.drive_sets.specs.Lists.Laws.{elem-filter}
 use Rattle.drive_sets.specs.Lists.Smallest.{smallest-some, smallest-elem}

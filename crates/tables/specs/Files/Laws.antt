@@ -11,7 +11,7 @@ use lib.Dec.{leb, ltb}
 use lib.ListN.{length, drop, length-append}
 use lib.Seq.{append-snoc}
 use borrow.Author.Tests.{eq-eqb, not-false, leb-true, leb-false, lt-leb, ltb-false}
-use Rattle.drive_sets.specs.Bools.{clash, and-left, and-right}
+use Rattle.drive_sets.specs.Bools.Laws.{clash, and-left, and-right}
 use Rattle.drive_sets.specs.Lists.{elem}
 use Rattle.drive_sets.specs.Lists.Laws.{elem-head, elem-tail, elem-none, elem-one, elem-append-cases}
 use Rattle.drive_sets.specs.declared.Refusal.the-variants.{FrameSize, BadSet, TooManySets, TooManyCores, TrailingBytes}

@@ -11,7 +11,7 @@ use lib.Dec.{eqb, leb, ltb}
 use lib.ListN.{length}
 use borrow.Author.Tests.{leb-true, le-leb, ltb-false, le-ltb, eqb-false, not-true, not-false}
 use Rattle.drive_sets.specs.declared.Refusal.the-variants.{WrongMark, FrameSize, BadSet, TooManySets, TooManyCores}
-use Rattle.drive_sets.specs.Bools.{clash, and-intro, and-left, and-right, cond-false}
+use Rattle.drive_sets.specs.Bools.Laws.{clash, and-intro, and-left, and-right, cond-false}
 use Rattle.drive_sets.specs.Lists.{all, elem, ordered}
 use Rattle.drive_sets.specs.Lists.Laws.{elem-some, all-elem, all-intro}
 use Rattle.drive_sets.specs.Lists.Places.{getD-elem}

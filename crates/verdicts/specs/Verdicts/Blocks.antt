@@ -9,7 +9,7 @@ use lib.Dec.{ltb}
 use lib.ListN.{length, getD, take, List·getD-eq-default}
 use lib.Seq.{getD-take, length-take-le}
 use borrow.Author.Tests.{ltb-true, ltb-false, not-true}
-use Rattle.drive_sets.specs.Bools.{clash, by-test, true-of, same-test, and-intro, and-left, and-right}
+use Rattle.drive_sets.specs.Bools.Laws.{clash, by-test, true-of, same-test, and-intro, and-left, and-right}
 use Rattle.drive_sets.specs.Lists.{any, elem}
 use Rattle.drive_sets.specs.Lists.Laws.{any-elem, any-not}
 use Rattle.drive_sets.specs.Lists.Places.{getD-elem, elem-getD, any-take}

@@ -7,7 +7,7 @@ use Prim.Native.Nat.{ℕ, _≤_}
 use lib.Dec.{leb}
 use borrow.Author.Tests.{leb-true, not-false}
 use Rattle.drive_sets.specs.declared.Refusal.the-variants.{BlockCount}
-use Rattle.drive_sets.specs.Bools.{and-left, and-right}
+use Rattle.drive_sets.specs.Bools.Laws.{and-left, and-right}
 use Rattle.drive_sets.specs.Refusals.{result}
 use Rattle.drive_sets.specs.Refusals.Laws.{passed, first-result, same-result}
 use Rattle.set_orders.specs.Order.{normal}

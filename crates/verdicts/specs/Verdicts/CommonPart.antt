@@ -3,7 +3,7 @@ use mathlib.Core.Path.{_≡_, sym, ap, _∙_}
 use mathlib.Core.Bool.{Bool, true, _&&_, and-true, and-assoc}
 use mathlib.Core.List.{List, [], _∷_}
 use Prim.Native.Nat.{ℕ, _^_, _<_}
-use Rattle.drive_sets.specs.Bools.{and-left, and-right}
+use Rattle.drive_sets.specs.Bools.Laws.{and-left, and-right}
 use Rattle.drive_sets.specs.Lists.{all, elem}
 use Rattle.drive_sets.specs.Lists.Laws.{all-elem}
 use Rattle.drive_sets.specs.Masks.{has, common}

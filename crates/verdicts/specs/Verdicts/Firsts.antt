@@ -9,8 +9,8 @@ use native.Mathlib.Omega.{arith}
 use lib.Dec.{eqb, leb, ltb}
 use lib.ListN.{length, getD, length-map}
 use borrow.Author.Tests.{eqb-true, eqb-false, eq-eqb, leb-true, le-leb, lt-ltb}
-use Rattle.drive_sets.specs.Bools.{clash, by-test, and-intro, and-left, and-right, or-left, or-right, cond-true, cond-false}
-use Rattle.drive_sets.specs.Options.{by-option, none-some, same-some}
+use Rattle.drive_sets.specs.Bools.Laws.{clash, by-test, and-intro, and-left, and-right, or-left, or-right, cond-true, cond-false}
+use Rattle.drive_sets.specs.Options.Laws.{by-option, none-some, same-some}
 use Rattle.drive_sets.specs.Lists.{elem, all, ordered}
 use Rattle.drive_sets.specs.Lists.Laws.{elem-head, elem-tail, elem-cases, elem-none, elem-some, no-elem, all-elem, all-intro}
 use Rattle.drive_sets.specs.Lists.Places.{getD-elem, map-elem, map-same}

@@ -9,8 +9,8 @@ use Prim.Native.Nat.{ℕ, suc}
 use native.Mathlib.Omega.{arith}
 use lib.ListN.{length}
 use borrow.Author.Tests.{eq-eqb, not-true}
-use Rattle.drive_sets.specs.Bools.{clash, by-test, and-intro, and-right}
-use Rattle.drive_sets.specs.Options.{by-option}
+use Rattle.drive_sets.specs.Bools.Laws.{clash, by-test, and-intro, and-right}
+use Rattle.drive_sets.specs.Options.Laws.{by-option}
 use Rattle.drive_sets.specs.Lists.{range, any, elem}
 use Rattle.drive_sets.specs.Lists.Laws.{elem-head, elem-tail, elem-cases, elem-none, any-elem, any-not, elem-range, range-elem}
 use Rattle.drive_sets.specs.Lists.Places.{elem-map, length-range}

@@ -10,8 +10,8 @@ use native.Mathlib.Omega.{arith}
 use lib.Dec.{eqb}
 use lib.ListN.{length}
 use borrow.Author.Tests.{eqb-false}
-use Rattle.drive_sets.specs.Bools.{clash, by-test, and-intro, and-left, and-right, cond-true}
-use Rattle.drive_sets.specs.Options.{by-option, none-some}
+use Rattle.drive_sets.specs.Bools.Laws.{clash, by-test, and-intro, and-left, and-right, cond-true}
+use Rattle.drive_sets.specs.Options.Laws.{by-option, none-some}
 use Rattle.drive_sets.specs.Lists.{elem}
 use Rattle.drive_sets.specs.Lists.Laws.{elem-head, elem-tail, elem-cases, elem-none, elem-some, some-elem}
 use Rattle.drive_sets.specs.Lists.Places.{without-one}

@@ -9,7 +9,7 @@ use native.Mathlib.Omega.{arith}
 use lib.Dec.{eqb}
 use lib.ListN.{length, getD}
 use borrow.Author.Tests.{eqb-true, eq-eqb}
-use Rattle.drive_sets.specs.Bools.{by-test, clash, same-test, and-left, or-cases, cond-true, cond-false}
+use Rattle.drive_sets.specs.Bools.Laws.{by-test, clash, same-test, and-left, or-cases, cond-true, cond-false}
 use Rattle.drive_sets.specs.Lists.{range, filter, any, elem}
 use Rattle.drive_sets.specs.Lists.Laws.{elem-filter, elem-range, range-elem}
 use Rattle.drive_sets.specs.Lists.Places.{range-image}
@@ -44,42 +44,42 @@ module _ (n : ℕ) (frame : n ≤ 64) where
 -- ---- a list of blocks
 
 -- the number of the first of the blocks that has the drive
-numberIn : List ℕ → ℕ → ℕ
-numberIn [] d = 0
-numberIn (b ∷ blocks) d = cond (has d b) 1 (suc (numberIn blocks d))
+blockNumber : List ℕ → ℕ → ℕ
+blockNumber [] d = 0
+blockNumber (b ∷ blocks) d = cond (has d b) 1 (suc (blockNumber blocks d))
 
 numbered : (d : ℕ) (blocks : List ℕ) → any (has d) blocks ≡ true
-    → (i : ℕ) × (i < length blocks) × (numberIn blocks d ≡ suc i) × (has d (getD blocks i 0) ≡ true)
-unfolding numberIn any
+    → (i : ℕ) × (i < length blocks) × (blockNumber blocks d ≡ suc i) × (has d (getD blocks i 0) ≡ true)
+unfolding blockNumber any
 numbered d [] h = absurd (clash h refl)
 numbered d (b ∷ blocks) h =
     by-test (has d b)
-    (λ e. (0, suc-le-suc zero-le, cond-true 1 (suc (numberIn blocks d)) e, e))
+    (λ e. (0, suc-le-suc zero-le, cond-true 1 (suc (blockNumber blocks d)) e, e))
     (λ e. let w = numbered d blocks (⊎-elim (λ q. absurd (clash q e)) (λ q. q) (or-cases (has d b) (any (has d) blocks) h)) in
-    (suc (w .0), suc-le-suc (w .1), cond-false 1 (suc (numberIn blocks d)) e ∙ ap suc (w .2), w .3))
+    (suc (w .0), suc-le-suc (w .1), cond-false 1 (suc (blockNumber blocks d)) e ∙ ap suc (w .2), w .3))
 
 module _ (n : ℕ) (frame : n ≤ 64) (blocks : List ℕ)
     (within : (i : ℕ) → i < length blocks → getD blocks i 0 < 2 ^ n)
     (apart : (i j d : ℕ) → has d (getD blocks i 0) ≡ true → has d (getD blocks j 0) ≡ true → i ≡ j)
     (whole : (d : ℕ) → any (has d) blocks ≡ has d (full n)) where
-  place : (d : ℕ) → 1 ≤ d → d ≤ n → (i : ℕ) × (i < length blocks) × (numberIn blocks d ≡ suc i) × (has d (getD blocks i 0) ≡ true)
+  place : (d : ℕ) → 1 ≤ d → d ≤ n → (i : ℕ) × (i < length blocks) × (blockNumber blocks d ≡ suc i) × (has d (getD blocks i 0) ≡ true)
   place d p q = numbered d blocks (whole d ∙ full-has d n frame p q)
 
-  number-split : Split (length blocks) n (numberIn blocks)
+  number-split : Split (length blocks) n (blockNumber blocks)
   number-split = record { low = λ d p q. omega (arith, place d p q .2); high = λ d p q. omega (arith, place d p q .1, place d p q .2) }
 
-  number-block : (j : ℕ) → j < length blocks → getD blocks j 0 ≡ blockOf n (numberIn blocks) (1 + j)
+  number-block : (j : ℕ) → j < length blocks → getD blocks j 0 ≡ blockOf n (blockNumber blocks) (1 + j)
   number-block j h =
-      has-ext n (getD blocks j 0) (blockOf n (numberIn blocks) (1 + j)) (within j h) (blockOf-lt n frame (numberIn blocks) (1 + j))
+      has-ext n (getD blocks j 0) (blockOf n (blockNumber blocks) (1 + j)) (within j h) (blockOf-lt n frame (blockNumber blocks) (1 + j))
       (λ d p q. let w = place d p q in
-      same-test (has d (getD blocks j 0)) (eqb (numberIn blocks d) (1 + j))
-      (λ e. eq-eqb (numberIn blocks d) (1 + j) (omega (arith, w .2, apart (w .0) j d (w .3) e)))
-      (λ e. ap (λ (i : ℕ). has d (getD blocks i 0)) (same-place d j (w .0) (w .2) (eqb-true (numberIn blocks d) (1 + j) e)) ∙ w .3)
-      ∙ sym (has-blockOf n frame (numberIn blocks) (1 + j) d ∙ ap (λ (b : Bool). b && eqb (numberIn blocks d) (1 + j)) (full-has d n frame p q)))
+      same-test (has d (getD blocks j 0)) (eqb (blockNumber blocks d) (1 + j))
+      (λ e. eq-eqb (blockNumber blocks d) (1 + j) (omega (arith, w .2, apart (w .0) j d (w .3) e)))
+      (λ e. ap (λ (i : ℕ). has d (getD blocks i 0)) (same-place d j (w .0) (w .2) (eqb-true (blockNumber blocks d) (1 + j) e)) ∙ w .3)
+      ∙ sym (has-blockOf n frame (blockNumber blocks) (1 + j) d ∙ ap (λ (b : Bool). b && eqb (blockNumber blocks d) (1 + j)) (full-has d n frame p q)))
     where
-      same-place : (d j i : ℕ) → numberIn blocks d ≡ suc i → numberIn blocks d ≡ 1 + j → j ≡ i
+      same-place : (d j i : ℕ) → blockNumber blocks d ≡ suc i → blockNumber blocks d ≡ 1 + j → j ≡ i
       same-place d j i p q = omega arith
 
   -- the blocks are those of a split
   pub split-of-blocks : (block : ℕ → ℕ) × Split (length blocks) n block × (blocks ≡ map (blockOf n block) (range 1 (length blocks)))
-  split-of-blocks = (numberIn blocks, number-split, range-image (blockOf n (numberIn blocks)) blocks 1 number-block)
+  split-of-blocks = (blockNumber blocks, number-split, range-image (blockOf n (blockNumber blocks)) blocks 1 number-block)

@@ -6,7 +6,7 @@ use mathlib.Core.List.{List, map}
 use Prim.Native.Nat.{ℕ, _^_, _<_}
 use native.Mathlib.Omega.{arith}
 use lib.ListN.{length, getD, length-map}
-use Rattle.drive_sets.specs.Bools.{clash, false-of}
+use Rattle.drive_sets.specs.Bools.Laws.{clash, false-of}
 use Rattle.drive_sets.specs.Lists.{range, any, elem}
 use Rattle.drive_sets.specs.Lists.Places.{getD-elem, elem-getD}
 use Rattle.drive_sets.specs.Masks.{has, full, outside, subset}

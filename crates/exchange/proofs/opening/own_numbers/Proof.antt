@@ -2,7 +2,7 @@
 use mathlib.Core.Path.{sym, _∙_}
 use native.Mathlib.Omega.{arith}
 use borrow.Author.Tests.{not-true, not-false}
-use Rattle.drive_sets.specs.Bools.{cond-true, cond-false}
+use Rattle.drive_sets.specs.Bools.Laws.{cond-true, cond-false}
 use Rattle.exchange.proofs.Opens.{own-bounds}
 use borrow.Author.Needs.{needs}
 use Rattle.exchange.proofs.opening.own_numbers.Statement.{statement}

@@ -1,6 +1,6 @@
 -- A test after the other.
 use borrow.Author.Tests.{le-leb, lt-leb}
-use Rattle.drive_sets.specs.Bools.{and-first, and-second}
+use Rattle.drive_sets.specs.Bools.Laws.{and-first, and-second}
 use Rattle.hitting_sets.proofs.search.goes_on.Statement.{statement}
 use Rattle.hitting_sets.proofs.search.goes_on.Tie as tie
 

@@ -1,6 +1,6 @@
 -- Only fuel that is limited is spent.
 use mathlib.Core.Path.{refl}
-use Rattle.drive_sets.specs.Bools.{clash}
+use Rattle.drive_sets.specs.Bools.Laws.{clash}
 use borrow.Author.Needs.{needs}
 use Rattle.hitting_sets.proofs.search.spend.Statement.{statement}
 use Rattle.hitting_sets.proofs.search.spend.Tie as tie

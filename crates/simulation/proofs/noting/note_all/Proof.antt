@@ -1,6 +1,7 @@
 -- The drives one after the other.
 use borrow.Author.Needs.{needs}
 use Rattle.simulation.proofs.FirstDecisions.{Noting, note-start, note-turn, note-end}
+use Rattle.drive_states.specs.State.{numberIn}
 use Rattle.simulation.specs.Endings.{foundOf}
 use mathlib.Core.Path.{sym, _∙_}
 use lib.ListN.{length-map}
@@ -16,7 +17,7 @@ abbrev μ-loop : tie.MeasureT-loop
 μ-loop n round states rounds₀ numbers₀ i₀ rounds numbers i = n - i
 
 pub note-all-spec : {M : Type 1} → statement M
-unfolding foundOf
+unfolding foundOf numberIn
 note-all-spec =
     tie.close
     (tie.spec
