@@ -8,13 +8,13 @@ use lib.Dec.{eqb}
 use lib.ListN.{length}
 use borrow.Author.Tests.{le-leb, lt-leb, eq-eqb}
 use Rattle.drive_sets.specs.declared.Pattern.{Pattern}
-use Rattle.drive_sets.specs.declared.Refusal.the-variants.{DriveNumber, NoRoom, Halted, BrokenState}
+use Rattle.drive_sets.specs.declared.Refusal.the-variants.{DriveNumber, NoRoom, AlreadyAccepted, OutsideCore, Halted, SenderMissing, PatternDiffers, OtherRound, BrokenState}
 use Rattle.drive_sets.specs.Bools.Laws.{by-test, and-fails-left, and-fails-right, or-neither}
 use Rattle.drive_sets.specs.Options.{isSome}
 use Rattle.drive_sets.specs.Lists.{elem}
 use Rattle.drive_sets.specs.Lists.Laws.{elem-head, elem-tail}
 use Rattle.drive_sets.specs.Masks.{has}
-use Rattle.drive_sets.specs.Refusals.{Outcome, refused, result, refuseIf}
+use Rattle.drive_sets.specs.Refusals.{Outcome, refused, result, refuseIf, number}
 use Rattle.drive_sets.specs.Refusals.Laws.{same-result, passed, first-result}
 use Rattle.records.specs.LentBuffers.{fitting}
 use Rattle.tables.specs.Tables.{chosen, normalTable}
@@ -70,7 +70,7 @@ module _ (x : Exchange) (sound : broken x ≡ false) (running : x .halted ≡ fa
   sending-accepted room start core fits = started (rw (core, le-leb (start + length (messageBytes (outgoing x))) room fits))
 
   -- where the sent bytes do not fit, 14 is the refusal
-  pub sending-crowded : (room start : ℕ) → inCore x ≡ true → room < start + length (messageBytes (outgoing x)) → sending x room start ≡ refused NoRoom
+  pub sending-crowded : (room start : ℕ) → inCore x ≡ true → room < start + length (messageBytes (outgoing x)) → sending x room start ≡ refused (number NoRoom)
   unfolding sending fitting
   sending-crowded room start core crowded = started (rw (core, lt-leb (start + length (messageBytes (outgoing x))) room crowded))
 
@@ -96,9 +96,9 @@ closed-next x e = sym (same-result (began x _ e .1))
 admitted : (x : Exchange) (m : Message) {y : Exchange} → admitting x m ≡ result y → y ≡ accept x m
 unfolding admitting
 admitted x m e =
-    let round = passed (not (eqb (m .round) (x .round .0))) _ _ (passed (outsideCore x m) _ _ e .1) .1 in
-    let fresh = passed (has (m .sender) (x .heard)) _ _ (passed (not (has (m .sender) (x .before))) _ _ round .1) .1 in
-    sym (same-result (passed (anyDiffers x (entriesIn (m .content))) _ _ fresh .1))
+    let round = passed (not (eqb (m .round) (x .round .0))) OtherRound _ (passed (outsideCore x m) OutsideCore _ e .1) .1 in
+    let fresh = passed (has (m .sender) (x .heard)) AlreadyAccepted _ (passed (not (has (m .sender) (x .before))) SenderMissing _ round .1) .1 in
+    sym (same-result (passed (anyDiffers x (entriesIn (m .content))) PatternDiffers _ fresh .1))
 
 -- a message taken in: the drive had not halted
 pub received : (x : Exchange) (s : List ℕ) {y : Exchange} → receiving x s ≡ result y → (x .halted ≡ false) × (m : Message) × (y ≡ accept x m)

@@ -4,9 +4,9 @@ use crate::printing::print;
 use crate::printing::print_count;
 use crate::printing::print_mask;
 use crate::printing::print_refused;
+use drive_sets::Answer;
 use tables::calls::Meeting;
 use tables::calls::SetList;
-use tables::reading::Answer;
 use verdicts::Verdict;
 use verdicts::calls::Judgement;
 

@@ -18,12 +18,12 @@
 // Each call prints a line with its answer, a send and a writer another one with the whole buffer, and every operation a line with each field
 // of the state.
 ghost use Prim.Native.Nat.{_≤_};
+use drive_sets::Answer;
 use drive_sets::Drive;
 use drive_sets::Pattern;
 use drive_states::Exchange;
 use exchange::Reply;
 use libc::STDIN_FILENO;
-use tables::reading::Answer;
 
 mod answers;
 mod lists;
@@ -70,7 +70,7 @@ fn open_sets(x: Exchange, s: &[u8], sets: &[u64]) -> Exchange {
 }
 
 fn open(x: Exchange, s: &[u8]) -> Exchange {
-    let list = tables::files::rest(s, 5);
+    let list = records::rest(s, 5);
     let masks = lists::masks(list);
     open_sets(x, s, lists::first(&masks, lists::count(list)))
 }
@@ -108,7 +108,7 @@ fn replied(r: Reply) -> Exchange {
 
 fn message(x: Exchange, s: &[u8]) -> Exchange {
     let size = script::short(s, 1) as usize;
-    let bytes = script::first(tables::files::rest(s, 3), size);
+    let bytes = records::first(records::rest(s, 3), size);
     replied(exchange::receiving::message(x, bytes))
 }
 
@@ -148,7 +148,7 @@ fn list_end(s: &[u8], at: usize) -> usize
     requires { ⌜ at ≤ 12 ⌝ }
     ensures { λ r. ⌜ (at ≤ r) × (r ≤ 524294) ⌝ }
 {
-    at + lists::width(tables::files::rest(s, at))
+    at + lists::width(records::rest(s, at))
 }
 
 // How many bytes the operation has: at least its letter.

@@ -1,6 +1,7 @@
 // The lines that the call program prints: answers, buffers, and states field by field.
 ghost use Prim.Native.Nat.{_<_};
 use crate::script;
+use drive_sets::Answer;
 use drive_sets::Pattern;
 use drive_sets::Refusal;
 use drive_states::Announcement;
@@ -8,7 +9,6 @@ use drive_states::Decision;
 use drive_states::Exchange;
 use libc::STDOUT_FILENO;
 use records::Writing;
-use tables::reading::Answer;
 
 pub(crate) fn print(text: &[u8]) {
     io::write_all(STDOUT_FILENO, text);
@@ -85,7 +85,7 @@ fn put_digits(text: &mut [u8], s: &[u8]) {
 fn print_digits(s: &[u8]) {
     let mut text = [0u8; 3072];
     put_digits(&mut text, s);
-    print(script::first(&text, 2 * s.len()));
+    print(records::first(&text, 2 * s.len()));
 }
 
 // A line with the bytes of a buffer.

@@ -18,14 +18,6 @@ pub(crate) fn wide(s: &[u8], at: usize) -> u64 {
     records::field(s, at, 8)
 }
 
-// The first bytes, so many or all there are.
-pub(crate) fn first(s: &[u8], size: usize) -> &[u8] {
-    if s.len() < size {
-        return &s[0..];
-    }
-    &s[0..size]
-}
-
 fn numbers(s: &[u8]) -> [Pattern; 64] {
     let mut numbers = [Pattern(0); 64];
     let mut i = 0;

@@ -10,7 +10,7 @@ fn print_back(s: &[u8], groups: &[u64]) {
 }
 
 pub(crate) fn back(s: &[u8]) {
-    let list = tables::files::rest(s, 2);
+    let list = records::rest(s, 2);
     let masks = lists::masks(list);
     print_back(s, lists::first(&masks, lists::count(list)));
 }
@@ -40,7 +40,7 @@ fn write_sets(s: &[u8], sets: &[u64]) {
 }
 
 pub(crate) fn write(s: &[u8]) {
-    let list = tables::files::rest(s, 12);
+    let list = records::rest(s, 12);
     let masks = lists::masks(list);
     write_sets(s, lists::first(&masks, lists::count(list)));
 }
@@ -52,7 +52,7 @@ fn print_verdict(s: &[u8], sets: &[u64]) {
 }
 
 pub(crate) fn judge(s: &[u8]) {
-    let list = tables::files::rest(s, 3);
+    let list = records::rest(s, 3);
     let masks = lists::masks(list);
     print_verdict(s, lists::first(&masks, lists::count(list)));
 }
@@ -64,7 +64,7 @@ fn print_meeting(s: &[u8], sets: &[u64]) {
 }
 
 pub(crate) fn meet(s: &[u8]) {
-    let list = tables::files::rest(s, 10);
+    let list = records::rest(s, 10);
     let masks = lists::masks(list);
     print_meeting(s, lists::first(&masks, lists::count(list)));
 }

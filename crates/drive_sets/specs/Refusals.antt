@@ -3,6 +3,8 @@ use mathlib.Core.Bool.{Bool, cond}
 use Prim.Native.Nat.{ℕ}
 use Rattle.drive_sets.specs.declared.Refusal.{Refusal}
 use Rattle.drive_sets.specs.declared.Refusal.the-variants.{EndsTooSoon, WrongMark, FrameSize, BadSet, TooManySets, CountDiffers, TrailingBytes, DriveNumber, CrashRound, CrashSends, NoneUntouched, BlockCount, TooManyCores, NoRoom, KnownMask, AlreadyAccepted, OutsideCore, Halted, SenderMissing, PatternDiffers, OtherRound, ListenerSends, BrokenState}
+use Rattle.drive_sets.specs.declared.Answer.{Answer}
+use Rattle.drive_sets.specs.declared.Answer.the-variants.{Accepted, Refused}
 pub mod Laws
 
 -- the number of a refusal
@@ -33,16 +35,22 @@ number BrokenState = 28
 
 -- what a call gives
 pub data Outcome (A : Type 0) : Type 0 where
-  refused : Refusal → Outcome A
+  refused : ℕ → Outcome A  -- by its number
   result : A → Outcome A
 
 -- the refusal where the condition holds, and else what comes next: so the first refusal is given
 module _ {A : Type 0} where
   abbrev pub refuseIf : Bool → Refusal → Outcome A → Outcome A
-  refuseIf b r next = cond b (refused r) next
+  refuseIf b r next = cond b (refused (number r)) next
 
 -- what the function makes of a result; a refusal stays
 module _ {A B : Type 0} where
   abbrev pub andThen : Outcome A → (A → Outcome B) → Outcome B
   andThen (refused r) f = refused r
   andThen (result a) f = f a
+
+-- what an answer says, where its result stands beside it
+module _ {A : Type 0} where
+  abbrev pub outcomeOf : Answer → A → Outcome A
+  outcomeOf Accepted a = result a
+  outcomeOf (Refused r) a = refused (number r)

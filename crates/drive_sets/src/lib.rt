@@ -49,6 +49,12 @@ pub enum Refusal {
     BrokenState,
 }
 
+// What a call answers, where its result stands beside the answer.
+pub enum Answer {
+    Accepted,
+    Refused(Refusal),
+}
+
 impl Refusal {
     pub fn number(self) -> u8
         ensures { λ r. ⌜ r ≡ number self ⌝ }

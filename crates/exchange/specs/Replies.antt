@@ -1,7 +1,6 @@
 -- What the answer of a call that is handed a state says: a refusal, which keeps the state, or the new state.
 use mathlib.Core.Path.{_≡_}
-use Rattle.drive_sets.specs.Refusals.{Outcome, refused, result}
-use Rattle.tables.specs.Reading.{outcomeOf}
+use Rattle.drive_sets.specs.Refusals.{Outcome, refused, result, outcomeOf}
 use Rattle.drive_states.specs.declared.Exchange.{Exchange}
 use Rattle.exchange.specs.declared.Reply.{Reply}
 use Rattle.agreement.specs.Calls.{initial}

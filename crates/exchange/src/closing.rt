@@ -9,13 +9,13 @@ ghost use Rattle.agreement.specs.Calls.{heardAtClose, decisionOn, stableDecisio
 ghost use Rattle.exchange.specs.Replies.{Replied};
 use crate::Reply;
 use crate::is_broken;
+use drive_sets::Answer;
 use drive_sets::Pattern;
 use drive_sets::Refusal;
 use drive_sets::Round;
 use drive_states::Announcement;
 use drive_states::Decision;
 use drive_states::Exchange;
-use tables::reading::Answer;
 
 // Heard at a close: the senders accepted, and oneself if in the core.
 fn heard_at_close(x: Exchange) -> u64

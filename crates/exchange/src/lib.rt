@@ -4,9 +4,9 @@ ghost use mathlib.Core.Path.{_≡_};
 ghost use mathlib.Core.Bool.{not, _&&_};
 ghost use Rattle.drive_sets.specs.Masks.{has, subset};
 ghost use Rattle.drive_states.specs.State.{broken};
+use drive_sets::Answer;
 use drive_sets::Drive;
 use drive_states::Exchange;
-use tables::reading::Answer;
 
 pub mod closing;
 mod entries;

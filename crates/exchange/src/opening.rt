@@ -4,11 +4,12 @@ ghost use mathlib.Core.Bool.{cond};
 ghost use Prim.Native.Nat.{_-_};
 ghost use lib.ListN.{set, replicate};
 ghost use Rattle.drive_sets.specs.Masks.{has, single};
-ghost use Rattle.drive_sets.specs.Refusals.{refused};
+ghost use Rattle.drive_sets.specs.Refusals.{refused, number};
 ghost use Rattle.drive_states.specs.State.{pattern};
 ghost use Rattle.agreement.specs.Calls.{initial, opening};
 ghost use Rattle.exchange.specs.Replies.{Replied, notOpened};
 use crate::Reply;
+use drive_sets::Answer;
 use drive_sets::Drive;
 use drive_sets::Pattern;
 use drive_sets::Refusal;
@@ -17,7 +18,6 @@ use drive_states::Announcement;
 use drive_states::Decision;
 use drive_states::Exchange;
 use tables::calls::Chosen;
-use tables::reading::Answer;
 
 // At opening a core drive knows its own number and a listener knows none.
 fn own_known(own: Drive, core: u64) -> u64
@@ -65,7 +65,7 @@ pub fn initial(n: u8, core: u64, own: Drive, number: Pattern) -> Exchange
 
 // A refused opening: there is no state, and the one beside the answer is broken.
 fn not_opened(r: Refusal) -> Reply
-    ensures { λ t. ⌜ Replied (refused r) notOpened t ⌝ }
+    ensures { λ t. ⌜ Replied (refused (number r)) notOpened t ⌝ }
 {
     let state = initial(0, 0, Drive(0), Pattern(0));
     Reply {

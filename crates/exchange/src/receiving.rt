@@ -1,12 +1,13 @@
 // The message call: its refusals in document 01's order, then the state with what the message says.
 ghost use mathlib.Core.Path.{_≡_};
 ghost use lib.ListN.{length};
-ghost use Rattle.drive_sets.specs.Refusals.{refused, andThen};
+ghost use Rattle.drive_sets.specs.Refusals.{refused, andThen, number};
 ghost use Rattle.drive_states.specs.Messages.{entriesIn, senderOf, contentOf, messageOf, checked};
 ghost use Rattle.agreement.specs.Calls.{outsideCore, anyDiffers, lower, announcing, accept, admitting, receiving};
 ghost use Rattle.exchange.specs.Replies.{Replied};
 use crate::Reply;
 use crate::entries;
+use drive_sets::Answer;
 use drive_sets::Drive;
 use drive_sets::Pattern;
 use drive_sets::Refusal;
@@ -16,7 +17,6 @@ use messages::reading;
 use records::Due;
 use records::Head;
 use records::Kind;
-use tables::reading::Answer;
 
 // 22: sender is oneself, or sender or a known drive is outside the core.
 fn outside_core(kind: Kind, x: Exchange, s: &[u8]) -> bool
@@ -96,7 +96,7 @@ fn accept(kind: Kind, x: Exchange, s: &[u8]) -> Exchange
 
 // A refusal keeps the state.
 fn refused(x: Exchange, r: Refusal) -> Reply
-    ensures { λ t. ⌜ Replied (refused r) x t ⌝ }
+    ensures { λ t. ⌜ Replied (refused (number r)) x t ⌝ }
 {
     Reply {
         answer: Answer::Refused(r),

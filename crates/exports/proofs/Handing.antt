@@ -9,10 +9,9 @@ use lib.ListN.{length, take, drop, drop-of-length-le}
 use lib.Seq.{drop-drop}
 use borrow.Author.Tests.{leb-true, leb-false}
 use Rattle.drive_sets.specs.Bools.Laws.{by-test}
-use Rattle.drive_sets.specs.Refusals.{Outcome, refused, result}
+use Rattle.drive_sets.specs.Refusals.{Outcome, refused, result, outcomeOf}
 use Rattle.records.specs.declared.Writing.{Writing}
 use Rattle.records.specs.LentBuffers.{writingOutcome, sizeWritten, Written}
-use Rattle.tables.specs.Reading.{outcomeOf}
 use Rattle.drive_states.specs.declared.Exchange.{Exchange}
 use Rattle.exchange.specs.declared.Reply.{Reply}
 use Rattle.agreement.specs.Calls.{sending, receiving, closing}

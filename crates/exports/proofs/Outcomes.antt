@@ -11,28 +11,20 @@ use borrow.Author.Tests.{lt-ltb, le-ltb}
 use Rattle.drive_sets.specs.Bools.Laws.{cond-true, cond-false}
 use Rattle.drive_sets.specs.declared.Refusal.{Refusal}
 use Rattle.drive_sets.specs.declared.Refusal.the-variants.{NoRoom}
-use Rattle.drive_sets.specs.Refusals.{Outcome, refused, result, andThen}
+use Rattle.drive_sets.specs.Refusals.{Outcome, refused, result, andThen, number, outcomeOf}
 use Rattle.records.specs.Fields.{fromBytes}
 use Rattle.tables.specs.declared.completing.TableWithCores.{TableWithCores}
 use Rattle.tables.specs.declared.files.TableFile.{TableFile}
-use Rattle.tables.specs.declared.reading.Answer.{Answer}
-use Rattle.tables.specs.declared.reading.Answer.the-variants as answers
+use Rattle.drive_sets.specs.declared.Answer.{Answer}
+use Rattle.drive_sets.specs.declared.Answer.the-variants as answers
 use Rattle.tables.specs.Complete.{Complete, ReadComplete, completeTable, completeOutcome, readWholeComplete, fileOutcome}
-use Rattle.tables.specs.Reading.{setsOf, outcomeOf}
+use Rattle.tables.specs.Reading.{setsOf}
 use Rattle.tables.specs.Tables.{cores, coreList}
 use Rattle.tables.proofs.Accepts.{accept-taken, asks-refused, asks-taken}
 use Rattle.verdicts.specs.declared.Verdict.{Verdict as Held}
 use Rattle.verdicts.specs.Held.{verdictOf}
 use Rattle.verdicts.specs.Verdicts.{Verdict}
 use Rattle.exports.specs.Codes.{codeOf, countOf, fitting, listAfter, setsRead, verdictCode}
-
--- ---- the first of a list
-
-pub all-first : (s : List ℕ) (count : ℕ) → length s < count → take (length s - 0) s ≡ take count s
-all-first s count h = take-all (length s - 0) s (omega arith) ∙ sym (take-all count s (omega arith))
-
-pub some-first : (s : List ℕ) (count : ℕ) → take (count - 0) s ≡ take count s
-some-first s count = ap (λ (k : ℕ). take k s) (sub-zero count)
 
 -- ---- lists of sets
 
@@ -41,10 +33,10 @@ abbrev pub Told : List ℕ → Outcome (List ℕ) → ℕ → List ℕ → Type 
 Told old o r new = (r ≡ codeOf (countOf (fitting old o))) × (new ≡ listAfter old (fitting old o))
 
 module _ (old part first : List ℕ) (e : part ≡ first) where
-  pub list-full : length old < length part → (r : ℕ) → r ≡ codeOf (refused NoRoom) → Told old (result first) r old
+  pub list-full : length old < length part → (r : ℕ) → r ≡ codeOf (refused (number NoRoom)) → Told old (result first) r old
   unfolding fitting listAfter
   list-full h r f =
-      let none : refused NoRoom ≡ fitting old (result first) = sym (cond-true _ _ (lt-ltb (length old) (length first) (omega (arith, h, ap length e)))) in
+      let none : refused (number NoRoom) ≡ fitting old (result first) = sym (cond-true _ _ (lt-ltb (length old) (length first) (omega (arith, h, ap length e)))) in
       (f ∙ ap (λ (q : Outcome (List ℕ)). codeOf (countOf q)) none, ap (listAfter old) none)
 
   pub list-put : length part ≤ length old → (new : List ℕ) → new ≡ take (length old) part ++ drop (length part) old → Told old (result first) (length part) new
@@ -57,7 +49,7 @@ module _ (old part first : List ℕ) (e : part ≡ first) where
       )
 
 module _ (n : ℕ) (sets : List ℕ) (t : TableWithCores) (e : completeOutcome t ≡ completeTable n sets) where
-  pub cores-refused : (q : Refusal) → t .answer ≡ answers.Refused q → refused q ≡ coreList n sets
+  pub cores-refused : (q : Refusal) → t .answer ≡ answers.Refused q → refused (number q) ≡ coreList n sets
   unfolding coreList
   cores-refused q f = asks-refused n sets t e (λ table. result (cores table)) q f
 
@@ -78,7 +70,7 @@ module _ (file : TableFile) (s : List ℕ) (e : fileOutcome file s ≡ readWhole
   unfolding fileOutcome completeOutcome setsRead
   read-as a f = ap (λ (o : Outcome ReadComplete). andThen o (λ t. result (t .table .sets))) (ap read (sym f) ∙ e)
 
-  pub read-refused : (q : Refusal) → file .complete .answer ≡ answers.Refused q → refused q ≡ setsRead s
+  pub read-refused : (q : Refusal) → file .complete .answer ≡ answers.Refused q → refused (number q) ≡ setsRead s
   read-refused q f = read-as (answers.Refused q) f
 
   pub read-listed : file .complete .answer ≡ answers.Accepted → result (take (file .complete .table .count) (file .complete .table .sets)) ≡ setsRead s

@@ -10,7 +10,7 @@ use Rattle.tables.specs.Complete.{readWholeComplete}
 use Rattle.verdicts.specs.Verdicts.{Verdict, yes, no}
 
 abbrev pub codeOf : Outcome ℕ → ℕ
-codeOf (refused r) = 4294967296 + number r
+codeOf (refused r) = 4294967296 + r
 codeOf (result x) = x
 
 -- ---- lists of sets

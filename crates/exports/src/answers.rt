@@ -1,7 +1,7 @@
 // Answers as numbers, and lists of sets put into lent memory.
 ghost use mathlib.Core.Path.{_≡_};
 ghost use lib.ListN.{length, take};
-ghost use Rattle.drive_sets.specs.Refusals.{refused, result};
+ghost use Rattle.drive_sets.specs.Refusals.{refused, result, number};
 ghost use Rattle.verdicts.specs.Held.{verdictOf};
 ghost use Rattle.exports.specs.Codes.{codeOf, countOf, fitting, listAfter, verdictCode};
 use drive_sets::Refusal;
@@ -11,7 +11,7 @@ const REFUSED: u64 = 0x1_0000_0000;
 
 // A refusal's number above 2 ^ 32.
 pub(crate) fn refusal_code(r: Refusal) -> u64
-    ensures { λ c. ⌜ c ≡ codeOf (refused r) ⌝ }
+    ensures { λ c. ⌜ c ≡ codeOf (refused (number r)) ⌝ }
 {
     REFUSED + r.number() as u64
 }
@@ -39,16 +39,6 @@ pub(crate) fn put_list(sets: &[u64], count: usize, out: &mut [u64]) -> u64
     part.len() as u64
 }
 
-// The first bytes, so many or all there are.
-pub(crate) fn first_bytes(s: &[u8], count: usize) -> &[u8]
-    ensures { λ r. ⌜ now r ≡ take count (now (s .entry)) ⌝ }
-{
-    if s.len() < count {
-        return &s[0..];
-    }
-    &s[0..count]
-}
-
 // 0 for a yes, and for a no the first k positions, one byte each.
 pub(crate) fn verdict_code(v: Verdict, k: u8) -> u64
     ensures { λ r. ⌜ r ≡ codeOf (verdictCode (verdictOf v k)) ⌝ }
@@ -57,5 +47,5 @@ pub(crate) fn verdict_code(v: Verdict, k: u8) -> u64
         return 0;
     }
     let positions = v.positions;
-    records::from_bytes(first_bytes(&positions, k as usize))
+    records::from_bytes(records::first(&positions, k as usize))
 }

@@ -3,12 +3,11 @@ ghost use mathlib.Core.Path.{_≡_};
 ghost use Prim.Native.Nat.{_≤_, _+_, min};
 ghost use lib.ListN.{length, drop};
 ghost use Rattle.records.specs.LentBuffers.{writingOutcome};
-ghost use Rattle.tables.specs.Reading.{outcomeOf};
+ghost use Rattle.drive_sets.specs.Refusals.{outcomeOf};
 ghost use Rattle.exports.specs.Deliveries.{oneAccepted, messagesAccepted, stateHanded, stateClosed, closesAccepted, sendsAccepted, bufferSent};
-use crate::answers;
+use drive_sets::Answer;
 use drive_states::Exchange;
 use records::Writing;
-use tables::reading::Answer;
 
 // The state after some messages, and how many of them are accepted.
 pub struct Handed {
@@ -57,7 +56,7 @@ pub(crate) fn deliver_all(x: Exchange, messages: &[u8], count: usize, size: usiz
     let mut at = 0;
     let mut i = 0;
     while i < count {
-        let bytes = answers::first_bytes(&messages[at..], size);
+        let bytes = records::first(&messages[at..], size);
         let reply = exchange::receiving::message(state, bytes);
         let answer = reply.answer;
         state = reply.state;

@@ -13,12 +13,12 @@ ghost use Rattle.verdicts.specs.Verdicts.{verdict};
 ghost use Rattle.run_listing.specs.RunListing.{runProgram};
 ghost use Rattle.exports.specs.Codes.{codeOf, countOf, fitting, listAfter, setsRead, verdictCode};
 ghost use Rattle.exports.specs.Deliveries.{bufferOr, delivered, closed, sent, sentBytes};
+use drive_sets::Answer;
 use drive_sets::Drive;
 use drive_sets::Pattern;
 use records::Writing;
 use set_orders::MAX_CORES;
 use set_orders::sorting::Order;
-use tables::reading::Answer;
 
 mod answers;
 mod deliveries;

@@ -11,7 +11,7 @@ use borrow.Rule.Slice.PartMut.{putMid}
 use Rattle.drive_sets.specs.Bools.Laws.{by-test, cond-true, cond-false}
 use Rattle.drive_sets.specs.declared.Refusal.{Refusal}
 use Rattle.drive_sets.specs.declared.Refusal.the-variants.{NoRoom}
-use Rattle.drive_sets.specs.Refusals.{Outcome, refused, result}
+use Rattle.drive_sets.specs.Refusals.{Outcome, refused, result, number}
 use Rattle.records.specs.declared.Writing.{Writing}
 use Rattle.records.specs.declared.Writing.the-variants as writings
 use Rattle.records.specs.Fields.{written}
@@ -29,7 +29,7 @@ room-left start size room h =
 pub written-as : {due due′ : Outcome (List ℕ)} {start : ℕ} {old new : List ℕ} {r : Writing} → due ≡ due′ → Written due start old new r → Written due′ start old new r
 written-as {start = start} {old = old} {new = new} {r = r} e w = subst (λ (o : Outcome (List ℕ)). Written o start old new r) e w
 
-pub written-refused : (start : ℕ) (old : List ℕ) {due : Outcome (List ℕ)} {q : Refusal} → due ≡ refused q → Written due start old old (writings.Refused q)
+pub written-refused : (start : ℕ) (old : List ℕ) {due : Outcome (List ℕ)} {q : Refusal} → due ≡ refused (number q) → Written due start old old (writings.Refused q)
 written-refused start old e = written-as (sym e) (record { answer = refl; buffer = refl })
 
 -- the test for room, made on the number of the bytes

@@ -45,7 +45,7 @@ module _ {S : Type 0} (f : ListFormat S) where
           ap (λ (x : Outcome (Option S)). andThen x (following f (readFrom f (r .bytes - 1)) state (drop at s))) (sym (step e))
           ∙ (sym (read-step f (r .bytes) state (drop at s) (omega (arith, r .enough, length-drop at s)) going) ∙ r .same)
 
-      pub reading-stop : (q : Refusal) → refused q ≡ stepOf f state (take (length s - at) (drop at s)) → refused q ≡ whole
+      pub reading-stop : (q : ℕ) → refused q ≡ stepOf f state (take (length s - at) (drop at s)) → refused q ≡ whole
       reading-stop q e = followed (refused q) e
 
       module _ (e : result none ≡ stepOf f state (take (length s - at) (drop at s))) where

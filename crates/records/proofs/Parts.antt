@@ -2,12 +2,12 @@
 use mathlib.Core.Path.{_≡_, sym, ap, _∙_}
 use mathlib.Core.List.{List, _++_, append-nil}
 use Prim.Native.Nat.{ℕ, _+_, _-_, _≤_, _<_, min}
-use native.Mathlib.Nat.{le-of-eq, le-of-lt}
+use native.Mathlib.Nat.{le-of-eq, le-of-lt, sub-zero}
 use lib.ListN.{length, take, drop, length-take, length-drop, drop-of-length-le}
 use lib.Dec.{leb}
 use borrow.Author.Tests.{leb-true, leb-false}
 use Rattle.drive_sets.specs.Bools.Laws.{by-test}
-use lib.Seq.{take-all, take-nil, take-take}
+use lib.Seq.{take-all, take-nil, take-take, drop-length}
 use borrow.Rule.Slice.PartMut.{putMid}
 use native.Mathlib.Omega.{arith}
 use Rattle.records.specs.Fields.{fromBytes, toBytes, written, writtenAt}
@@ -18,6 +18,17 @@ use Rattle.records.specs.Marks.Laws.{length-record}
 -- a part up to the end is what stands from its place on
 pub rest-is : (s : List ℕ) (start : ℕ) → take (length s - start) (drop start s) ≡ drop start s
 rest-is s start = take-all (length s - start) (drop start s) (le-of-eq (length-drop start s))
+
+-- past the end nothing stands
+pub rest-past : (s : List ℕ) (size : ℕ) → length s < size → take (length s - length s) (drop (length s) s) ≡ drop size s
+rest-past s size h = rest-is s (length s) ∙ (drop-length s ∙ sym (drop-of-length-le s (le-of-lt h)))
+
+-- the first part: all where there are fewer, else so many
+pub first-all : (s : List ℕ) (size : ℕ) → length s < size → take (length s - 0) s ≡ take size s
+first-all s size h = take-all (length s - 0) s (omega arith) ∙ sym (take-all size s (omega arith))
+
+pub first-some : (s : List ℕ) (size : ℕ) → take (size - 0) s ≡ take size s
+first-some s size = ap (λ (k : ℕ). take k s) (sub-zero size)
 
 pub part-written : (old back new : List ℕ) (start : ℕ) → back ≡ written new (take (length old - start) (drop start old))
     → putMid start (length old - start) old back ≡ writtenAt start new old

@@ -6,7 +6,7 @@ use Prim.Native.Nat.{ℕ, _+_}
 use lib.Dec.{leb}
 use lib.ListN.{length}
 use Rattle.drive_sets.specs.declared.Refusal.the-variants.{NoRoom}
-use Rattle.drive_sets.specs.Refusals.{Outcome, refused, result, refuseIf, andThen}
+use Rattle.drive_sets.specs.Refusals.{Outcome, refused, result, refuseIf, andThen, number}
 use Rattle.records.specs.declared.Writing.{Writing}
 use Rattle.records.specs.declared.Writing.the-variants as writings
 use Rattle.records.specs.Fields.{writtenAt}
@@ -27,7 +27,7 @@ bufferAfter (result bytes) start old = writtenAt start bytes old
 -- what an answer says
 abbrev pub writingOutcome : Writing → Outcome ℕ
 writingOutcome (writings.Wrote size) = result size
-writingOutcome (writings.Refused r) = refused r
+writingOutcome (writings.Refused r) = refused (number r)
 
 -- the answer and the lent bytes, each as what is due has it
 pub record Written (due : Outcome (List ℕ)) (start : ℕ) (old new : List ℕ) (r : Writing) : Type 0 where

@@ -6,7 +6,7 @@ use Prim.Native.Nat.{ℕ, zero, suc, _+_}
 use lib.Dec.{eqb}
 use lib.ListN.{length, drop}
 use Rattle.drive_sets.specs.declared.Refusal.the-variants.{EndsTooSoon, CountDiffers}
-use Rattle.drive_sets.specs.Refusals.{Outcome, refused, result, andThen}
+use Rattle.drive_sets.specs.Refusals.{Outcome, refused, result, andThen, number}
 use Rattle.records.specs.declared.Kind.{Kind}
 use Rattle.records.specs.declared.Kind.the-variants as kinds
 use Rattle.records.specs.declared.Due.{Due}
@@ -22,7 +22,7 @@ pub mod Prefixes
 -- what the function makes of the kind of record that is there
 module _ {A : Type 0} where
   abbrev pub atRecord : Head → (Kind → Outcome A) → Outcome A
-  atRecord (heads.Refused r) f = refused r
+  atRecord (heads.Refused r) f = refused (number r)
   atRecord (heads.Record k) f = f k
 
 -- where a record of a list or its end is due, behind so many records: a refusal of the mark or of a cut record, EN, whose count must be
@@ -55,7 +55,7 @@ module _ {S : Type 0} where
 
   -- one step: a refusal, none at the end, or the next state
   abbrev pub stepAt : Next → Outcome S → Outcome (Option S)
-  stepAt (Stop r) more = refused r
+  stepAt (Stop r) more = refused (number r)
   stepAt End more = result none
   stepAt One more = andThen more (λ state. result (some state))
 
@@ -70,7 +70,7 @@ module _ {S : Type 0} where
   -- the records from a state on; the number is at least that of the bytes, so where it is zero they have ended
   unfoldable pub readFrom : ListFormat S → ℕ → S → List ℕ → Outcome (ReadList S)
   readFrom f zero state s =
-      cond (f .complete state) (result (record { list = state; rest = s })) (refused EndsTooSoon)
+      cond (f .complete state) (result (record { list = state; rest = s })) (refused (number EndsTooSoon))
   readFrom f (suc bytes) state s =
       let next = andThen (stepOf f state s) (following f (readFrom f bytes) state s) in
       cond (f .complete state) (result (record { list = state; rest = s })) next

@@ -99,6 +99,27 @@ pub fn from_bytes(s: &[u8]) -> u64
     x
 }
 
+// The first bytes, so many or all there are.
+pub fn first(s: &[u8], size: usize) -> &[u8]
+    ensures { λ r. ⌜ now r ≡ take size (now (s .entry)) ⌝ }
+{
+    if s.len() < size {
+        return &s[0..];
+    }
+    &s[0..size]
+}
+
+// What stands behind so many bytes; nothing where there are fewer.
+pub fn rest(s: &[u8], size: usize) -> &[u8]
+    ensures { λ r. ⌜ now r ≡ drop size (now (s .entry)) ⌝ }
+{
+    if s.len() < size {
+        let end = s.len();
+        return &s[end..];
+    }
+    &s[size..]
+}
+
 // The field of a width at a place, of at most 8 bytes; bytes that are not there count as none.
 pub fn field(s: &[u8], at: usize, width: usize) -> u64
     ensures { λ r. ⌜ r ≡ fromBytes (take (min 8 width) (drop at (now (s .entry)))) ⌝ }

@@ -13,7 +13,7 @@ use Rattle.drive_sets.specs.Bools.Laws.{clash}
 use Rattle.drive_sets.specs.Masks.{has}
 use Rattle.drive_sets.specs.Masks.Laws.{has-none}
 use Rattle.drive_sets.specs.Masks.OneDrive.{insert-cases, insert-lt}
-use Rattle.drive_sets.specs.Refusals.{Outcome, refused, result}
+use Rattle.drive_sets.specs.Refusals.{Outcome, refused, result, number}
 use Rattle.drive_sets.specs.Refusals.Laws.{same-result, first-result}
 use Rattle.records.specs.declared.Due.the-variants.{AtCrashOrEnd}
 use Rattle.records.specs.declared.Kind.the-variants as kinds
@@ -86,8 +86,8 @@ module _ {s : List ℕ} {n core : ℕ} {c : Crashes} {last count at : ℕ} (r : 
   said : (x : Step) → step ≡ x → stepOutcome (listed c last) x ≡ stepOf (crashList n core) (listed c last) (take (length s - at) (drop at s))
   said x e = ap (stepOutcome (listed c last)) (sym e) ∙ says (listed c last) refl (r .counted)
 
-  pub listing-stop : {q : Refusal} → step ≡ Stop q → refused q ≡ readAll n core s
-  listing-stop {q} e = reading-stop (crashList n core) (readAll n core s) s (listed c last) at (r .reading) refl q (said (Stop q) e)
+  pub listing-stop : {q : Refusal} → step ≡ Stop q → refused (number q) ≡ readAll n core s
+  listing-stop {q} e = reading-stop (crashList n core) (readAll n core s) s (listed c last) at (r .reading) refl (number q) (said (Stop q) e)
 
   module _ (e : step ≡ End) where
     pub listed-within : at + 3 ≤ length s

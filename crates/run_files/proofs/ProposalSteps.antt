@@ -9,7 +9,7 @@ use lib.Seq.{take-suc-set, length-take-le}
 use borrow.Author.Tests.{le-leb, lt-leb}
 use Rattle.drive_sets.specs.declared.Pattern.{Pattern}
 use Rattle.drive_sets.specs.declared.Refusal.{Refusal}
-use Rattle.drive_sets.specs.Refusals.{refused, result}
+use Rattle.drive_sets.specs.Refusals.{refused, result, number}
 use Rattle.records.specs.declared.Due.the-variants.{AtProposal}
 use Rattle.records.specs.declared.Kind.{Kind}
 use Rattle.records.specs.declared.Kind.the-variants as kinds
@@ -81,9 +81,9 @@ module _ {s : List ℕ} {n : ℕ} {numbers : List Pattern} {given at : ℕ} (fra
     said : (x : Proposal) → step ≡ x → proposalOutcome (take given (values numbers)) x ≡ stepOf (proposalList n) (take given (values numbers)) (take (length s - at) (drop at s))
     said x e = ap (proposalOutcome (take given (values numbers))) (sym e) ∙ says n (take given (values numbers)) (ap suc listed ∙ sym (add-one given))
 
-    pub proposing-stop : {q : Refusal} → step ≡ Stop q → refused q ≡ readList (proposalList n) [] s
+    pub proposing-stop : {q : Refusal} → step ≡ Stop q → refused (number q) ≡ readList (proposalList n) [] s
     proposing-stop {q} e =
-        reading-stop (proposalList n) _ s (take given (values numbers)) at (r .reading) (lt-leb n (length (take given (values numbers))) (omega (arith, listed))) q (said (Stop q) e)
+        reading-stop (proposalList n) _ s (take given (values numbers)) at (r .reading) (lt-leb n (length (take given (values numbers))) (omega (arith, listed))) (number q) (said (Stop q) e)
 
     pub proposing-turn : {v : Pattern} → step ≡ Number v → Proposing s n (set numbers given v) (given + 1) (at + 5)
     unfolding widthOf bodyWidth

@@ -3,10 +3,9 @@ use mathlib.Core.Path.{_≡_, refl, sym, _∙_}
 use Prim.Native.Nat.{ℕ, _-_}
 use native.Mathlib.Omega.{arith}
 use Rattle.drive_sets.specs.Bools.Laws.{cond-true, cond-false, by-test}
-use Rattle.drive_sets.specs.Refusals.{result, andThen}
-use Rattle.tables.specs.declared.reading.Answer.{Answer}
-use Rattle.tables.specs.declared.reading.Answer.the-variants as answers
-use Rattle.tables.specs.Reading.{outcomeOf}
+use Rattle.drive_sets.specs.Refusals.{result, andThen, outcomeOf}
+use Rattle.drive_sets.specs.declared.Answer.{Answer}
+use Rattle.drive_sets.specs.declared.Answer.the-variants as answers
 use Rattle.runs.specs.CrashRecords.{mostSends}
 use Rattle.drive_sets.specs.Masks.{has}
 

@@ -7,9 +7,8 @@ use Rattle.drive_sets.specs.declared.Drive.{Drive}
 use Rattle.drive_sets.specs.declared.Pattern.{Pattern}
 use Rattle.drive_sets.specs.declared.Round.{Round}
 use Rattle.drive_sets.specs.Masks.{single, union, drives}
-use Rattle.drive_sets.specs.Refusals.{Outcome, refused, result}
+use Rattle.drive_sets.specs.Refusals.{Outcome, refused, result, number, outcomeOf}
 use Rattle.records.specs.RecordLists.{ReadList}
-use Rattle.tables.specs.Reading.{outcomeOf}
 use Rattle.run_files.specs.declared.crashes.Crashes.{Crashes}
 use Rattle.run_files.specs.declared.crash_records.CrashesRead.{CrashesRead}
 use Rattle.run_files.specs.declared.crash_records.Step.{Step}
@@ -63,7 +62,7 @@ runFileOutcome n r = outcomeOf (r .answer) (record { numbers = take n (values (r
 
 -- what a step makes of the numbers given
 abbrev pub proposalOutcome : List ℕ → Proposal → Outcome (Option (List ℕ))
-proposalOutcome given (proposals.Stop r) = refused r
+proposalOutcome given (proposals.Stop r) = refused (number r)
 proposalOutcome given (proposals.Number v) = result (some (given ++ (v .0 ∷ [])))
 
 -- a CR by its fields
@@ -72,7 +71,7 @@ crashRecord drive round sends = record { drive = drive .0; round = round .0; sen
 
 -- what a step makes of the CR records listed
 abbrev pub stepOutcome : CrashList → Step → Outcome (Option CrashList)
-stepOutcome l (Stop r) = refused r
+stepOutcome l (Stop r) = refused (number r)
 stepOutcome l End = result none
 stepOutcome l (Crash drive round sends) = result (some (record { crashes = l .crashes ++ (crashRecord drive round sends ∷ []); last = drive .0 }))
 

@@ -8,6 +8,7 @@ ghost use Rattle.run_files.specs.Reading.{stepOutcome, withCrash, crashe
 ghost use Rattle.drive_sets.specs.Limits.{maxDrives};
 use crate::crashes::Crashes;
 use crate::crashes::check_crash;
+use drive_sets::Answer;
 use drive_sets::Drive;
 use drive_sets::Refusal;
 use drive_sets::Round;
@@ -15,7 +16,6 @@ use records::CRASH_WIDTH;
 use records::Due;
 use records::END_WIDTH;
 use records::Next;
-use tables::reading::Answer;
 
 // The crashes read, the drive of the last, and how many bytes they took with EN, where all are accepted.
 pub struct CrashesRead {

@@ -1,12 +1,12 @@
 // Crashes of drives: what a CR says by drive, and refusals 8, 9 and 10.
 ghost use mathlib.Core.Path.{_≡_};
-ghost use Rattle.tables.specs.Reading.{outcomeOf};
+ghost use Rattle.drive_sets.specs.Refusals.{outcomeOf};
 ghost use Rattle.runs.specs.CrashRecords.{isNext, mostSends, checkedCrash};
 ghost use Rattle.run_files.specs.Reading.{crashRecord};
+use drive_sets::Answer;
 use drive_sets::Drive;
 use drive_sets::Refusal;
 use drive_sets::Round;
-use tables::reading::Answer;
 
 // Crashes by drive: the drives with a CR, and of each such drive d, at place d - 1, the round and the sends.
 pub struct Crashes {

@@ -8,6 +8,7 @@ ghost use Rattle.records.specs.RecordLists.{stepOf, readList};
 ghost use Rattle.run_files.specs.RunFiles.{proposalList};
 ghost use Rattle.run_files.specs.Reading.{proposalOutcome, proposalsOutcome};
 ghost use Rattle.drive_sets.specs.Limits.{maxDrives, patternWidth};
+use drive_sets::Answer;
 use drive_sets::Drive;
 use drive_sets::PATTERN_BYTES;
 use drive_sets::Pattern;
@@ -15,7 +16,6 @@ use drive_sets::Refusal;
 use records::Due;
 use records::Head;
 use records::PROPOSAL_WIDTH;
-use tables::reading::Answer;
 
 // The numbers read, drive 1 first, and how many bytes they took, where all are accepted.
 pub struct Proposals {

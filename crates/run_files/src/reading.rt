@@ -8,10 +8,10 @@ ghost use Rattle.drive_sets.specs.Limits.{maxDrives};
 use crate::crash_records;
 use crate::crashes::Crashes;
 use crate::proposals;
+use drive_sets::Answer;
 use drive_sets::Pattern;
 use drive_sets::Refusal;
 use tables::calls::Chosen;
-use tables::reading::Answer;
 
 // What a run file says, where it is accepted: the pattern numbers, drive 1 first, and the crashes by drive.
 pub struct RunFile {

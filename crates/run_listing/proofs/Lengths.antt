@@ -60,7 +60,7 @@ unfolding runProgram simulatedWith simulatedFile scenario
 run-program-length input = go (simulatedFile input) refl
   where
     go : (o : Outcome Simulated) → simulatedFile input ≡ o → length (runText o) ≤ maxText
-    go (refused r) e = refusal-length (number r)
+    go (refused r) e = refusal-length r
     go (result r) e =
         let table = first-result (readTable input) _ e in
         let t = table .0 in

@@ -10,12 +10,11 @@ use Rattle.agreement.specs.Simulated.{Ending}
 use Rattle.text.specs.Text.{joined, refusalLine}
 use Rattle.run_listing.specs.RunListing.{driveLine, endingLines, coreLine, runText, simulatedWith}
 use Rattle.run_listing.specs.RunParts.{endingFor, driveLines, endingAt}
-use Rattle.drive_sets.specs.Refusals.{Outcome, andThen, number}
+use Rattle.drive_sets.specs.Refusals.{Outcome, andThen, number, outcomeOf}
 use Rattle.drive_sets.specs.declared.Refusal.{Refusal}
 use Rattle.tables.specs.Files.{ReadTable}
-use Rattle.tables.specs.Reading.{outcomeOf}
-use Rattle.tables.specs.declared.reading.Answer.{Answer}
-use Rattle.tables.specs.declared.reading.Answer.the-variants as answers
+use Rattle.drive_sets.specs.declared.Answer.{Answer}
+use Rattle.drive_sets.specs.declared.Answer.the-variants as answers
 use Rattle.run_files.specs.RunFiles.{RunFile, readRunFile}
 use Rattle.run_files.specs.Reading.{values, crashesIn, runFileOutcome}
 use Rattle.run_files.specs.declared.reading.RunFile as files

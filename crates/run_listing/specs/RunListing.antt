@@ -30,7 +30,7 @@ unfoldable pub coreLine : ℕ → ℕ → List ℕ
 coreLine core stops = named (ascii "core") Hexadecimal core ++ line (ascii " stops") Decimal stops
 
 abbrev pub runText : Outcome Simulated → List ℕ
-runText (refused r) = refusalLine (number r)
+runText (refused r) = refusalLine r
 runText (result s) = endingLines 1 (s .endings) ++ coreLine (s .core) (s .stops)
 
 -- the simulated exchange of the run file behind a table, given what the table says

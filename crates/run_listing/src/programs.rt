@@ -8,10 +8,10 @@ ghost use Rattle.text.specs.Printing.{Printed};
 ghost use Rattle.drive_sets.specs.Limits.{maxDrives, maxSets};
 use crate::run_text::put_core_line;
 use crate::run_text::put_drives;
+use drive_sets::Answer;
 use records::Writing;
 use simulation::simulating::Simulated;
 use simulation::simulating::simulate;
-use tables::reading::Answer;
 use tables::reading::Table;
 use text::lines::put_refused;
 use text::printing::MAX_TEXT;
@@ -70,7 +70,7 @@ fn put_run(buf: &mut [u8], input: &[u8]) -> usize
     let answer = complete.answer;
     match answer {
         Answer::Refused(r) => put_refused(buf, 0, r),
-        Answer::Accepted => put_behind(buf, complete.table, tables::files::rest(input, file.used)),
+        Answer::Accepted => put_behind(buf, complete.table, records::rest(input, file.used)),
     }
 }
 

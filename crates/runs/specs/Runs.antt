@@ -78,7 +78,7 @@ settled (wrote bytes) delivered = delivered
 module _ (P : Protocol) where
   -- what a send gives in the state that is there; a drive that is not open is never due to send
   unfoldable pub sendingOf : Slot → ℕ → ℕ → Outcome (List ℕ)
-  sendingOf unopened room start = refused NoRoom
+  sendingOf unopened room start = refused (number NoRoom)
   sendingOf (opened x) room start = P .sending x room start
 
 unfoldable pub sentBy : Outcome (List ℕ) → Sent
@@ -86,7 +86,7 @@ sentBy (refused r) = failed
 sentBy (result bytes) = wrote bytes
 
 unfoldable pub lacksRoom : Outcome (List ℕ) → Bool
-lacksRoom (refused r) = eqb (number r) (number NoRoom)
+lacksRoom (refused r) = eqb r (number NoRoom)
 lacksRoom (result bytes) = false
 
 -- ---- the part of round r, where w₀ is the world when it begins

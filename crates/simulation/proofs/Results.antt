@@ -146,7 +146,7 @@ module _ (n : ℕ) (sets : List ℕ) (numbers : List Pattern) (c : Crashes) (cor
       ∙ ap (λ (o : Outcome (List ℕ)). andThen o (λ table. checkedCrashes n (chosen table) 0 crs (unlessTouched n sets nums crs))) (sym (accepted-table n sets (given .0)))
 
 -- a refused table
-pub table-refused : (n : ℕ) (sets nums : List ℕ) (crs : List CrashRecord) (q : Refusal) → chosenCore n sets ≡ refused q → refused q ≡ simulated n sets nums crs
+pub table-refused : (n : ℕ) (sets nums : List ℕ) (crs : List CrashRecord) (q : ℕ) → chosenCore n sets ≡ refused q → refused q ≡ simulated n sets nums crs
 unfolding simulated chosenCore
 table-refused n sets nums crs q e = go (normalTable n sets) e
   where

@@ -11,7 +11,7 @@ use mathlib.Core.Bool.{not}
 use Rattle.drive_sets.specs.declared.Refusal.{Refusal}
 use Rattle.drive_sets.specs.declared.Refusal.the-variants.{BrokenState, Halted, ListenerSends, NoRoom}
 use Rattle.drive_sets.specs.Bools.Laws.{cond-true}
-use Rattle.drive_sets.specs.Refusals.{Outcome, refused, result}
+use Rattle.drive_sets.specs.Refusals.{Outcome, refused, result, number}
 use Rattle.drive_sets.specs.Refusals.Laws.{refused-no-result, same-result, passed, first-result}
 use Rattle.records.specs.Fields.{written, writtenAt}
 use Rattle.records.specs.declared.Writing.{Writing}
@@ -63,7 +63,7 @@ module _ (x : Exchange) (old new : List ℕ) (r : Writing) (sent : Written (send
   unfolding deliveries
   wrote-nothing q e es = none (sending x (length old) 0) (sym (sent .answer) ∙ ap writingOutcome e)
     where
-      none : (due : Outcome (List ℕ)) → sizeWritten due ≡ refused q → deliveries due es ≡ []
+      none : (due : Outcome (List ℕ)) → sizeWritten due ≡ refused (number q) → deliveries due es ≡ []
       none (refused p) h = refl
       none (result bytes) h = absurd (refused-no-result (sym h))
 

@@ -5,8 +5,7 @@ use Prim.Native.Nat.{ℕ}
 use lib.Dec.{eqb}
 use Rattle.drive_sets.specs.Lists.{range}
 use Rattle.drive_sets.specs.Masks.{has}
-use Rattle.drive_sets.specs.Refusals.{Outcome}
-use Rattle.tables.specs.Reading.{outcomeOf}
+use Rattle.drive_sets.specs.Refusals.{Outcome, outcomeOf}
 use Rattle.agreement.specs.Simulated.{Ending, decides, undecided, stopped}
 use Rattle.run_files.specs.Reading.{roundAt}
 use Rattle.simulation.specs.declared.simulating.Notes.{Notes}

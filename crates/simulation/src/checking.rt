@@ -1,15 +1,14 @@
 // The crashes of a scenario checked in order: 8, 9, 10 of each, rising by drive.
 ghost use mathlib.Core.Path.{_≡_};
 ghost use Prim.Native.Nat.{_≤_};
-ghost use Rattle.drive_sets.specs.Refusals.{result};
-ghost use Rattle.tables.specs.Reading.{outcomeOf};
+ghost use Rattle.drive_sets.specs.Refusals.{result, outcomeOf};
 ghost use Rattle.runs.specs.CrashRecords.{checkedCrash};
 ghost use Rattle.run_files.specs.Reading.{crashOfDrive, crashesIn};
 ghost use Rattle.simulation.specs.Simulation.{checkedCrashes};
 use crate::crashes;
+use drive_sets::Answer;
 use drive_sets::Drive;
 use run_files::crashes::Crashes;
-use tables::reading::Answer;
 
 // The crash of one drive, after that of the last.
 fn check_one(n: u8, core: u64, last: Drive, d: Drive, crashes: Crashes) -> Answer

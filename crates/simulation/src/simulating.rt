@@ -2,7 +2,7 @@
 ghost use mathlib.Core.Path.{_≡_};
 ghost use Prim.Native.Nat.{ℕ, _^_, _≤_, _<_};
 ghost use lib.ListN.{take};
-ghost use Rattle.drive_sets.specs.Refusals.{refused, result};
+ghost use Rattle.drive_sets.specs.Refusals.{refused, result, number};
 ghost use Rattle.tables.specs.Tables.{chosenCore};
 ghost use Rattle.runs.specs.Scenario.{Scenario};
 ghost use Rattle.runs.specs.CrashRecords.{crashed};
@@ -13,12 +13,12 @@ ghost use Rattle.simulation.specs.Endings.{simulatedOutcome};
 use crate::checking;
 use crate::noting;
 use crate::running;
+use drive_sets::Answer;
 use drive_sets::Pattern;
 use drive_sets::Refusal;
 use drive_sets::Round;
 use run_files::crashes::Crashes;
 use tables::calls::Chosen;
-use tables::reading::Answer;
 
 // For each drive, drive 1 first, the round in which it decided, 0 where it has not, and the pattern number.
 pub struct Notes {
@@ -36,7 +36,7 @@ pub struct Simulated {
 }
 
 fn refused(r: Refusal) -> Simulated
-    ensures { λ t. ⌜ ((n : ℕ) → simulatedOutcome n t ≡ refused r) ⌝ }
+    ensures { λ t. ⌜ ((n : ℕ) → simulatedOutcome n t ≡ refused (number r)) ⌝ }
 {
     Simulated {
         answer: Answer::Refused(r),

@@ -82,7 +82,7 @@ unfolding tableProgram
 program-length s = go (readWhole s) refl
   where
     go : (o : Outcome ReadTable) → readWhole s ≡ o → length (listingOf o) ≤ maxText
-    go (refused r) e = refusal-length (number r)
+    go (refused r) e = refusal-length r
     go (result t) e =
         let w = table-read s t (whole-table s t e .0) in
         subst (λ (l : List ℕ). length (listing (t .n) l) ≤ maxText) (sym (w .2))

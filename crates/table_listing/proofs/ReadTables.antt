@@ -3,15 +3,15 @@ use mathlib.Core.Path.{_≡_, refl, sym, ap, _∙_, subst}
 use mathlib.Core.List.{List}
 use Prim.Native.Nat.{ℕ}
 use lib.ListN.{take, drop}
-use Rattle.drive_sets.specs.Refusals.{Outcome, refused, result, andThen}
+use Rattle.drive_sets.specs.Refusals.{Outcome, refused, result, andThen, outcomeOf}
 use Rattle.drive_sets.specs.Refusals.Laws.{first-result, same-result}
 use Rattle.tables.specs.Tables.{cores}
 use Rattle.tables.specs.Files.{ReadTable}
 use Rattle.tables.specs.Complete.{Complete, ReadComplete, withCores, completeOutcome, readWithCores, fileOutcome}
-use Rattle.tables.specs.Reading.{setsOf, outcomeOf}
+use Rattle.tables.specs.Reading.{setsOf}
 use Rattle.tables.specs.declared.files.TableFile.{TableFile}
-use Rattle.tables.specs.declared.reading.Answer.{Answer}
-use Rattle.tables.specs.declared.reading.Answer.the-variants.{Accepted}
+use Rattle.drive_sets.specs.declared.Answer.{Answer}
+use Rattle.drive_sets.specs.declared.Answer.the-variants.{Accepted}
 
 abbrev pub bare : ReadComplete → Outcome ReadTable
 bare t = result (record { n = t .table .n; sets = t .table .sets; rest = t .rest })

@@ -31,7 +31,7 @@ listing n table =
     ++ (lines (ascii "core") Hexadecimal (cores table) ++ (line (ascii "chosen") Hexadecimal (chosen table) ++ verdictLines n table)))
 
 abbrev pub listingOf : Outcome ReadTable → List ℕ
-listingOf (refused r) = refusalLine (number r)
+listingOf (refused r) = refusalLine r
 listingOf (result t) = listing (t .n) (t .sets)
 
 -- what the table program prints for the bytes on its input

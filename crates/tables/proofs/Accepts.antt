@@ -9,10 +9,10 @@ use lib.ListN.{length, getD, take, length-take}
 use lib.Seq.{getD-take}
 use borrow.Author.Tests.{lt-ltb, le-ltb}
 use Rattle.drive_sets.specs.declared.Refusal.{Refusal}
-use Rattle.drive_sets.specs.Refusals.{Outcome, refused, result, andThen}
+use Rattle.drive_sets.specs.Refusals.{Outcome, refused, result, andThen, number, outcomeOf}
 use Rattle.drive_sets.specs.Refusals.Laws.{first-result, same-result}
-use Rattle.tables.specs.declared.reading.Answer.{Answer}
-use Rattle.tables.specs.declared.reading.Answer.the-variants as answers
+use Rattle.drive_sets.specs.declared.Answer.{Answer}
+use Rattle.drive_sets.specs.declared.Answer.the-variants as answers
 use Rattle.tables.specs.declared.completing.TableWithCores.{TableWithCores}
 use Rattle.drive_sets.specs.Limits.{maxSets}
 use Rattle.tables.specs.Tables.{cores, chosen, dual, normalTable, chosenCore}
@@ -23,12 +23,12 @@ use Rattle.core_search.specs.Found.{Found}
 use Rattle.set_orders.specs.Order.{byMask, precedes}
 use Rattle.set_orders.specs.Order.Sort.{length-sort}
 use Rattle.hitting_sets.specs.Hitting.Normal.{hits-normal}
-use Rattle.tables.specs.Reading.{setsOf, outcomeOf}
+use Rattle.tables.specs.Reading.{setsOf}
 use Rattle.tables.specs.Complete.{Complete, withCores, completeTable, completeOutcome}
 
 module _ {A B : Type 0} where
   -- a refusal of what is made of a result is one of the result
-  pub then-refused : (o : Outcome A) (f : A → B) {q : Refusal} → andThen o (λ a. result (f a)) ≡ refused q → o ≡ refused q
+  pub then-refused : (o : Outcome A) (f : A → B) {q : ℕ} → andThen o (λ a. result (f a)) ≡ refused q → o ≡ refused q
   then-refused (refused r) f e = cc
   then-refused (result a) f e = absurd (let z : _≡_ {A = ℕ} 0 1 = cc in omega arith)
 
@@ -38,7 +38,7 @@ module _ (n : ℕ) (sets : List ℕ) (t : TableWithCores) (e : completeOutcome t
   answer-is a f =
       ap (λ (b : Answer). outcomeOf b (record { n = t .table .n; sets = setsOf (t .table); cores = take (t .found) (t .cores) })) (sym f) ∙ e
 
-  pub accept-refused : (q : Refusal) → t .answer ≡ answers.Refused q → normalTable n sets ≡ refused q
+  pub accept-refused : (q : Refusal) → t .answer ≡ answers.Refused q → normalTable n sets ≡ refused (number q)
   unfolding completeTable
   accept-refused q f = then-refused (normalTable n sets) (withCores n) (sym (answer-is (answers.Refused q) f))
 
@@ -77,7 +77,7 @@ module _ (n : ℕ) (sets : List ℕ) (t : TableWithCores) (e : completeOutcome t
       ap (λ (l : List ℕ). hits l group) (a .1) ∙ hits-normal sets (sets-word n sets (a .0)) group
 
   -- any call that asks for the table is refused where it is
-  pub asks-refused : {B : Type 0} (f : List ℕ → Outcome B) (q : Refusal) → t .answer ≡ answers.Refused q → refused q ≡ andThen (normalTable n sets) f
+  pub asks-refused : {B : Type 0} (f : List ℕ → Outcome B) (q : Refusal) → t .answer ≡ answers.Refused q → refused (number q) ≡ andThen (normalTable n sets) f
   asks-refused f q e = sym (ap (λ (o : Outcome (List ℕ)). andThen o f) (accept-refused q e))
 
   -- and goes on with it where it is accepted

@@ -9,7 +9,7 @@ use lib.ListN.{length, take, drop, length-drop, drop-of-length-le}
 use lib.Seq.{take-at, drop-length}
 use borrow.Author.Tests.{lt-ltb, le-ltb}
 use Rattle.drive_sets.specs.declared.Refusal.the-variants.{TooManyCores}
-use Rattle.drive_sets.specs.Refusals.{Outcome, refused, result, andThen}
+use Rattle.drive_sets.specs.Refusals.{Outcome, refused, result, andThen, number}
 use Rattle.records.proofs.Parts.{rest-is}
 use Rattle.set_orders.specs.declared.sorting.Order.the-variants.{BySize}
 use Rattle.hitting_sets.specs.Hitting.{minimals}
@@ -51,7 +51,7 @@ module _ (n : ℕ) (sets part out out' : List ℕ) (found : ℕ) (e : part ≡ n
   unfolding cores
   core-count = length-sort bySize (minimals (normal sets)) ∙ ap (λ (l : List ℕ). length (minimals l)) (sym e)
 
-  pub too-many : maxCores < found → refused TooManyCores ≡ completeSets n sets
+  pub too-many : maxCores < found → refused (number TooManyCores) ≡ completeSets n sets
   unfolding completeSets withinCoreLimit
   too-many h = rw (lt-ltb maxCores (length (cores (normal sets))) (omega (arith, f .total, core-count)))
 
@@ -97,6 +97,3 @@ rest-none s k h = no-elements (drop k s) (omega (arith, length-drop k s))
 
 pub rest-some : (s : List ℕ) (k : ℕ) → k < length s → isEmpty (drop k s) ≡ false
 rest-some s k h = some-elements (drop k s) (λ e. omega (arith, length-drop k s))
-
-pub past-end : (s : List ℕ) (used : ℕ) → length s < used → take (length s - length s) (drop (length s) s) ≡ drop used s
-past-end s used h = rest-is s (length s) ∙ (drop-length s ∙ sym (drop-of-length-le s (le-of-lt h)))

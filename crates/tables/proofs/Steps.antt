@@ -10,7 +10,7 @@ use lib.Seq.{take-suc-set, length-take-le}
 use borrow.Author.Tests.{leb-false}
 use Rattle.drive_sets.specs.declared.Refusal.{Refusal}
 use Rattle.drive_sets.specs.declared.Refusal.the-variants.{TooManySets}
-use Rattle.drive_sets.specs.Refusals.{Outcome, refused, result, andThen}
+use Rattle.drive_sets.specs.Refusals.{Outcome, refused, result, andThen, number}
 use Rattle.drive_sets.specs.Refusals.Laws.{passed}
 use Rattle.records.specs.declared.Due.the-variants.{AtFrame, AtFirstSet, AtSetOrEnd}
 use Rattle.records.specs.declared.Kind.{Kind}
@@ -64,10 +64,10 @@ module _ {s : List ℕ} {n : ℕ} {sets : List ℕ} {count at : ℕ} (l : Listin
   said : (x : Step) → step ≡ x → stepOutcome (take count sets) x ≡ stepOf (setList n) (take count sets) (take (length s - at) (drop at s))
   said x e = ap (stepOutcome (take count sets)) (sym e) ∙ says (take count sets) (length-take-le count sets (omega (arith, l .few, l .room)))
 
-  pub listing-stop : {q : Refusal} → step ≡ Stop q → refused q ≡ readTo n s
+  pub listing-stop : {q : Refusal} → step ≡ Stop q → refused (number q) ≡ readTo n s
   listing-stop {q} e =
       ap (λ (o : Outcome (ReadList (List ℕ))). andThen o (λ t. result (listedTable n t)))
-      (reading-stop (setList n) (listBehind n s) s (take count sets) at (l .reading) refl q (said (Stop q) e))
+      (reading-stop (setList n) (listBehind n s) s (take count sets) at (l .reading) refl (number q) (said (Stop q) e))
 
   module _ (e : step ≡ End) where
     pub listed-within : at + 3 ≤ length s

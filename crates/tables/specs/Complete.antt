@@ -2,13 +2,13 @@
 use mathlib.Core.List.{List}
 use Prim.Native.Nat.{ℕ, _≤_}
 use lib.ListN.{length, take, drop}
-use Rattle.drive_sets.specs.Refusals.{Outcome, result, andThen}
+use Rattle.drive_sets.specs.Refusals.{Outcome, result, andThen, outcomeOf}
 use Rattle.tables.specs.declared.completing.TableWithCores.{TableWithCores}
 use Rattle.tables.specs.declared.files.TableFile.{TableFile}
 use Rattle.drive_sets.specs.Limits.{maxSets, maxCores}
 use Rattle.tables.specs.Tables.{cores, withinCoreLimit, normalTable}
 use Rattle.tables.specs.Files.{ReadTable, readTable, readWhole}
-use Rattle.tables.specs.Reading.{setsOf, outcomeOf}
+use Rattle.tables.specs.Reading.{setsOf}
 
 pub record Complete : Type 0 where
   pub n : ℕ

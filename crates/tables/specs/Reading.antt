@@ -3,11 +3,9 @@ use mathlib.Core.List.{List, [], _∷_, _++_}
 use mathlib.Core.Option.{Option, none, some}
 use Prim.Native.Nat.{ℕ, _≤_}
 use lib.ListN.{length, take, drop}
-use Rattle.drive_sets.specs.Refusals.{Outcome, refused, result}
+use Rattle.drive_sets.specs.Refusals.{Outcome, refused, result, number, outcomeOf}
 use Rattle.tables.specs.declared.reading.Step.{Step}
 use Rattle.tables.specs.declared.reading.Step.the-variants.{Set, End, Stop}
-use Rattle.tables.specs.declared.reading.Answer.{Answer}
-use Rattle.tables.specs.declared.reading.Answer.the-variants.{Accepted, Refused}
 use Rattle.tables.specs.declared.reading.Table.{Table}
 use Rattle.tables.specs.declared.reading.TableRead.{TableRead}
 use Rattle.drive_sets.specs.Limits.{maxSets}
@@ -18,11 +16,6 @@ use Rattle.tables.specs.Files.{ReadTable}
 -- the sets of a table: the first `count` of its array
 unfoldable pub setsOf : Table → List ℕ
 setsOf t = take (t .count) (t .sets)
-
-module _ {A : Type 0} where
-  abbrev pub outcomeOf : Answer → A → Outcome A
-  outcomeOf Accepted a = result a
-  outcomeOf (Refused r) a = refused r
 
 -- the answer of a reader of the bytes s
 unfoldable pub readOutcome : TableRead → List ℕ → Outcome ReadTable
@@ -37,6 +30,6 @@ pub record ReadWithin (r : TableRead) (s : List ℕ) : Type 0 where
 
 -- what a step makes of the sets listed
 abbrev pub stepOutcome : List ℕ → Step → Outcome (Option (List ℕ))
-stepOutcome listed (Stop r) = refused r
+stepOutcome listed (Stop r) = refused (number r)
 stepOutcome listed End = result none
 stepOutcome listed (Set m) = result (some (listed ++ (m ∷ [])))

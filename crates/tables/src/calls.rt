@@ -1,16 +1,16 @@
 // The calls given n and sets or groups: the chosen core, whether some drives meet every set, and Back.
 ghost use mathlib.Core.Path.{_≡_};
 ghost use Prim.Native.Nat.{_≤_};
-ghost use Rattle.drive_sets.specs.Refusals.{refused};
+ghost use Rattle.drive_sets.specs.Refusals.{refused, number};
 ghost use Rattle.hitting_sets.specs.Hitting.{hits};
 ghost use Rattle.drive_sets.specs.Limits.{maxSets};
 ghost use Rattle.tables.specs.Tables.{chosenCore, meetsEvery, survivorSets};
 ghost use Rattle.tables.specs.Answers.{chosenOutcome, meetingOutcome, listOutcome};
 use crate::completing;
 use crate::completing::all_sets;
-use crate::reading::Answer;
 use crate::reading::is_frame;
 use crate::reading::is_set;
+use drive_sets::Answer;
 use drive_sets::Refusal;
 use hitting_sets::missed::first_missed;
 use set_orders::MAX_CORES;
@@ -76,7 +76,7 @@ pub fn meets_every(n: u8, sets: &[u64], group: u64) -> Meeting
 }
 
 fn no_list(r: Refusal) -> SetList
-    ensures { λ t. ⌜ listOutcome t ≡ refused r ⌝ }
+    ensures { λ t. ⌜ listOutcome t ≡ refused (number r) ⌝ }
     ensures within { λ t. ⌜ t .count ≤ maxSets ⌝ }
 {
     SetList {

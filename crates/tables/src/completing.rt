@@ -7,11 +7,11 @@ ghost use Rattle.drive_sets.specs.Limits.{maxSets};
 ghost use Rattle.tables.specs.Tables.{isSet};
 ghost use Rattle.drive_sets.specs.Lists.{all};
 ghost use Rattle.tables.specs.Reading.{setsOf};
-ghost use Rattle.drive_sets.specs.Refusals.{refused};
-use crate::reading::Answer;
+ghost use Rattle.drive_sets.specs.Refusals.{refused, number};
 use crate::reading::Table;
 use crate::reading::is_frame;
 use crate::reading::is_set;
+use drive_sets::Answer;
 use drive_sets::Refusal;
 use set_orders::MAX_CORES;
 use set_orders::MAX_SETS;
@@ -26,7 +26,7 @@ pub struct TableWithCores {
 }
 
 pub(crate) fn refused(r: Refusal) -> TableWithCores
-    ensures { λ t. ⌜ completeOutcome t ≡ refused r ⌝ }
+    ensures { λ t. ⌜ completeOutcome t ≡ refused (number r) ⌝ }
     ensures within { λ t. ⌜ CompleteWithin t ⌝ }
 {
     TableWithCores {

@@ -2,8 +2,7 @@
 ghost use mathlib.Core.Path.{_≡_};
 ghost use mathlib.Core.List.{List};
 ghost use Prim.Native.Nat.{ℕ, _≤_};
-ghost use lib.ListN.{drop};
-ghost use Rattle.drive_sets.specs.Refusals.{refused, andThen};
+ghost use Rattle.drive_sets.specs.Refusals.{refused, andThen, number};
 ghost use Rattle.tables.specs.Files.{accepted};
 ghost use Rattle.tables.specs.Reading.{readOutcome, ReadWithin};
 ghost use Rattle.tables.specs.Complete.{completeOutcome, readWithCores, readComplete, readWholeComplete, fileOutcome, FileWithin};
@@ -11,8 +10,8 @@ ghost use Rattle.drive_sets.specs.Limits.{maxSets};
 use crate::completing;
 use crate::completing::TableWithCores;
 use crate::reading;
-use crate::reading::Answer;
 use crate::reading::TableRead;
+use drive_sets::Answer;
 use drive_sets::Refusal;
 
 // A table with its cores, where it is accepted, and how many bytes it took.
@@ -22,7 +21,7 @@ pub struct TableFile {
 }
 
 fn refused_file(r: Refusal) -> TableFile
-    ensures { λ t. ⌜ completeOutcome (t .complete) ≡ refused r ⌝ }
+    ensures { λ t. ⌜ completeOutcome (t .complete) ≡ refused (number r) ⌝ }
     ensures within { λ t. ⌜ ((s : List ℕ) → FileWithin t s) ⌝ }
 {
     TableFile {
@@ -74,15 +73,4 @@ pub fn read_whole(s: &[u8]) -> TableFile
             finish(listed)
         }
     }
-}
-
-// What stands behind the bytes that were used.
-pub fn rest(s: &[u8], used: usize) -> &[u8]
-    ensures { λ r. ⌜ now r ≡ drop used (now (s .entry)) ⌝ }
-{
-    if s.len() < used {
-        let end = s.len();
-        return &s[end..];
-    }
-    &s[used..]
 }

@@ -8,6 +8,7 @@ ghost use Rattle.drive_sets.specs.Refusals.{result, andThen};
 ghost use Rattle.records.specs.RecordLists.{stepOf, readList};
 ghost use Rattle.tables.specs.Files.{dueAfter, setList, listedTable, readListed};
 ghost use Rattle.tables.specs.Reading.{stepOutcome, readOutcome, ReadWithin};
+use drive_sets::Answer;
 use drive_sets::Refusal;
 use records::Due;
 use records::END_WIDTH;
@@ -21,11 +22,6 @@ pub struct Table {
     pub n: u8,
     pub count: usize,
     pub sets: [u64; MAX_SETS],
-}
-
-pub enum Answer {
-    Accepted,
-    Refused(Refusal),
 }
 
 // What reading gives: the table and how many bytes it took, where it is accepted.

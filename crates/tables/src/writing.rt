@@ -9,7 +9,7 @@ ghost use Rattle.records.specs.RecordLists.{listBytes};
 ghost use Rattle.records.specs.LentBuffers.{fitting, Written, WrittenIfRoom};
 ghost use Rattle.drive_sets.specs.Limits.{maxSets};
 use crate::completing;
-use crate::reading::Answer;
+use drive_sets::Answer;
 use drive_sets::Refusal;
 use records::END;
 use records::FRAME;

@@ -8,14 +8,6 @@ use libc::STDOUT_FILENO;
 use records::Writing;
 use text::printing::MAX_TEXT;
 
-// The first bytes, so many or all there are.
-fn first(s: &[u8], size: usize) -> &[u8] {
-    if s.len() < size {
-        return &s[0..];
-    }
-    &s[0..size]
-}
-
 // How many bytes the input at the start has.
 fn width(s: &[u8]) -> usize
     ensures { λ r. ⌜ r ≤ 65535 ⌝ }
@@ -25,7 +17,7 @@ fn width(s: &[u8]) -> usize
 
 // The text of the input at the start.
 fn list(s: &[u8], text: &mut [u8]) -> Writing {
-    let input = first(tables::files::rest(s, 3), width(s));
+    let input = records::first(records::rest(s, 3), width(s));
     if records::field(s, 0, 1) == 0 {
         return table_listing::programs::table_listing(input, text, 0);
     }

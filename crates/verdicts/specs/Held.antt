@@ -6,8 +6,7 @@ use mathlib.Core.Option.{Option, some, none}
 use Prim.Native.Nat.{ℕ, suc}
 use lib.Dec.{leb, ltb}
 use lib.ListN.{length, take}
-use Rattle.drive_sets.specs.Refusals.{Outcome, refused, result}
-use Rattle.tables.specs.Reading.{outcomeOf}
+use Rattle.drive_sets.specs.Refusals.{Outcome, refused, result, outcomeOf}
 use Rattle.verdicts.specs.declared.Named.{Named}
 use Rattle.verdicts.specs.declared.calls.Judgement.{Judgement}
 use Rattle.verdicts.specs.declared.Verdict.{Verdict as Answer}

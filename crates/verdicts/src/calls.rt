@@ -4,15 +4,15 @@ ghost use mathlib.Core.Bool.{_&&_};
 ghost use Prim.Native.Nat.{ℕ, _≤_};
 ghost use lib.Dec.{leb};
 ghost use lib.ListN.{length};
-ghost use Rattle.drive_sets.specs.Refusals.{refused, result};
+ghost use Rattle.drive_sets.specs.Refusals.{refused, result, number};
 ghost use Rattle.verdicts.specs.Verdicts.{verdictOn, verdict};
 ghost use Rattle.verdicts.specs.Held.{judgementOf, heldIn};
 ghost use Rattle.drive_sets.specs.Limits.{maxSets};
 use crate::MAX_BLOCKS;
 use crate::MIN_BLOCKS;
 use crate::Verdict;
+use drive_sets::Answer;
 use drive_sets::Refusal;
-use tables::reading::Answer;
 
 // A verdict where the call is accepted.
 pub struct Judgement {
@@ -28,8 +28,8 @@ fn is_block_count(k: u8) -> bool
 }
 
 fn refused(r: Refusal) -> Judgement
-    ensures says { λ j. ⌜ ((k : ℕ) → judgementOf j k ≡ refused r) ⌝ }
-    ensures whole { λ j. ⌜ j .verdict ≡ heldIn (refused r) ⌝ }
+    ensures says { λ j. ⌜ ((k : ℕ) → judgementOf j k ≡ refused (number r)) ⌝ }
+    ensures whole { λ j. ⌜ j .verdict ≡ heldIn (refused (number r)) ⌝ }
 {
     Judgement {
         answer: Answer::Refused(r),

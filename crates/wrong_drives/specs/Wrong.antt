@@ -6,7 +6,7 @@ use lib.Dec.{eqb}
 use Rattle.drive_sets.specs.declared.Refusal.the-variants.{BrokenState, NoRoom}
 use Rattle.drive_sets.specs.Lists.{filter}
 use Rattle.drive_sets.specs.Masks.{has}
-use Rattle.drive_sets.specs.Refusals.{Outcome, refused, result, andThen}
+use Rattle.drive_sets.specs.Refusals.{Outcome, refused, result, andThen, number}
 use Rattle.drive_states.specs.declared.Exchange.{Exchange}
 use Rattle.drive_states.specs.declared.Decision.{Decision}
 use Rattle.drive_states.specs.declared.Decision.the-variants.{Decided}
@@ -77,10 +77,10 @@ hearsNothing = record { opening = opening; sending = sending; receiving = λ x b
 -- (e) it refuses every call
 abbrev pub refusesAll : Protocol
 refusesAll = record {
-  opening = λ n sets own number. refused BrokenState;
-  sending = λ x room start. refused BrokenState;
-  receiving = λ x bytes. refused BrokenState;
-  closing = λ x. refused BrokenState;
+  opening = λ n sets own proposed. refused (number BrokenState);
+  sending = λ x room start. refused (number BrokenState);
+  receiving = λ x bytes. refused (number BrokenState);
+  closing = λ x. refused (number BrokenState);
   reach = reach;
 }
 
@@ -106,8 +106,8 @@ neverCloses = record { opening = opening; sending = sending; receiving = receivi
 abbrev pub neverRoom : Protocol
 neverRoom = record {
   opening = opening;
-  sending = λ x room start. refused NoRoom;
-  receiving = λ x bytes. refused BrokenState;
-  closing = λ x. refused BrokenState;
+  sending = λ x room start. refused (number NoRoom);
+  receiving = λ x bytes. refused (number BrokenState);
+  closing = λ x. refused (number BrokenState);
   reach = reach;
 }

@@ -22,8 +22,7 @@ use Rattle.drive_states.specs.declared.Announcement.the-variants.{Absent}
 use Rattle.drive_states.specs.State.{numberOf, isDecided}
 use Rattle.agreement.specs.Calls as calls
 use Rattle.agreement.specs.Calls.{heardAtClose, decisionOn, stableDecision, decide, decisionAfter, next, closing}
-use Rattle.agreement.proofs.CallLaws.{decided-on}
-use Rattle.agreement.proofs.CallLaws.{closing-accepted}
+use Rattle.agreement.proofs.CallLaws.{decided-on, closing-accepted}
 use Rattle.sync_crash.specs.Rounds as rounds
 use Rattle.sync_crash.specs.Rounds.{Instance, Lawful, smallestOf, reaches, known, announces, announced, heard, unchanged, stable, ifStable, decides, after, knows, before, decision, halted}
 use Rattle.sync_crash.specs.Rounds.Steps.{Closer, reaches-true, knows-now, before-now, decision-now, halted-now}

@@ -8,7 +8,7 @@ use native.Mathlib.Omega.{arith}
 use lib.ListN.{length}
 use Rattle.drive_sets.specs.declared.Refusal.the-variants.{NoRoom}
 use Rattle.drive_sets.specs.Masks.Tests.{setOf, setOf-lt}
-use Rattle.drive_sets.specs.Refusals.{refused, result}
+use Rattle.drive_sets.specs.Refusals.{refused, result, number}
 use Rattle.drive_states.specs.State.{numberOf}
 use Rattle.drive_states.specs.Messages.{Content, decided, Message, knownOf, messageBytes, longestMessage}
 use Rattle.drive_states.specs.Messages.Laws.{length-known, known-same, length-decided, length-longest}
@@ -52,7 +52,7 @@ module _ {S : Instance} (L : Lawful S) (B : Bounded S) {k e : ℕ} {from : ℕ �
         (rw outgoing-is fits)
         ∙ ap (λ (m : Message). result (messageBytes m)) outgoing-is
 
-    pub sending-no-room : room < start + length (messageOf S k e) → sending (stateOf S k e from) room start ≡ refused NoRoom
+    pub sending-no-room : room < start + length (messageOf S k e) → sending (stateOf S k e from) room start ≡ refused (number NoRoom)
     sending-no-room crowded =
         sending-crowded (stateOf S k e from) (state-unbroken L B i) (state-running L B i) room start (state-inCore L B i ∙ in-core)
         (rw outgoing-is crowded)

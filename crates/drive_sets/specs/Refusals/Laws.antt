@@ -7,7 +7,7 @@ use Rattle.drive_sets.specs.declared.Refusal.{Refusal}
 use Rattle.drive_sets.specs.Refusals.{Outcome, refused, result, refuseIf, andThen}
 
 module _ {A : Type 0} where
-  pub refused-no-result : {r : Refusal} {a : A} → refused r ≡ result a → ⊥
+  pub refused-no-result : {r : ℕ} {a : A} → refused r ≡ result a → ⊥
   refused-no-result e = let z : _≡_ {A = ℕ} 0 1 = cc in omega arith
 
   pub same-result : {a b : A} → _≡_ {A = Outcome A} (result a) (result b) → a ≡ b

@@ -1,5 +1,5 @@
 -- All of the sets where there are fewer, else the first of them.
-use Rattle.exports.proofs.Outcomes.{all-first, some-first}
+use Rattle.records.proofs.Parts.{first-all, first-some}
 use borrow.Author.Needs.{needs}
 use Rattle.exports.proofs.answers.first_sets.Statement.{statement}
 use Rattle.exports.proofs.answers.first_sets.Tie as tie
@@ -9,5 +9,5 @@ first-sets-spec =
     tie.close
     (tie.spec
     (λ c. search needs) (λ c. search needs) (λ c. search needs)
-    (λ c. all-first (c .before .before .args .sets .now) (c .before .before .args .count) (c .before .if1 .taken)) (λ c. search needs)
-    (λ c. search needs) (λ c. search needs) (λ c. some-first (c .before .before .args .sets .now) (c .before .before .args .count)))
+    (λ c. first-all (c .before .before .args .sets .now) (c .before .before .args .count) (c .before .if1 .taken)) (λ c. search needs)
+    (λ c. search needs) (λ c. search needs) (λ c. first-some (c .before .before .args .sets .now) (c .before .before .args .count)))

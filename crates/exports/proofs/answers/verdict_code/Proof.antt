@@ -9,4 +9,4 @@ verdict-code-spec =
     tie.close
     (tie.spec
     (λ c. code-yes (c .before .args .v) (c .before .args .k) (c .if1 .taken)) (λ c. search needs) (λ c κs. search needs) (λ c κs. search needs)
-    (λ c. code-no (c .before .before .before .before .before .args .v) (c .before .before .before .before .before .args .k) (c .before .before .before .before .if1 .left) (search needs) _ (c .before .first-bytes .ensures) _ (c .from-bytes .ensures)))
+    (λ c. code-no (c .before .before .before .before .before .args .v) (c .before .before .before .before .before .args .k) (c .before .before .before .before .if1 .left) (search needs) _ (c .before .first .ensures) _ (c .from-bytes .ensures)))

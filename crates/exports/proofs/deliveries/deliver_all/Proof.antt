@@ -25,5 +25,5 @@ deliver-all-spec =
     (λ c. search needs) (λ c. search needs) (λ c. search needs) (λ c κs. search needs) (λ c κs. search needs) (λ c κs. search needs)
     (λ c. omega (arith, c .before .before .before .before .before .before .loop .inv .1 .bound, c .accepted-by .ensures .1)) (λ c κs. search needs)
     (λ c. search needs) (λ c. search needs)
-    (λ c. let a = c .before .before .before .before .before .before .before .before .before .args in let l = c .before .before .before .before .before .before .before .loop in let one = c .before .accepted-by .ensures in (c .further .ensures .0, handing-turn (a .size) (a .count) (a .messages .now) (a .x) (l .i) (l .accepted) (l .at) (l .state) (l .inv .1) (c .before .before .before .before .before .before .loop-test .taken) _ (c .before .before .before .before .first-bytes .ensures ∙ ap (take (a .size)) (rest-is (a .messages .now) (l .at))) _ (c .before .before .before .message .ensures) _ (one .0) (one .1) _ (c .further .ensures .1)))
+    (λ c. let a = c .before .before .before .before .before .before .before .before .before .args in let l = c .before .before .before .before .before .before .before .loop in let one = c .before .accepted-by .ensures in (c .further .ensures .0, handing-turn (a .size) (a .count) (a .messages .now) (a .x) (l .i) (l .accepted) (l .at) (l .state) (l .inv .1) (c .before .before .before .before .before .before .loop-test .taken) _ (c .before .before .before .before .first .ensures ∙ ap (take (a .size)) (rest-is (a .messages .now) (l .at))) _ (c .before .before .before .message .ensures) _ (one .0) (one .1) _ (c .further .ensures .1)))
     (λ c. let a = c .before .before .before .args in let l = c .before .loop in handing-end (a .size) (a .count) (a .messages .now) (a .x) (l .i) (l .accepted) (l .at) (l .state) (l .inv .1) (c .loop-test .left)))

@@ -1,7 +1,7 @@
 -- The first refusal of a crash, or what comes next.
 use Rattle.run_files.specs.Reading.{crashesIn}
-use Rattle.tables.specs.declared.reading.Answer.{Answer}
-use Rattle.tables.specs.Reading.{outcomeOf}
+use Rattle.drive_sets.specs.declared.Answer.{Answer}
+use Rattle.drive_sets.specs.Refusals.{outcomeOf}
 use mathlib.Core.Path.{sym, ap, _∙_}
 use Rattle.simulation.proofs.CrashChecks.{checked-then}
 use borrow.Author.Needs.{needs}
