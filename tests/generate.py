@@ -18,6 +18,9 @@ from inputs.records import (MARKS, UNKNOWN_MARKS, Crash, Records, crash, frame,
                             proposal, run, run_records, survivor, table, table_records)
 from inputs.scenarios import accepted_run, spoil_crash, touch_every_set
 
+# The refusals that each program can print.
+REFUSALS = {"table": {1, 2, 3, 4, 5, 6, 7, 13}, "run": {1, 2, 3, 4, 5, 6, 7, 8, 9, 10, 11, 13}}
+
 
 # Long inputs
 

@@ -6,7 +6,7 @@ The second program: its listings are compared with the proved programs'.
 from .exchange import Exchange, close, message, opening, send, send_into
 from .listings import run_program, table_program
 from .refusals import Refusal
-from .runs import Crash, Outcome, Scenario, read_run, simulate
+from .runs import Crash, Outcome, Scenario, read_run, simulate, stops_by_drive
 from .tables import (back, chosen_core, cores, meets_all, normal_table, read_table,
                      read_table_with_rest, write_table, write_table_into)
 from .verdicts import Verdict, verdict
@@ -15,6 +15,6 @@ __all__ = [
     "Crash", "Exchange", "Outcome", "Refusal", "Scenario", "Verdict", "back",
     "chosen_core", "close", "cores", "meets_all", "message", "normal_table",
     "opening", "read_run", "read_table", "read_table_with_rest", "run_program",
-    "send", "send_into", "simulate", "table_program", "verdict", "write_table",
-    "write_table_into",
+    "send", "send_into", "simulate", "stops_by_drive", "table_program", "verdict",
+    "write_table", "write_table_into",
 ]

@@ -100,6 +100,12 @@ def _read_crashes(reader: Reader, n: int, core: int) -> list[Crash]:
 
 # Simulated exchange
 
+def stops_by_drive(stopped: int, rounds: Sequence[int], sends: Sequence[int]) -> list[Crash]:
+    """Stops in the form in which a caller hands them over: the set of the
+    drives with a CR, and at each drive's place its round and its sends."""
+    return [Crash(drive, rounds[drive - 1], sends[drive - 1]) for drive in drives(stopped)]
+
+
 def simulate(n: int, sets: Sequence[int], proposals: Sequence[int],
              stops: Sequence[Crash]) -> Outcome:
     """The outcome of a run; the table's refusals, then 8, 9, 10 for each stop

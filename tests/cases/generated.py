@@ -13,16 +13,15 @@ from . import Case
 
 
 def generator_cases() -> Iterator[Case]:
-    programs = (
-        ("table", generate.table_inputs, regdulyn.table_program, {1, 2, 3, 4, 5, 6, 7, 13}),
-        ("run", generate.run_inputs, regdulyn.run_program,
-         {1, 2, 3, 4, 5, 6, 7, 8, 9, 10, 11, 13}))
-    for name, inputs, program, expected in programs:
+    programs = (("table", generate.table_inputs, regdulyn.table_program),
+                ("run", generate.run_inputs, regdulyn.run_program))
+    for name, inputs, program in programs:
         made = list(inputs(5, 600))
         yield f"{name} inputs repeat", made, list(inputs(5, 600))
         texts = [program(data) for data in made]
         refused = [text for text in texts if text.startswith(b"refused ")]
-        yield f"{name} refusals", {int(text.split()[1]) for text in refused}, expected
+        yield (f"{name} refusals", {int(text.split()[1]) for text in refused},
+               generate.REFUSALS[name])
         yield f"{name} inputs, half accepted", 2 * len(refused) < len(texts), True
 
 
@@ -38,13 +37,16 @@ CALL_ANSWERS = {
     "W": ({"written"}, TABLE_REFUSALS | {14}),
     "V": ({"yes", "no"}, TABLE_REFUSALS | {12}),
     "H": ({"meets", "misses"}, TABLE_REFUSALS),
+    "K": ({"core"}, TABLE_REFUSALS),
+    "R": ({"numbers"}, TABLE_REFUSALS | {1, 6, 7, 8, 9, 10, 11}),
+    "X": ({"core"}, TABLE_REFUSALS | {8, 9, 10, 11}),
 }
 
 
 def script_cases() -> Iterator[Case]:
-    made = list(scripts(5, 2000))
+    made = list(scripts(5, 3000))
     yield ("scripts repeat", [script.data for script in made],
-           [script.data for script in scripts(5, 2000)])
+           [script.data for script in scripts(5, 3000)])
     yield "scripts fit", max(len(script.data) for script in made) <= MAX_BYTES, True
     words, refusals = defaultdict(set), defaultdict(set)
     for script in made:
@@ -54,5 +56,6 @@ def script_cases() -> Iterator[Case]:
                 refusals[letter].add(int(values[0]))
             else:
                 words[letter].add(word)
+    yield "operations", set("".join(script.letters for script in made)), {"L", *CALL_ANSWERS}
     for letter, expected in CALL_ANSWERS.items():
         yield f"answers of {letter}", (words[letter], refusals[letter]), expected

@@ -5,10 +5,13 @@ that a generator sees the state it has reached. The layout of the operations
 stands in crates/call_program/src/main.rt.
 """
 
-from typing import Callable
+from typing import Callable, Iterable
 
-from regdulyn import (Exchange, Refusal, Verdict, back, close, meets_all, message, opening,
-                      send_into, verdict, write_table_into)
+from regdulyn import (Crash, Exchange, Outcome, Refusal, Scenario, Verdict, back, chosen_core,
+                      close, meets_all, message, opening, read_run, send_into, simulate,
+                      stops_by_drive, verdict, write_table_into)
+
+from .frames import MAX_DRIVES
 
 FILLING = 0xA5
 MAX_BYTES = 65536
@@ -56,6 +59,20 @@ def verdict_line(found: Verdict) -> str:
     positions = " ".join(str(place) for place in [*found.positions, *unused])
     blocks = " ".join(f"{block:x}" for block in [*found.blocks, *unused])
     return f"{'yes' if found.yes else 'no'} sets {positions} blocks {blocks}"
+
+
+def scenario_line(found: Scenario) -> str:
+    """The numbers proposed, then drive, round and sends of each stop."""
+    return " ".join(["numbers", *map(str, found.proposals),
+                     *(f"stop {c.drive} {c.round} {c.sends}" for c in found.crashes)])
+
+
+def outcome_line(found: Outcome) -> str:
+    """The core, how many of its drives stop, and how each drive ends."""
+    endings = ("stopped" if end is None else "decides %d round %d" % end
+               for end in found.decisions)
+    return " ".join([f"core {found.core:x} stops {found.stops}",
+                     *(f"drive {d} {ending}" for d, ending in enumerate(endings, start=1))])
 
 
 def answer(call: Callable[[], str]) -> str:
@@ -131,6 +148,30 @@ class Script:
     def meet(self, n: int, sets: list[int], group: int) -> None:
         self._add(b"H" + field(n, 1) + field(group, 8) + list_bytes(sets),
                   answer(lambda: "meets" if meets_all(n, sets, group) else "misses"))
+
+    def choose(self, n: int, sets: list[int]) -> None:
+        self._add(b"K" + field(n, 1) + list_bytes(sets),
+                  answer(lambda: f"core {chosen_core(n, sets):x}"))
+
+    def read_run(self, n: int, sets: list[int], data: bytes) -> None:
+        self._add(b"R" + field(n, 1) + field(len(data), 2) + data + list_bytes(sets),
+                  answer(lambda: scenario_line(read_run(data, n, sets))))
+
+    def simulate(self, n: int, sets: list[int], numbers: list[int], stops: Iterable[Crash],
+                 unused: tuple[int, int, int] = (0, 1, 0)) -> None:
+        """With the stops of drives 1 to 64, the last of each drive; `unused` is the
+        number, the round and the sends at the other places, which must not matter."""
+        made = {stop.drive: stop for stop in stops if 1 <= stop.drive <= MAX_DRIVES}
+        none = Crash(0, *unused[1:])
+        by_drive = [made.get(drive, none) for drive in range(1, MAX_DRIVES + 1)]
+        rounds = bytes(stop.round for stop in by_drive)
+        sends = bytes(stop.sends for stop in by_drive)
+        stopped = sum(1 << drive - 1 for drive in made)
+        given = (numbers + [unused[0]] * MAX_DRIVES)[:MAX_DRIVES]
+        operation = (b"X" + field(n, 1) + b"".join(field(v, 2) for v in given) +
+                     field(stopped, 8) + rounds + sends + list_bytes(sets))
+        self._add(operation, answer(lambda: outcome_line(
+            simulate(n, sets, given[:n], stops_by_drive(stopped, rounds, sends)))))
 
     @property
     def expected(self) -> bytes:

@@ -1,7 +1,7 @@
 """Inputs with the answers that document 01 gives them: the refusals of the four
-calls and of run files, each alone and where two faults meet, and what a close
-leaves. Messages and records are written byte by byte. The number 0 stands for a
-call that is not refused.
+calls, of simulated exchanges and of run files, each alone and where two faults meet,
+what a close leaves and how drives end. Messages and records are written byte by byte.
+The number 0 stands for a call that is not refused.
 """
 
 from typing import Iterator, NamedTuple, Optional
@@ -134,6 +134,33 @@ BUFFERS = [
 ]
 
 
+# Stops by drive on case A's table with case B's pattern numbers, and the line of the
+# simulated exchange.
+def ends(stops: int, *found: str) -> str:
+    return " ".join([f"core 7 stops {stops}",
+                     *(f"drive {drive} {end}" for drive, end in enumerate(found, start=1))])
+
+
+GONE = "stopped"
+ON_5 = [f"decides 5 round {round_number}" for round_number in range(4)]
+ON_7 = "decides 7 round 2"
+SIMULATED = [
+    # Nobody; cases B, D, E and F; a listener, and drive 1 after its decision.
+    ([], ends(0, *[ON_5[1]] * 6)), ([Crash(2, 1, 1)], ends(1, ON_5[1], GONE, *[ON_5[2]] * 4)),
+    ([Crash(2, 1, 0)], ends(1, ON_7, GONE, *[ON_7] * 4)),
+    ([Crash(2, 1, 3)], ends(1, ON_5[1], GONE, ON_5[1], ON_5[1], ON_5[2], ON_5[2])),
+    ([Crash(1, 1, 0), Crash(2, 2, 0)], ends(2, GONE, GONE, *[ON_5[3]] * 4)),
+    ([Crash(1, 2, 5), Crash(4, 3, 0)], ends(1, GONE, *[ON_5[1]] * 2, GONE, *[ON_5[1]] * 2)),
+    # 8, 9, 10 of the lowest drive first: above n; round 0 and 4; 6 sends, and a listener's.
+    ([Crash(7, 0, 9)], "refused 8"), ([Crash(64, 1, 0)], "refused 8"),
+    ([Crash(2, 0, 9)], "refused 9"), ([Crash(2, 4, 0), Crash(7, 1, 0)], "refused 9"),
+    ([Crash(1, 1, 6), Crash(2, 0, 0)], "refused 10"), ([Crash(4, 1, 1)], "refused 10"),
+    # Case G, then with 10.
+    ([Crash(drive, 1, 0) for drive in (1, 2, 3)], "refused 11"),
+    ([Crash(1, 1, 0), Crash(2, 1, 0), Crash(3, 1, 6)], "refused 10"),
+]
+
+
 class Answered(NamedTuple):
     """What the last operation of a script gave, and what document 01 gives."""
     name: str
@@ -173,6 +200,9 @@ def call_samples(script: Script) -> Iterator[Answered]:
         script.load(x)
         script.send(length, start)
         yield Answered(f"buffer {index}", script.lines[-1][1], f"buffer {buffer.hex()}")
+    for index, (stops, line) in enumerate(SIMULATED):
+        script.simulate(6, A_SETS, PATTERNS, stops)
+        yield Answered(f"simulated {index}", script.lines[-1][0], line)
 
 
 def make_samples(script: Script) -> None:

@@ -1,21 +1,25 @@
-"""Seeded scripts for the call program: the samples, the limits of the calls given n
-and sets, then operations of every kind at random."""
+"""Scripts for the call program: seeded ones, with the samples, the limits of the calls
+given n and sets, then operations of every kind at random; and the stored one."""
 
 from itertools import chain
 from random import Random
 from typing import Iterator
 
+from regdulyn import Crash
+
+from . import run_calls, set_calls
 from .calls import MAX_BYTES, Script
 from .exchanges import exchange, handmade, openings
-from .samples import make_samples
-from .set_calls import LIMITS, set_calls
+from .records import crash, end
+from .samples import (A_SETS, CORE_DRIVE, HEARD_2, MISSED_2, PATTERNS, PROPOSALS, kn, make_samples,
+                      state)
 from .states import broken_states
 
 OPERATIONS = 400
 
 
 def fixed_scripts() -> Iterator[Script]:
-    for fixed in (make_samples, *LIMITS):
+    for fixed in (make_samples, *set_calls.LIMITS, *run_calls.LIMITS):
         script = Script()
         fixed(script)
         yield script
@@ -29,14 +33,16 @@ def random_scripts(seed: int) -> Iterator[Script]:
         script.close()
         while len(script.lines) < OPERATIONS and len(script.data) < MAX_BYTES // 2:
             chance = rng.random()
-            if chance < 0.25:
+            if chance < 0.22:
                 exchange(rng, script)
-            elif chance < 0.65:
+            elif chance < 0.56:
                 handmade(rng, script, broken)
-            elif chance < 0.75:
+            elif chance < 0.65:
                 openings(rng, script)
+            elif chance < 0.88:
+                set_calls.set_calls(rng, script)
             else:
-                set_calls(rng, script)
+                run_calls.run_calls(rng, script)
         if len(script.data) <= MAX_BYTES:
             yield script
 
@@ -48,3 +54,48 @@ def scripts(seed: int, count: int) -> Iterator[Script]:
             return
         count -= len(script.lines)
         yield script
+
+
+def refused_by_state(script: Script) -> None:
+    """15, 22, 26, 24, 25, 23 and 28 on states that are handed over."""
+    for x, data in ((CORE_DRIVE, kn(2, 1, 5, 7, 0, 9, 0)), (CORE_DRIVE, kn(1, 1, 1, 7, 0)),
+                    (CORE_DRIVE, kn(2, 2, 2, 5, 0)), (MISSED_2, kn(2, 2, 2, 5, 0)),
+                    (HEARD_2, kn(3, 1, 6, 6, 0, 9, 0))):
+        script.load(x)
+        script.message(data)
+    for own in (1, 7):
+        script.load(state(6, own, 7, 1, 7, 0, 1, 1, own == 1))
+        script.close()
+
+
+def stored_script() -> Script:
+    """A few operations of each kind, most on case A's table."""
+    script = Script()
+    refused_by_state(script)
+    script.open(6, A_SETS, 1, 7)
+    script.send(16, 1)
+    for data in (kn(3, 1, 4, 9, 0), kn(3, 1, 4, 9, 0), kn(2, 1, 2, 5, 0)):
+        script.message(data)
+    script.close()
+    script.send(6, 0)
+    script.open(6, A_SETS, 4, 1)
+    script.send(14, 0)
+    for data in (kn(1, 1, 1, 7, 0), kn(1, 1, 1, 7), kn(3, 1, 4, 9, 0)):
+        script.message(data)
+    script.close()
+    script.open(7, [0x80], 1, 7)
+    script.back(6, [7, 0xB, 0x13, 0x23])
+    script.back(6, [])
+    script.write(6, [3, *A_SETS], 40, 2)
+    script.write(6, A_SETS, 40, 5)
+    for k, n, sets in ((2, 6, A_SETS), (3, 4, [7, 0xB, 0xC]), (2, 4, [7, 0xB, 0xC]), (5, 6, A_SETS)):
+        script.judge(k, n, sets)
+    for group in (7, 6, 0x40):
+        script.meet(6, A_SETS, group)
+    for n, sets in ((6, A_SETS), (6, []), (22, set_calls.PAIRS)):
+        script.choose(n, sets)
+    for stops in (crash(2, 1, 1), crash(2, 1, 6), crash(2, 1, 1) + crash(4, 2, 0)):
+        script.read_run(6, A_SETS, PROPOSALS + stops + end(1))
+    for drives in ((2,), (1, 2), (1, 2, 3), (6, 7)):
+        script.simulate(6, A_SETS, PATTERNS, [Crash(drive, 1, 0) for drive in drives])
+    return script

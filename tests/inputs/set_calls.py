@@ -1,6 +1,6 @@
-"""Operations of the calls given n and sets or groups: the writer, the verdict,
-whether a group meets every set, and Back. First fixed ones at the limits, then
-random ones.
+"""Operations of the calls given n and sets or groups: the chosen core, the writer,
+the verdict, whether a group meets every set, and Back. First fixed ones at the
+limits, then random ones.
 """
 
 from itertools import combinations, product
@@ -35,11 +35,12 @@ def limit_tables() -> Iterator[Frame]:
 
 
 def table_limits(script: Script) -> None:
-    """The writer, the verdict and an opening on each table."""
+    """The writer, the verdict, the chosen core and an opening on each table."""
     for n, sets in limit_tables():
         script.open(n, sets, 1, 7)
         script.write(n, sets, BUFFER, 0)
         script.judge(2, n, sets)
+        script.choose(n, sets)
 
 
 def group_limits(script: Script) -> None:
@@ -167,12 +168,14 @@ def set_calls(rng: Random, script: Script) -> None:
     """A few calls on one table, accepted or refused."""
     n, sets = (accepted_table if rng.random() < 0.8 else refused_table)(rng)
     for _ in range(rng.randint(1, 5)):
-        kind = rng.randrange(4)
+        kind = rng.randrange(5)
         if kind == 0:
             odd_write(rng, script, n, sets)
         elif kind == 1:
             script.judge(rng.choice((2, 3, 4) * 4 + NO_BLOCK_COUNTS), n, sets)
         elif kind == 2:
             script.meet(n, sets, odd_group(rng, n, sets))
+        elif kind == 3:
+            script.choose(n, sets)
         else:
             odd_back(rng, script, n, sets)

@@ -30,6 +30,12 @@ pub opening-accepted : (n : ℕ) (sets table : List ℕ) (own number : ℕ) → 
 unfolding opening
 opening-accepted n sets table own number accepted drive = rw (accepted, drive)
 
+-- an opening depends on the table and not on the listing of its sets
+pub opening-same-table : (n : ℕ) (sets other : List ℕ) (own number : ℕ) → normalTable n sets ≡ normalTable n other
+    → opening n sets own number ≡ opening n other own number
+unfolding opening
+opening-same-table n sets other own number same = rw same
+
 -- an opening that is not refused
 pub opened-initial : (n : ℕ) (sets : List ℕ) (own number : ℕ) {y : Exchange} → opening n sets own number ≡ result y → (core : ℕ) × (y ≡ initial n core own number)
 unfolding opening

@@ -16,8 +16,8 @@ use Rattle.drive_sets.specs.Masks.{has, size}
 use Rattle.drive_sets.specs.Masks.Laws.{meets-has}
 use Rattle.drive_sets.specs.Masks.Frames.{has-range, drives-frame, size-frame}
 use Rattle.drive_sets.specs.Masks.Tests.{setOf, setOf-drives}
-use Rattle.tables.specs.Tables.{chosen}
-use Rattle.tables.specs.Tables.Laws.{Accepted, ChosenCore, table-accepted, chosen-core, sets-below}
+use Rattle.tables.specs.Tables.{chosen, Accepted}
+use Rattle.tables.specs.Tables.Laws.{ChosenCore, table-accepted, chosen-core, sets-below}
 use Rattle.drive_sets.specs.Counts.Laws.{isDrive-range}
 use Rattle.set_orders.specs.Order.{normal}
 use Rattle.sync_crash.specs.Rounds.{InFrame, Lawful, StaysUp, failures}

@@ -25,8 +25,8 @@ use Rattle.drive_sets.specs.Masks.Laws.{has-minus, has-single, has-common, has-
 use Rattle.drive_sets.specs.Masks.Sizes.{size-remove, elem-drives, drives-rising, length-drives, rising-unique}
 use Rattle.drive_sets.specs.Refusals.{result}
 use Rattle.set_orders.specs.Order.{normal}
-use Rattle.tables.specs.Tables.{chosen, normalTable}
-use Rattle.tables.specs.Tables.Laws.{Accepted, ChosenCore, table-accepted, chosen-core}
+use Rattle.tables.specs.Tables.{chosen, normalTable, Accepted}
+use Rattle.tables.specs.Tables.Laws.{ChosenCore, table-accepted, chosen-core}
 use Rattle.drive_sets.specs.Counts.{isDrive}
 use Rattle.drive_sets.specs.Limits.{patternLimit}
 use Rattle.drive_sets.specs.Counts.Laws.{is-drive}

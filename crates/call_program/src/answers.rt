@@ -30,7 +30,7 @@ pub(crate) fn print_list(r: SetList) {
     let count = r.count;
     let sets = r.sets;
     match answer {
-        Answer::Accepted => print_found(lists::first(&sets, count)),
+        Answer::Accepted => print_found(lists::first_masks(&sets, count)),
         Answer::Refused(r) => print_refused(r),
     }
 }

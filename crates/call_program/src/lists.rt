@@ -27,7 +27,7 @@ pub(crate) fn masks(list: &[u8]) -> [u64; 1026] {
 }
 
 // The first masks, so many or all there are.
-pub(crate) fn first(masks: &[u64], count: usize) -> &[u64] {
+pub(crate) fn first_masks(masks: &[u64], count: usize) -> &[u64] {
     if masks.len() < count {
         return &masks[0..];
     }

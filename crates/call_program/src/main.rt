@@ -12,13 +12,16 @@
 //   W  n 1, length 2, starting place 8, list of sets: writes the table into a buffer of that length, at most 1536, filled with a5
 //   V  k 1, n 1, list of sets: the verdict on k
 //   H  n 1, group 8, list of sets: whether the group meets every set
+//   K  n 1, list of sets: the chosen core
+//   R  n 1, length 2, then so many bytes, list of sets: reads a run file
+//   X  n 1, 64 pattern numbers of 2, mask of the drives with a CR 8, 64 rounds of 1, 64 sends of 1, list of sets: the
+//      simulated exchange
 // A list is its count, 2, then so many masks, 8 each; those behind the 1026th are left out. Bytes that are not there count as none, and any
 // other letter does nothing. A script has at most 65536 bytes; more are left unread.
 //
 // Each call prints a line with its answer, a send and a writer another one with the whole buffer, and every operation a line with each field
 // of the state.
 ghost use Prim.Native.Nat.{_≤_};
-use drive_sets::Answer;
 use drive_sets::Drive;
 use drive_sets::Pattern;
 use drive_states::Exchange;
@@ -28,6 +31,8 @@ use libc::STDIN_FILENO;
 mod answers;
 mod lists;
 mod printing;
+mod run_answers;
+mod run_calls;
 mod script;
 mod set_calls;
 
@@ -49,35 +54,28 @@ const VERDICT: u8 = 86;
 
 const MEET: u8 = 72;
 
-// The opened state; where the opening is refused, the state before it.
-fn opened(x: Exchange, r: Reply) -> Exchange {
-    let answer = r.answer;
-    let state = r.state;
-    match answer {
-        Answer::Accepted => state,
-        Answer::Refused(_) => x,
-    }
-}
+const CHOOSE: u8 = 75;
+
+const READ: u8 = 82;
+
+const SIMULATE: u8 = 88;
 
 fn open_sets(x: Exchange, s: &[u8], sets: &[u64]) -> Exchange {
     let n = script::byte(s, 1);
     let own = Drive(script::byte(s, 2));
     let number = Pattern(script::short(s, 3));
-    let r = exchange::opening::open(n, sets, own, number);
-    let answer = r.answer;
-    printing::print_answer(answer);
-    opened(x, r)
+    replied(exchange::opening::open(x, n, sets, own, number))
 }
 
 fn open(x: Exchange, s: &[u8]) -> Exchange {
     let list = records::rest(s, 5);
     let masks = lists::masks(list);
-    open_sets(x, s, lists::first(&masks, lists::count(list)))
+    open_sets(x, s, lists::first_masks(&masks, lists::count(list)))
 }
 
 // Prints what a send answers and the buffer it leaves.
 fn send_into(x: Exchange, buf: &mut [u8], start: usize) {
-    let w = exchange::sending::send(x, buf, start);
+    let w = sending::send(x, buf, start);
     printing::print_writing(w);
     printing::print_bytes(buf);
 }
@@ -109,7 +107,7 @@ fn replied(r: Reply) -> Exchange {
 fn message(x: Exchange, s: &[u8]) -> Exchange {
     let size = script::short(s, 1) as usize;
     let bytes = records::first(records::rest(s, 3), size);
-    replied(exchange::receiving::message(x, bytes))
+    replied(receiving::message(x, bytes))
 }
 
 // The operations that are no calls of the exchange, and so leave the state as it is.
@@ -120,6 +118,9 @@ fn set_call(s: &[u8]) {
         WRITE => set_calls::write(s),
         VERDICT => set_calls::judge(s),
         MEET => set_calls::meet(s),
+        CHOOSE => run_calls::choose(s),
+        READ => run_calls::read(s),
+        SIMULATE => run_calls::simulate(s),
         _ => {}
     }
 }
@@ -145,15 +146,15 @@ fn step(x: Exchange, s: &[u8]) -> Exchange {
 
 // Where the list at this place ends.
 fn list_end(s: &[u8], at: usize) -> usize
-    requires { ⌜ at ≤ 12 ⌝ }
-    ensures { λ r. ⌜ (at ≤ r) × (r ≤ 524294) ⌝ }
+    requires { ⌜ at ≤ 65539 ⌝ }
+    ensures { λ r. ⌜ (at ≤ r) × (r ≤ 589821) ⌝ }
 {
     at + lists::width(records::rest(s, at))
 }
 
 // How many bytes the operation has: at least its letter.
 fn width(s: &[u8]) -> usize
-    ensures { λ r. ⌜ (1 ≤ r) × (r ≤ 524294) ⌝ }
+    ensures { λ r. ⌜ (1 ≤ r) × (r ≤ 589821) ⌝ }
 {
     let letter = script::byte(s, 0);
     match letter {
@@ -165,6 +166,9 @@ fn width(s: &[u8]) -> usize
         WRITE => list_end(s, 12),
         VERDICT => list_end(s, 3),
         MEET => list_end(s, 10),
+        CHOOSE => list_end(s, 2),
+        READ => list_end(s, run_calls::file_end(s)),
+        SIMULATE => list_end(s, 266),
         _ => 1,
     }
 }

@@ -1,6 +1,5 @@
 // The lines that the call program prints: answers, buffers, and states field by field.
 ghost use Prim.Native.Nat.{_<_};
-use crate::script;
 use drive_sets::Answer;
 use drive_sets::Pattern;
 use drive_sets::Refusal;

@@ -18,11 +18,12 @@ pub(crate) fn wide(s: &[u8], at: usize) -> u64 {
     records::field(s, at, 8)
 }
 
-fn numbers(s: &[u8]) -> [Pattern; 64] {
+// The first 64 pattern numbers.
+pub(crate) fn numbers(s: &[u8]) -> [Pattern; 64] {
     let mut numbers = [Pattern(0); 64];
     let mut i = 0;
     while i < 64 {
-        let v = Pattern(short(s, 44 + 2 * i));
+        let v = Pattern(short(s, 2 * i));
         numbers[i] = v;
         i += 1;
     }
@@ -53,7 +54,7 @@ pub(crate) fn state(s: &[u8]) -> Exchange {
     let heard = wide(s, 20);
     let known = wide(s, 28);
     let start = wide(s, 36);
-    let numbers = numbers(s);
+    let numbers = numbers(records::rest(s, 44));
     let announced = announced(s);
     let decision = decision(s);
     let halted = byte(s, 179) != 0;

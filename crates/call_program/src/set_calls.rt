@@ -12,12 +12,12 @@ fn print_back(s: &[u8], groups: &[u64]) {
 pub(crate) fn back(s: &[u8]) {
     let list = records::rest(s, 2);
     let masks = lists::masks(list);
-    print_back(s, lists::first(&masks, lists::count(list)));
+    print_back(s, lists::first_masks(&masks, lists::count(list)));
 }
 
 // Prints what the writer answers and the buffer it leaves.
 fn write_into(n: u8, sets: &[u64], buf: &mut [u8], start: usize) {
-    let w = tables::writing::write_table(n, sets, buf, start);
+    let w = table_files::writing::write_table(n, sets, buf, start);
     printing::print_writing(w);
     printing::print_bytes(buf);
 }
@@ -42,7 +42,7 @@ fn write_sets(s: &[u8], sets: &[u64]) {
 pub(crate) fn write(s: &[u8]) {
     let list = records::rest(s, 12);
     let masks = lists::masks(list);
-    write_sets(s, lists::first(&masks, lists::count(list)));
+    write_sets(s, lists::first_masks(&masks, lists::count(list)));
 }
 
 fn print_verdict(s: &[u8], sets: &[u64]) {
@@ -54,7 +54,7 @@ fn print_verdict(s: &[u8], sets: &[u64]) {
 pub(crate) fn judge(s: &[u8]) {
     let list = records::rest(s, 3);
     let masks = lists::masks(list);
-    print_verdict(s, lists::first(&masks, lists::count(list)));
+    print_verdict(s, lists::first_masks(&masks, lists::count(list)));
 }
 
 fn print_meeting(s: &[u8], sets: &[u64]) {
@@ -66,5 +66,5 @@ fn print_meeting(s: &[u8], sets: &[u64]) {
 pub(crate) fn meet(s: &[u8]) {
     let list = records::rest(s, 10);
     let masks = lists::masks(list);
-    print_meeting(s, lists::first(&masks, lists::count(list)));
+    print_meeting(s, lists::first_masks(&masks, lists::count(list)));
 }

@@ -1,80 +1,71 @@
--- What one search finds, put in order.
-use mathlib.Core.Path.{_≡_, refl, ap, _∙_}
+-- What one search finds, put in order; and what is found in a list of one's own, copied into the lent slice.
+use mathlib.Core.Path.{_≡_, ap, _∙_}
 use mathlib.Core.Bool.{Bool, true, false}
-use mathlib.Core.List.{List}
+use mathlib.Core.List.{List, _++_}
 use Prim.Native.Nat.{ℕ, _-_, _≤_, _<_}
+use native.Mathlib.Nat.{sub-zero}
 use native.Mathlib.Omega.{arith}
-use lib.Dec.{leb}
 use lib.ListN.{length, take, drop}
 use lib.Seq.{take-at, length-take-le}
-use borrow.Author.Tests.{leb-true, leb-false}
-use Rattle.drive_sets.specs.Bools.Laws.{clash, by-test}
-use Rattle.drive_sets.specs.Lists.{times}
-use Rattle.drive_sets.specs.Lists.Takes.{drop-behind}
+use Rattle.drive_sets.specs.Bools.Laws.{clash}
 use Rattle.drive_sets.specs.Filled.{Filled}
 use Rattle.drive_sets.specs.Filled.Laws.{filled-over}
 use Rattle.hitting_sets.specs.Hitting.{minimals}
-use Rattle.core_search.specs.Found.{Attempted}
 use Rattle.hitting_sets.specs.Fuel.{Searched}
+use Rattle.core_search.specs.Found.{roomIn, Found, Attempted}
 use Rattle.set_orders.specs.Order.{sort, sortFirst}
-use Rattle.set_orders.specs.Order.Sort.{length-sort, times-sort, sortFirst-fits, sortFirst-over}
+use Rattle.set_orders.specs.Order.Sort.{length-sort, sortFirst-fits}
+use Rattle.set_orders.specs.LentLists.Laws.{after-copy, after-none}
 
-module _ {limited : Bool} {fuel : ℕ} (before : ℕ → ℕ → Bool) (sets out mid : List ℕ) (r left : ℕ) (same : length mid ≡ length out) (s : Searched limited fuel out mid 0 r left (minimals sets)) where
-  still : (k : ℕ) → length (minimals sets) ≤ k → drop k mid ≡ drop k out
-  still k h = s .behind k (omega (arith, s .some))
+-- ---- one search
 
+-- given up
+pub tried-none : {before : ℕ → ℕ → Bool} {sets list : List ℕ} {room r : ℕ} {done : Bool} → done ≡ false → Attempted before sets room list done r
+tried-none q = record { total = λ t. absurd (clash t q); listed = λ t. absurd (clash t q) }
+
+module _ {limited : Bool} {fuel : ℕ} (before : ℕ → ℕ → Bool) (sets out mid : List ℕ) (r left : ℕ) (same : length mid ≡ length out)
+    (s : Searched limited fuel out mid 0 r left (minimals sets)) where
   -- more than there is room for
-  pub tried-more : length mid < r → Attempted before sets out mid true r
-  tried-more h =
-      let filled = filled-over out mid 0 r (minimals sets) (omega (arith, s .bound)) (s .some) in
-      record {
-        ended = λ _. record {
-          total = omega (arith, filled .total);
-          held = λ p x. absurd (omega arith);
-          listed = λ p q. absurd (omega arith);
-          behind = s .behind r (omega arith);
-        };
-        behind = still;
-      }
+  pub tried-more : length mid < r → Attempted before sets (length out) mid true r
+  tried-more h = record {
+    total = λ _. omega (arith, filled-over out mid 0 r (minimals sets) (omega (arith, s .bound)) (s .some) .total);
+    listed = λ _ p. absurd (omega arith);
+  }
 
-  -- given up, which a search without limit does not
-  pub tried-part : {done : Bool} {n : ℕ} → done ≡ false → Attempted before sets out mid done n
-  tried-part q = rw q (record { ended = λ t. absurd (clash t refl); behind = still })
-
+  -- a search without limit does not give up
   pub unlimited-all : left ≡ 0 → limited ≡ false → 0 < fuel → ⊥
   unlimited-all e u lt = omega (arith, s .unspent u)
 
   -- all, put in order
-  module _ (new : List ℕ) (h : r ≤ length mid) (some : left ≡ 0 → ⊥) (e : new ≡ sortFirst before r mid) where
-    filled : Filled out mid 0 r (minimals sets)
-    filled = s .ended (omega arith)
-
-    sorted : r ≤ 1024 → take r new ≡ sort before (minimals sets)
-    sorted q =
+  pub tried-all : (new : List ℕ) → r ≤ length mid → (left ≡ 0 → ⊥) → new ≡ sortFirst before r mid → Attempted before sets (length out) new true r
+  tried-all new h some e = record {
+    total = λ _. omega (arith, filled .total);
+    listed = λ _ p q.
         ap (take r) (e ∙ sortFirst-fits before r mid q h)
-        ∙ (take-at (sort before (take r mid)) (drop r mid) r (length-sort before (take r mid) ∙ length-take-le r mid h) ∙ ap (sort before) (filled .kept (omega arith)))
+        ∙ (take-at (sort before (take r mid)) (drop r mid) r (length-sort before (take r mid) ∙ length-take-le r mid h) ∙ ap (sort before) (filled .kept p));
+  }
+    where
+      filled : Filled out mid 0 r (minimals sets)
+      filled = s .ended (omega arith)
 
-    -- the sort moves the first r alone
-    behind-sorted : (k : ℕ) → r ≤ k → drop k new ≡ drop k mid
-    behind-sorted k le =
-        by-test (leb r 1024)
-        (λ t. ap (drop k) (e ∙ sortFirst-fits before r mid (leb-true r 1024 t) h)
-        ∙ drop-behind (sort before (take r mid)) r mid k (length-sort before (take r mid) ∙ length-take-le r mid h) le)
-        (λ t. ap (drop k) (e ∙ sortFirst-over before r mid (leb-false r 1024 t)))
+-- ---- in a list with the room of the lent slice
 
-    rearranged : (x : ℕ) → times x (take r new) ≡ times x (minimals sets)
-    rearranged x =
-        by-test (leb r 1024)
-        (λ t. ap (times x) (sorted (leb-true r 1024 t)) ∙ times-sort before x (minimals sets))
-        (λ t. ap (λ (l : List ℕ). times x (take r l)) (e ∙ sortFirst-over before r mid (leb-false r 1024 t)) ∙ ap (times x) (filled .kept (omega arith)))
+module _ {before : ℕ → ℕ → Bool} {sets list : List ℕ} {room r : ℕ} {done : Bool} (out : List ℕ) (a : Attempted before sets room list done r)
+    (t : done ≡ true) (e : room ≡ roomIn out) where
+  count : length (sort before (minimals sets)) ≡ length (minimals sets)
+  count = length-sort before (minimals sets)
 
-    pub tried-all : Attempted before sets out new true r
-    tried-all = record {
-      ended = λ _. record {
-        total = omega (arith, filled .total);
-        held = λ p x. rearranged x;
-        listed = λ p q. sorted q;
-        behind = behind-sorted r (omega arith) ∙ s .behind r (omega arith);
-      };
-      behind = λ k p. behind-sorted k (omega (arith, s .some)) ∙ still k p;
-    }
+  pub found-more : room < r → Found before sets out out r
+  found-more h = record {
+    total = omega (arith, a .total t);
+    list = after-none out (sort before (minimals sets)) (roomIn out) (omega (arith, a .total t, count));
+  }
+
+  pub found-all : (new : List ℕ) → r ≤ room → new ≡ take (length out) (take (r - 0) list) ++ drop (length (take (r - 0) list)) out → Found before sets out new r
+  found-all new h f =
+      let part : take (r - 0) list ≡ sort before (minimals sets) = ap (λ (k : ℕ). take k list) (sub-zero r) ∙ a .listed t h (omega arith) in
+      record {
+        total = omega (arith, a .total t);
+        list = after-copy out (sort before (minimals sets)) (roomIn out) new (omega (arith, a .total t, count)) (omega arith)
+            (f ∙ ap (λ (l : List ℕ). take (length out) l ++ drop (length l) out) part);
+      }

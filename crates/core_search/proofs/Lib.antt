@@ -1,4 +1,3 @@
 -- What the functions' proofs share.
 pub mod Finds
-pub mod Rearranging
 pub mod Turns

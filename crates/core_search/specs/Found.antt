@@ -1,23 +1,29 @@
--- The minimal hitting sets in the first places of a slice, in an order; and what a search that may give up leaves there.
+-- The minimal hitting sets in the first places of a lent slice, in an order; and what a search that may give up leaves
+-- in its list.
 use mathlib.Core.Path.{_≡_}
 use mathlib.Core.Bool.{Bool, true}
 use mathlib.Core.List.{List}
 use Prim.Native.Nat.{ℕ, suc, _≤_, min}
-use lib.ListN.{length, take, drop}
-use Rattle.drive_sets.specs.Lists.{times}
+use lib.ListN.{length, take}
 use Rattle.hitting_sets.specs.Hitting.{minimals}
 use Rattle.set_orders.specs.Order.{sort}
+use Rattle.set_orders.specs.LentLists.{inRoom, listAfter}
 use Rattle.drive_sets.specs.Limits.{maxCores}
+pub mod Laws
 
--- r is their number, and one more than the room says that there are more; where they have room each stands there once, in order where
--- they are at most 1024; behind them nothing has changed
+-- how many sets a lent slice has room for, at most 1024
+abbrev pub roomIn : List ℕ → ℕ
+roomIn out = min maxCores (length out)
+
+-- r is their number, and one more than the room says that there are more. Where they have room they stand in the first
+-- places, in order, and behind them nothing has changed; where they have not, nothing has.
 pub record Found (before : ℕ → ℕ → Bool) (sets out out' : List ℕ) (r : ℕ) : Type 0 where
-  pub total : r ≡ min (suc (length out)) (length (minimals sets))
-  pub held : r ≤ length out → (x : ℕ) → times x (take r out') ≡ times x (minimals sets)
-  pub listed : r ≤ length out → r ≤ maxCores → take r out' ≡ sort before (minimals sets)
-  pub behind : drop r out' ≡ drop r out
+  pub total : r ≡ min (suc (roomIn out)) (length (minimals sets))
+  pub list : out' ≡ listAfter out (inRoom (roomIn out) (sort before (minimals sets)))
 
--- A search that may give up: where it is done they are found. No place behind as many as there are has changed, done or not.
-pub record Attempted (before : ℕ → ℕ → Bool) (sets out out' : List ℕ) (done : Bool) (r : ℕ) : Type 0 where
-  pub ended : done ≡ true → Found before sets out out' r
-  pub behind : (k : ℕ) → length (minimals sets) ≤ k → drop k out' ≡ drop k out
+-- A search that may give up, in a list with so much room: where it is done r is their number, and one more than the
+-- room says that there are more; those that have room stand in the first places, at most 1024 in order. All else in the
+-- list is free.
+pub record Attempted (before : ℕ → ℕ → Bool) (sets : List ℕ) (room : ℕ) (list : List ℕ) (done : Bool) (r : ℕ) : Type 0 where
+  pub total : done ≡ true → r ≡ min (suc room) (length (minimals sets))
+  pub listed : done ≡ true → r ≤ room → r ≤ maxCores → take r list ≡ sort before (minimals sets)

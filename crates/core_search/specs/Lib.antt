@@ -1,3 +1,2 @@
--- What the searches leave in a slice, and lists put into another order.
+-- What the searches leave in a slice.
 pub mod Found
-pub mod Rearranged

@@ -2,14 +2,16 @@
 // search with little fuel is followed by others, in other orders and by other rules, with more and more fuel.
 ghost use mathlib.Core.Path.{_≡_};
 ghost use mathlib.Core.Bool.{true, false};
-ghost use Prim.Native.Nat.{_≤_, _<_};
-ghost use Rattle.core_search.specs.Found.{Found, Attempted};
-ghost use Rattle.core_search.specs.Rearranged.{Permuted};
+ghost use Prim.Native.Nat.{_≤_, _<_, min};
+ghost use lib.ListN.{length};
+ghost use Rattle.drive_sets.specs.Limits.{maxCores};
+ghost use Rattle.core_search.specs.Found.{roomIn, Found, Attempted};
+ghost use Rattle.search_orders.specs.Rearranged.{Permuted};
 ghost use Rattle.set_orders.specs.Order.{precedes};
-use crate::dead_ends;
-use crate::levels;
 use hitting_sets::search;
 use hitting_sets::search::Mode;
+use search_orders::dead_ends;
+use search_orders::levels;
 use set_orders::MAX_CORES;
 use set_orders::slices;
 use set_orders::sorting;
@@ -36,24 +38,33 @@ fn given_up(turn: usize) -> Attempt
     }
 }
 
+// No dead end anywhere.
+fn clear(ends: &mut [u64]) {
+    let mut i = 0;
+    while i < ends.len() {
+        ends[i] = 0;
+        i += 1;
+    }
+}
+
 // One search through the sets as they stand; what is found is put in order.
 fn search_once(
     turn: usize,
     mode: Mode,
     order: Order,
     sets: &[u64],
-    out: &mut [u64],
+    list: &mut [u64],
     fuel: usize,
     ends: &mut [u64],
 ) -> Attempt
-    ensures { λ r. ⌜ Attempted (precedes order) (now (sets .entry)) (now (out .entry)) (now (out .exit)) (r .done) (r .found) ⌝ }
+    ensures { λ r. ⌜ Attempted (precedes order) (now (sets .entry)) (length (now (list .entry))) (now (list .exit)) (r .done) (r .found) ⌝ }
     ensures { λ r. ⌜ (mode .limited ≡ false → 0 < fuel → r .done ≡ true) ⌝ }
 {
-    dead_ends::clear(ends);
-    let tally = search::search_all(mode, sets, out, fuel, ends);
+    clear(ends);
+    let tally = search::search_all(mode, sets, list, fuel, ends);
     let found = tally.found;
     let left = tally.left;
-    if out.len() < found {
+    if list.len() < found {
         return Attempt {
             done: true,
             found,
@@ -64,7 +75,7 @@ fn search_once(
     if left == 0 {
         return given_up(turn);
     }
-    sorting::sort(order, out, found);
+    sorting::sort(order, list, found);
     Attempt {
         done: true,
         found,
@@ -137,8 +148,8 @@ fn next_fuel(turn: usize, fuel: usize) -> usize {
 }
 
 // Turn after turn, until a search is done.
-fn in_turns(order: Order, sets: &mut [u64], out: &mut [u64], ends: &mut [u64]) -> Attempt
-    ensures { λ r. ⌜ Attempted (precedes order) (now (sets .entry)) (now (out .entry)) (now (out .exit)) (r .done) (r .found) ⌝ }
+fn in_turns(order: Order, sets: &mut [u64], list: &mut [u64], ends: &mut [u64]) -> Attempt
+    ensures { λ r. ⌜ Attempted (precedes order) (now (sets .entry)) (length (now (list .entry))) (now (list .exit)) (r .done) (r .found) ⌝ }
 {
     let mut fuel = fuel_for(WORK, sets.len());
     let mut turn = 0;
@@ -148,7 +159,7 @@ fn in_turns(order: Order, sets: &mut [u64], out: &mut [u64], ends: &mut [u64]) -
             look_ahead: turn % ROUND == LOOKING_AHEAD,
             limited: true,
         };
-        let tried = search_once(turn + 1, mode, order, sets, out, fuel_of(turn, fuel), ends);
+        let tried = search_once(turn + 1, mode, order, sets, list, fuel_of(turn, fuel), ends);
         if tried.done {
             return tried;
         }
@@ -159,8 +170,8 @@ fn in_turns(order: Order, sets: &mut [u64], out: &mut [u64], ends: &mut [u64]) -
 }
 
 // The turns on a copy of the sets, where they are at most 1024.
-fn search_again(order: Order, sets: &[u64], out: &mut [u64], ends: &mut [u64]) -> Attempt
-    ensures { λ r. ⌜ Attempted (precedes order) (now (sets .entry)) (now (out .entry)) (now (out .exit)) (r .done) (r .found) ⌝ }
+fn search_again(order: Order, sets: &[u64], list: &mut [u64], ends: &mut [u64]) -> Attempt
+    ensures { λ r. ⌜ Attempted (precedes order) (now (sets .entry)) (length (now (list .entry))) (now (list .exit)) (r .done) (r .found) ⌝ }
 {
     let n = sets.len();
     if MAX_CORES < n {
@@ -168,12 +179,13 @@ fn search_again(order: Order, sets: &[u64], out: &mut [u64], ends: &mut [u64]) -
     }
     let mut ordered = [0u64; MAX_CORES];
     slices::copy(sets, &mut ordered);
-    in_turns(order, &mut ordered[0..n], out, ends)
+    in_turns(order, &mut ordered[0..n], list, ends)
 }
 
-// The same as `minimal_hitting_sets`, with how far the search had to go: `turn` and `left` are free, since they decide no result.
-pub fn measured_search(order: Order, sets: &[u64], out: &mut [u64]) -> Attempt
-    ensures { λ r. ⌜ Found (precedes order) (now (sets .entry)) (now (out .entry)) (now (out .exit)) (r .found) ⌝ }
+// One search after the other, until one is done. Most lists of sets end with the first. The last, which no list that is
+// known needs, has no limit.
+fn search_until_done(order: Order, sets: &[u64], list: &mut [u64]) -> Attempt
+    ensures { λ r. ⌜ Attempted (precedes order) (now (sets .entry)) (length (now (list .entry))) (now (list .exit)) (r .done) (r .found) ⌝ }
     ensures { λ r. ⌜ r .done ≡ true ⌝ }
 {
     let mut ends = [0u64; MAX_CORES];
@@ -182,11 +194,11 @@ pub fn measured_search(order: Order, sets: &[u64], out: &mut [u64]) -> Attempt
         limited: true,
     };
     let fuel = fuel_for(WORK / 2, sets.len());
-    let first = search_once(0, plain, order, sets, out, fuel, &mut ends);
+    let first = search_once(0, plain, order, sets, list, fuel, &mut ends);
     if first.done {
         return first;
     }
-    let later = search_again(order, sets, out, &mut ends);
+    let later = search_again(order, sets, list, &mut ends);
     if later.done {
         return later;
     }
@@ -194,12 +206,48 @@ pub fn measured_search(order: Order, sets: &[u64], out: &mut [u64]) -> Attempt
         look_ahead: true,
         limited: false,
     };
-    search_once(TURNS + 1, unlimited, order, sets, out, 1, &mut ends)
+    search_once(TURNS + 1, unlimited, order, sets, list, 1, &mut ends)
 }
 
-// The minimal hitting sets of the sets in the first places of out, as many as the result says; one more than the room says that there
-// are more. More than 1024 stand in no order. Out behind them is as it was, and where there are more than the room all of it is left free.
-// Most lists of sets end with the first search. The last, which no list that is known needs, has no limit.
+// How many sets so many places have room for: no more than 1024.
+fn room_in(places: usize) -> usize
+    ensures { λ r. ⌜ r ≡ min maxCores places ⌝ }
+{
+    if places < MAX_CORES {
+        return places;
+    }
+    MAX_CORES
+}
+
+// The search in a list that has as much room as out; what is found is copied into out, and nothing where there are too
+// many.
+fn search_into(order: Order, sets: &[u64], list: &mut [u64], out: &mut [u64]) -> Attempt
+    requires { ⌜ length (now list) ≡ roomIn (now out) ⌝ }
+    ensures { λ r. ⌜ Found (precedes order) (now (sets .entry)) (now (out .entry)) (now (out .exit)) (r .found) ⌝ }
+    ensures { λ r. ⌜ r .done ≡ true ⌝ }
+{
+    let r = search_until_done(order, sets, list);
+    let found = r.found;
+    if list.len() < found {
+        return r;
+    }
+    slices::copy(&list[0..found], out);
+    r
+}
+
+// The same as `minimal_hitting_sets`, with how far the search had to go: `turn` and `left` are free, since they decide
+// no result.
+pub fn measured_search(order: Order, sets: &[u64], out: &mut [u64]) -> Attempt
+    ensures { λ r. ⌜ Found (precedes order) (now (sets .entry)) (now (out .entry)) (now (out .exit)) (r .found) ⌝ }
+    ensures { λ r. ⌜ r .done ≡ true ⌝ }
+{
+    let room = room_in(out.len());
+    let mut list = [0u64; MAX_CORES];
+    search_into(order, sets, &mut list[0..room], out)
+}
+
+// The minimal hitting sets of the sets, at most 1024, in the first places of out, in order, and how many; one more than
+// the room says that there are more. Behind them out is as it was, and where there are more than the room all of it is.
 pub fn minimal_hitting_sets(order: Order, sets: &[u64], out: &mut [u64]) -> usize
     ensures { λ r. ⌜ Found (precedes order) (now (sets .entry)) (now (out .entry)) (now (out .exit)) r ⌝ }
 {

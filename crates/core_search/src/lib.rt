@@ -1,5 +1,2 @@
 // All minimal hitting sets of a list of sets of drives, by searches that take turns: the engine of the cores and of the way back.
-mod dead_ends;
 pub mod finding;
-mod levels;
-mod swaps;

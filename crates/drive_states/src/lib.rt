@@ -1,5 +1,5 @@
-// The state that a drive keeps from call to call in an exchange. No code: the calls that work on it stand in the crate `exchange`, above what
-// is stated and proved of them.
+// The state that a drive keeps from call to call in an exchange. No code: the calls that work on it stand in the crates
+// `exchange`, `sending` and `receiving`, above what is stated and proved of them.
 use drive_sets::Drive;
 use drive_sets::Pattern;
 use drive_sets::Round;

@@ -14,7 +14,7 @@ abbrev pub stateAfter : Exchange → Outcome Exchange → Exchange
 stateAfter x (refused r) = x
 stateAfter x (result y) = y
 
--- what stands beside a refused opening: a state of no drives, which every call refuses with 28
+-- the state of a drive that was never opened: one of no drives, which every call but an opening refuses with 28
 unfoldable pub notOpened : Exchange
 notOpened = initial 0 0 0 0
 

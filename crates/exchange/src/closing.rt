@@ -9,6 +9,7 @@ ghost use Rattle.agreement.specs.Calls.{heardAtClose, decisionOn, stableDecisio
 ghost use Rattle.exchange.specs.Replies.{Replied};
 use crate::Reply;
 use crate::is_broken;
+use crate::refused;
 use drive_sets::Answer;
 use drive_sets::Pattern;
 use drive_sets::Refusal;
@@ -163,16 +164,10 @@ pub fn close(x: Exchange) -> Reply
     ensures { λ r. ⌜ Replied (closing x) x r ⌝ }
 {
     if is_broken(x) {
-        return Reply {
-            answer: Answer::Refused(Refusal::BrokenState),
-            state: x,
-        };
+        return refused(x, Refusal::BrokenState);
     }
     if x.halted {
-        return Reply {
-            answer: Answer::Refused(Refusal::Halted),
-            state: x,
-        };
+        return refused(x, Refusal::Halted);
     }
     let state = next(x);
     Reply {

@@ -4,11 +4,11 @@ ghost use mathlib.Core.Bool.{cond};
 ghost use Prim.Native.Nat.{_-_};
 ghost use lib.ListN.{set, replicate};
 ghost use Rattle.drive_sets.specs.Masks.{has, single};
-ghost use Rattle.drive_sets.specs.Refusals.{refused, number};
 ghost use Rattle.drive_states.specs.State.{pattern};
 ghost use Rattle.agreement.specs.Calls.{initial, opening};
 ghost use Rattle.exchange.specs.Replies.{Replied, notOpened};
 use crate::Reply;
+use crate::refused;
 use drive_sets::Answer;
 use drive_sets::Drive;
 use drive_sets::Pattern;
@@ -63,27 +63,25 @@ pub fn initial(n: u8, core: u64, own: Drive, number: Pattern) -> Exchange
     }
 }
 
-// A refused opening: there is no state, and the one beside the answer is broken.
-fn not_opened(r: Refusal) -> Reply
-    ensures { λ t. ⌜ Replied (refused (number r)) notOpened t ⌝ }
+// The state of a drive that was never opened, for a controller to hand to its first opening; every other call refuses
+// it with 28.
+pub fn never_opened() -> Exchange
+    ensures { λ r. ⌜ r ≡ notOpened ⌝ }
 {
-    let state = initial(0, 0, Drive(0), Pattern(0));
-    Reply {
-        answer: Answer::Refused(r),
-        state,
-    }
+    initial(0, 0, Drive(0), Pattern(0))
 }
 
-// An exchange from a table, a drive number and a pattern number: the table's refusals, then 8.
-pub fn open(n: u8, sets: &[u64], own: Drive, number: Pattern) -> Reply
-    ensures { λ r. ⌜ Replied (opening n (now (sets .entry)) (own .0) (number .0)) notOpened r ⌝ }
+// An opening from a table, a drive number and a pattern number: the table's refusals, then 8. It is handed the state
+// that the drive has, which a refusal keeps.
+pub fn open(x: Exchange, n: u8, sets: &[u64], own: Drive, number: Pattern) -> Reply
+    ensures { λ r. ⌜ Replied (opening n (now (sets .entry)) (own .0) (number .0)) x r ⌝ }
 {
     let chosen = tables::calls::chosen_core(n, sets);
     match chosen {
-        Chosen::Refused(r) => not_opened(r),
+        Chosen::Refused(r) => refused(x, r),
         Chosen::Core(core) => {
             if !drive_sets::is_drive(n, own) {
-                return not_opened(Refusal::DriveNumber);
+                return refused(x, Refusal::DriveNumber);
             }
             let state = initial(n, core, own, number);
             Reply {

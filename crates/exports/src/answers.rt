@@ -1,9 +1,10 @@
 // Answers as numbers, and lists of sets put into lent memory.
 ghost use mathlib.Core.Path.{_≡_};
-ghost use lib.ListN.{length, take};
+ghost use lib.ListN.{take};
 ghost use Rattle.drive_sets.specs.Refusals.{refused, result, number};
 ghost use Rattle.verdicts.specs.Held.{verdictOf};
-ghost use Rattle.exports.specs.Codes.{codeOf, countOf, fitting, listAfter, verdictCode};
+ghost use Rattle.set_orders.specs.LentLists.{countOf, listAfter};
+ghost use Rattle.exports.specs.Codes.{codeOf, fitting, verdictCode};
 use drive_sets::Refusal;
 use verdicts::Verdict;
 

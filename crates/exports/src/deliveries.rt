@@ -1,7 +1,6 @@
 // Calls of one drive, one after the other: messages handed over, closes and sends.
 ghost use mathlib.Core.Path.{_≡_};
 ghost use Prim.Native.Nat.{_≤_, _+_, min};
-ghost use lib.ListN.{length, drop};
 ghost use Rattle.records.specs.LentBuffers.{writingOutcome};
 ghost use Rattle.drive_sets.specs.Refusals.{outcomeOf};
 ghost use Rattle.exports.specs.Deliveries.{oneAccepted, messagesAccepted, stateHanded, stateClosed, closesAccepted, sendsAccepted, bufferSent};
@@ -57,7 +56,7 @@ pub(crate) fn deliver_all(x: Exchange, messages: &[u8], count: usize, size: usiz
     let mut i = 0;
     while i < count {
         let bytes = records::first(&messages[at..], size);
-        let reply = exchange::receiving::message(state, bytes);
+        let reply = receiving::message(state, bytes);
         let answer = reply.answer;
         state = reply.state;
         accepted += accepted_by(answer);
@@ -102,7 +101,7 @@ pub(crate) fn send_all(x: Exchange, out: &mut [u8], start: usize, times: usize) 
     let mut accepted = 0;
     let mut i = 0;
     while i < times {
-        let written = exchange::sending::send(x, out, start);
+        let written = sending::send(x, out, start);
         accepted += written_by(written);
         i += 1;
     }

@@ -2,16 +2,18 @@
 // its number above 2 ^ 32. A state cannot pass so: `regdulyn_deliver`, `regdulyn_send` and `regdulyn_close` open an exchange, make a row of calls
 // on it and count those that are accepted, for timing.
 ghost use mathlib.Core.Path.{_≡_};
-ghost use Prim.Native.Nat.{min};
+ghost use Prim.Native.Nat.{suc, min};
+ghost use Rattle.drive_sets.specs.Limits.{maxCores};
 ghost use lib.ListN.{length};
 ghost use Rattle.hitting_sets.specs.Hitting.{minimals};
 ghost use Rattle.drive_sets.specs.Refusals.{andThen};
 ghost use Rattle.tables.specs.Tables.{coreList};
-ghost use Rattle.tables.specs.Files.{writeTable};
+ghost use Rattle.table_files.specs.Files.{writeTable};
 ghost use Rattle.records.specs.LentBuffers as lent;
 ghost use Rattle.verdicts.specs.Verdicts.{verdict};
 ghost use Rattle.run_listing.specs.RunListing.{runProgram};
-ghost use Rattle.exports.specs.Codes.{codeOf, countOf, fitting, listAfter, setsRead, verdictCode};
+ghost use Rattle.set_orders.specs.LentLists.{countOf, listAfter};
+ghost use Rattle.exports.specs.Codes.{codeOf, fitting, setsRead, verdictCode};
 ghost use Rattle.exports.specs.Deliveries.{bufferOr, delivered, closed, sent, sentBytes};
 use drive_sets::Answer;
 use drive_sets::Drive;
@@ -51,7 +53,7 @@ pub struct Effort {
 // `turn` and `left` are free, since they decide no result.
 #[no_mangle]
 pub extern "C" fn regdulyn_search_effort(sets: &[u64]) -> Effort
-    ensures { λ r. ⌜ r .found ≡ min 1025 (length (minimals (now (sets .entry)))) ⌝ }
+    ensures { λ r. ⌜ r .found ≡ min (suc maxCores) (length (minimals (now (sets .entry)))) ⌝ }
 {
     let mut cores = [0u64; MAX_CORES];
     let r = core_search::finding::measured_search(Order::BySize, sets, &mut cores);
@@ -68,10 +70,9 @@ pub extern "C" fn regdulyn_read_table(s: &[u8], out: &mut [u64]) -> u64
     ensures { λ r. ⌜ r ≡ codeOf (countOf (fitting (now (out .entry)) (setsRead (now (s .entry))))) ⌝ }
     ensures { λ _. ⌜ now (out .exit) ≡ listAfter (now (out .entry)) (fitting (now (out .entry)) (setsRead (now (s .entry)))) ⌝ }
 {
-    let file = tables::files::read_whole(s);
-    let complete = file.complete;
-    let answer = complete.answer;
-    let table = complete.table;
+    let t = table_files::files::read_whole(s);
+    let answer = t.answer;
+    let table = t.table;
     let sets = table.sets;
     let count = table.count;
     match answer {
@@ -86,7 +87,7 @@ pub extern "C" fn regdulyn_write_table(n: u8, sets: &[u64], buf: &mut [u8], star
     ensures { λ r. ⌜ r ≡ codeOf (lent.sizeWritten (andThen (writeTable n (now (sets .entry))) (lent.fitting start (length (now (buf .entry)))))) ⌝ }
     ensures { λ _. ⌜ now (buf .exit) ≡ lent.bufferAfter (andThen (writeTable n (now (sets .entry))) (lent.fitting start (length (now (buf .entry))))) start (now (buf .entry)) ⌝ }
 {
-    let w = tables::writing::write_table(n, sets, buf, start);
+    let w = table_files::writing::write_table(n, sets, buf, start);
     match w {
         Writing::Refused(r) => answers::refusal_code(r),
         Writing::Wrote(size) => size as u64,
@@ -120,7 +121,8 @@ pub extern "C" fn regdulyn_deliver(
 ) -> u64
     ensures { λ r. ⌜ r ≡ codeOf (delivered n (now (sets .entry)) own number count size (now (messages .entry))) ⌝ }
 {
-    let opened = exchange::opening::open(n, sets, Drive(own), Pattern(number));
+    let unopened = exchange::opening::never_opened();
+    let opened = exchange::opening::open(unopened, n, sets, Drive(own), Pattern(number));
     let answer = opened.answer;
     let state = opened.state;
     match answer {
@@ -150,7 +152,8 @@ pub extern "C" fn regdulyn_send(
     ensures { λ r. ⌜ r ≡ codeOf (sent n (now (sets .entry)) own number count size (now (messages .entry)) times start (now (out .entry))) ⌝ }
     ensures { λ _. ⌜ now (out .exit) ≡ bufferOr (now (out .entry)) (sentBytes n (now (sets .entry)) own number count size (now (messages .entry)) times start (now (out .entry))) ⌝ }
 {
-    let opened = exchange::opening::open(n, sets, Drive(own), Pattern(number));
+    let unopened = exchange::opening::never_opened();
+    let opened = exchange::opening::open(unopened, n, sets, Drive(own), Pattern(number));
     let answer = opened.answer;
     let state = opened.state;
     match answer {
@@ -176,7 +179,8 @@ pub extern "C" fn regdulyn_close(
 ) -> u64
     ensures { λ r. ⌜ r ≡ codeOf (closed n (now (sets .entry)) own number count size (now (messages .entry)) times) ⌝ }
 {
-    let opened = exchange::opening::open(n, sets, Drive(own), Pattern(number));
+    let unopened = exchange::opening::never_opened();
+    let opened = exchange::opening::open(unopened, n, sets, Drive(own), Pattern(number));
     let answer = opened.answer;
     let state = opened.state;
     match answer {

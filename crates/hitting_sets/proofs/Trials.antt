@@ -6,8 +6,7 @@ use mathlib.Core.List.{List, [], _∷_, _++_}
 use Prim.Native.Nat.{ℕ, suc, _+_, _^_, _≤_, _<_}
 use native.Mathlib.Omega.{arith}
 use lib.Dec.{leb, ltb}
-use lib.ListN.{length, take, drop, set, length-append}
-use lib.Seq.{drop-set-lt}
+use lib.ListN.{length, take, set, length-append}
 use borrow.Author.Tests.{leb-true, ltb-true, leb-false, ltb-false}
 use Rattle.drive_sets.specs.Bools.Laws.{by-test, and-left, and-right, and-not}
 use Rattle.drive_sets.specs.Masks.{has, single, union, drives}
@@ -36,11 +35,9 @@ module _ (sets : List ℕ) (m pos i : ℕ) (f : FirstMissed sets pos m i) (e : i
       → Searched limited fuel out out' count found left (From sets m pos)
   end-one p q r = rw (p, q, r) (record {
     bound = omega arith;
-    more = omega arith;
     some = omega (arith, ap length only);
     ended = λ _. filled;
     unspent = λ _. refl;
-    behind = λ k h. drop-set-lt k out count m (omega arith);
   })
 
 -- ---- a set is missed
@@ -50,12 +47,10 @@ pub record Trying (limited : Bool) (fuel : ℕ) (sets : List ℕ) (m pos i : ℕ
   pub word : rest < 2 ^ 64
   pub minimal : (d : ℕ) → has d rest ≡ true → Minimal (take (i + 1) sets) (union m (single d))
   pub bound : found ≤ suc (length out)
-  pub more : count ≤ found
   pub room : length out ≡ length out₀
   pub some : found + length (Each sets i m (drives rest)) ≤ count + length (From sets m pos)
   pub whole : 0 < left → (o' : List ℕ) (r : ℕ) → Filled out o' found r (Each sets i m (drives rest)) → Filled out₀ o' count r (From sets m pos)
   pub unspent : limited ≡ false → left ≡ fuel
-  pub behind : (k : ℕ) → found ≤ k → drop k out ≡ drop k out₀
 
 pub try-start : {limited : Bool} {sets : List ℕ} {m pos i : ℕ} (out : List ℕ) {count left rest : ℕ} → FirstMissed sets pos m i → Candidates sets i m rest → rest < 2 ^ 64
     → count ≤ length out → Trying limited left sets m pos i out out count count left rest
@@ -65,12 +60,10 @@ try-start {sets = sets} {m = m} {pos = pos} {i = i} out f c w le =
       word = w;
       minimal = c .minimal;
       bound = omega arith;
-      more = omega arith;
       room = refl;
       some = omega (arith, ap length same);
       whole = λ _ o' r g. filled-same same g;
       unspent = λ _. refl;
-      behind = λ k h. refl;
     }
 
 module _ {limited : Bool} {fuel : ℕ} {sets : List ℕ} {m pos i : ℕ} {out₀ out : List ℕ} {count found left rest : ℕ} (y : Trying limited fuel sets m pos i out₀ out count found left rest) where
@@ -89,12 +82,10 @@ module _ {limited : Bool} {fuel : ℕ} {sets : List ℕ} {m pos i : ℕ} {out₀
       word = taken-lt w 64 (y .word);
       minimal = λ e h. y .minimal e (taken-left w e h);
       bound = omega (arith, s .bound);
-      more = omega (arith, y .more, s .more);
       room = l ∙ y .room;
       some = omega (arith, y .some, s .some, ap length lists, length-append (From sets t (i + 1)) (Each sets i m (drives next)));
       whole = λ lt' o' r h. y .whole lt o' r (filled-same lists (filled-then out o o' found found' r (From sets t (i + 1)) (Each sets i m (drives next)) l (s .ended lt') h));
       unspent = λ e. s .unspent e ∙ y .unspent e;
-      behind = λ k h. s .behind k h ∙ y .behind k (omega (arith, s .more));
     }
 
   -- the search stops with what is found: all of it if the fuel is not used up
@@ -102,11 +93,9 @@ module _ {limited : Bool} {fuel : ℕ} {sets : List ℕ} {m pos i : ℕ} {out₀
     stop : Searched limited fuel out₀ out count found left (From sets m pos)
     stop = record {
       bound = omega (arith, y .bound, y .room);
-      more = y .more;
       some = omega (arith, y .some);
       ended = all;
       unspent = y .unspent;
-      behind = y .behind;
     }
 
   pub try-end : rest ≡ 0 → Searched limited fuel out₀ out count found left (From sets m pos)
@@ -135,9 +124,7 @@ pub searched-from : {limited : Bool} {fuel fuel₀ : ℕ} {out out' : List ℕ} 
 searched-from {limited} {fuel} {out = out} {out' = out'} {found = found} {left = left} {l = l} e f s =
     subst (λ (k : ℕ). Searched limited fuel out out' k found left l) e (record {
       bound = s .bound;
-      more = s .more;
       some = s .some;
       ended = s .ended;
       unspent = λ u. s .unspent u ∙ f u;
-      behind = s .behind;
     })

@@ -1,6 +1,7 @@
 // The fields of a message as they are read. A byte that is not there counts as none: the message call refuses a cut message before it reads
 // what is cut.
 ghost use mathlib.Core.Path.{_≡_};
+ghost use Rattle.drive_sets.specs.Limits.{patternWidth};
 ghost use Rattle.records.specs.Fields.{fieldAt};
 ghost use Rattle.drive_states.specs.Messages.{maskIn, lengthIn, senderOf, roundOf, maskOf, patternOf, contentOf, wrongMask};
 use crate::DECIDE_BYTES;
@@ -19,7 +20,7 @@ fn byte_at(s: &[u8], at: usize) -> u8
 
 // A pattern number.
 pub fn number_in(s: &[u8], at: usize) -> Pattern
-    ensures { λ r. ⌜ r .0 ≡ fieldAt at 2 (now (s .entry)) ⌝ }
+    ensures { λ r. ⌜ r .0 ≡ fieldAt at patternWidth (now (s .entry)) ⌝ }
 {
     Pattern(records::field(s, at, PATTERN_BYTES) as u16)
 }

@@ -7,7 +7,6 @@ use Prim.Native.Nat.{ℕ, _+_, _-_, _≤_, _<_}
 use native.Mathlib.Omega.{arith}
 use lib.ListN.{length, getD, take, drop, length-drop}
 use lib.Seq.{drop-cons, drop-drop}
-use Rattle.drive_sets.specs.declared.Refusal.{Refusal}
 use Rattle.drive_sets.specs.Refusals.{Outcome, refused, result, andThen}
 use Rattle.records.specs.Fields.{fromBytes, fieldAt}
 use Rattle.records.specs.RecordLists.{ListFormat, ReadList, widthOf, stepOf, following, readFrom, readList}

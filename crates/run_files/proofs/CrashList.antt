@@ -30,7 +30,7 @@ use Rattle.run_files.specs.declared.crash_records.Step.the-variants.{Cra
 use Rattle.runs.specs.CrashRecords.{CrashRecord, isNext, checkedCrash}
 use Rattle.run_files.specs.RunFiles.{crashFields, CrashList, noCrash, takenCrash, crashList}
 use Rattle.run_files.specs.RunFiles.Laws.{next-bounds, checked-passes}
-use Rattle.run_files.specs.Reading.{crashRecord, stepOutcome, crashesIn, withCrash}
+use Rattle.run_files.specs.Reading.{noCrashes, crashRecord, stepOutcome, crashesIn, withCrash}
 use Rattle.run_files.specs.Reading.Laws.{none-listed, with-crash-listed}
 
 -- ---- one record
@@ -67,17 +67,17 @@ pub record Listing (s : List ℕ) (n core : ℕ) (c : Crashes) (last count at : 
   pub few : count ≤ last
   pub reading : Reading (crashList n core) (readAll n core s) s (listed c last) at
 
-pub listing-start : (s : List ℕ) (n core : ℕ) (c : Crashes) → c .crashed ≡ 0 → length (c .rounds) ≡ maxDrives → length (c .sends) ≡ maxDrives → Listing s n core c 0 0 0
-listing-start s n core c e q m = record {
+pub listing-start : (s : List ℕ) (n core : ℕ) → Listing s n core noCrashes 0 0 0
+listing-start s n core = record {
   upTo = omega arith;
   word = omega arith;
-  rounds = q;
-  sends = m;
-  below = λ d h. absurd (clash h (ap (has d) e ∙ has-none d));
-  counted = ap length (none-listed c e);
+  rounds = refl;
+  sends = refl;
+  below = λ d h. absurd (clash h (has-none d));
+  counted = ap length (none-listed noCrashes refl);
   few = omega arith;
   reading =
-      subst (λ (l : List CrashRecord). Reading (crashList n core) (readAll n core s) s (record { crashes = l; last = 0 }) 0) (sym (none-listed c e))
+      subst (λ (l : List CrashRecord). Reading (crashList n core) (readAll n core s) s (record { crashes = l; last = 0 }) 0) (sym (none-listed noCrashes refl))
       (reading-start (crashList n core) s noCrash 0 (omega arith));
 }
 

@@ -2,9 +2,11 @@
 use mathlib.Core.List.{List, [], _∷_, _++_, map}
 use mathlib.Core.Option.{Option, none, some}
 use Prim.Native.Nat.{ℕ, _-_}
-use lib.ListN.{getD, take, drop, set}
+use lib.ListN.{getD, take, drop, set, replicate}
+use Rattle.drive_sets.specs.declared.Answer.the-variants.{Refused}
 use Rattle.drive_sets.specs.declared.Drive.{Drive}
 use Rattle.drive_sets.specs.declared.Pattern.{Pattern}
+use Rattle.drive_sets.specs.declared.Refusal.{Refusal}
 use Rattle.drive_sets.specs.declared.Round.{Round}
 use Rattle.drive_sets.specs.Masks.{single, union, drives}
 use Rattle.drive_sets.specs.Refusals.{Outcome, refused, result, number, outcomeOf}
@@ -43,6 +45,10 @@ crashOfDrive c d = record { drive = d; round = roundAt (c .rounds) d; sends = ge
 unfoldable pub crashesIn : Crashes → List CrashRecord
 crashesIn c = map (crashOfDrive c) (drives (c .crashed))
 
+-- no crash
+abbrev pub noCrashes : Crashes
+noCrashes = record { crashed = 0; rounds = replicate 64 noRound; sends = replicate 64 0 }
+
 -- the answers of the readers of the bytes s
 unfoldable pub proposalsOutcome : ℕ → Proposals → List ℕ → Outcome (ReadList (List ℕ))
 proposalsOutcome n r s = outcomeOf (r .answer) (record { list = take n (values (r .numbers)); rest = drop (r .used) s })
@@ -57,6 +63,10 @@ recordsOutcome n r s =
 -- the answer of a reader of a run file for n drives
 unfoldable pub runFileOutcome : ℕ → answers.RunFile → Outcome RunFile
 runFileOutcome n r = outcomeOf (r .answer) (record { numbers = take n (values (r .numbers)); crashes = crashesIn (r .crashes) })
+
+-- beside a refusal nothing is told
+abbrev pub refusedFile : Refusal → answers.RunFile
+refusedFile r = record { answer = Refused r; numbers = replicate 64 (record { 0 = 0 }); crashes = noCrashes }
 
 -- ---- a record at a time
 

@@ -4,7 +4,7 @@ ghost use Prim.Native.Nat.{_≤_};
 ghost use lib.ListN.{length};
 ghost use Rattle.records.specs.RecordLists.{stepOf, readList};
 ghost use Rattle.run_files.specs.RunFiles.{CrashList, noCrash, crashList};
-ghost use Rattle.run_files.specs.Reading.{stepOutcome, withCrash, crashesOutcome};
+ghost use Rattle.run_files.specs.Reading.{noCrashes, stepOutcome, withCrash, crashesOutcome};
 ghost use Rattle.drive_sets.specs.Limits.{maxDrives};
 use crate::crashes::Crashes;
 use crate::crashes::check_crash;
@@ -55,7 +55,7 @@ fn next_step(s: &[u8], n: u8, core: u64, last: Drive, count: usize) -> Step
 
 // No crash.
 pub(crate) fn none() -> Crashes
-    ensures { λ r. ⌜ (r .crashed ≡ 0) × (length (r .rounds) ≡ 64) × (length (r .sends) ≡ 64) ⌝ }
+    ensures { λ r. ⌜ r ≡ noCrashes ⌝ }
 {
     Crashes {
         crashed: 0,

@@ -3,7 +3,7 @@ ghost use mathlib.Core.Path.{_≡_};
 ghost use Prim.Native.Nat.{_≤_};
 ghost use lib.ListN.{length};
 ghost use Rattle.run_files.specs.RunFiles.{readRecords, readBehind, readRunFile};
-ghost use Rattle.run_files.specs.Reading.{recordsOutcome, runFileOutcome};
+ghost use Rattle.run_files.specs.Reading.{recordsOutcome, runFileOutcome, refusedFile};
 ghost use Rattle.drive_sets.specs.Limits.{maxDrives};
 use crate::crash_records;
 use crate::crashes::Crashes;
@@ -29,7 +29,7 @@ struct RunRecords {
 }
 
 fn refused_file(r: Refusal) -> RunFile
-    ensures { λ t. ⌜ t .answer ≡ Answer.Refused r ⌝ }
+    ensures { λ t. ⌜ t ≡ refusedFile r ⌝ }
 {
     RunFile {
         answer: Answer::Refused(r),
@@ -79,7 +79,8 @@ fn read_records(s: &[u8], n: u8, core: u64) -> RunRecords
 // The run file behind an accepted table with this chosen core. 7, bytes after the end; 11, every survivor set has a drive with a CR.
 fn read_behind(n: u8, core: u64, sets: &[u64], s: &[u8]) -> RunFile
     requires { ⌜ n ≤ maxDrives ⌝ }
-    ensures { λ r. ⌜ runFileOutcome n r ≡ readBehind n core (now (sets .entry)) (now (s .entry)) ⌝ }
+    ensures { λ t. ⌜ runFileOutcome n t ≡ readBehind n core (now (sets .entry)) (now (s .entry)) ⌝ }
+    ensures alone { λ t. ⌜ ((r : Refusal) → t .answer ≡ Answer.Refused r → t ≡ refusedFile r) ⌝ }
 {
     let read = read_records(s, n, core);
     let answer = read.answer;
@@ -104,9 +105,11 @@ fn read_behind(n: u8, core: u64, sets: &[u64], s: &[u8]) -> RunFile
     }
 }
 
-// The run file reader, given n and sets and the bytes behind their table: the table's refusals, then those of the file.
+// The run file reader, given n and sets and the bytes behind their table: the table's refusals, then those of the file. Beside a refusal
+// nothing is told.
 pub fn read_run_file(n: u8, sets: &[u64], s: &[u8]) -> RunFile
-    ensures { λ r. ⌜ runFileOutcome n r ≡ readRunFile n (now (sets .entry)) (now (s .entry)) ⌝ }
+    ensures { λ t. ⌜ runFileOutcome n t ≡ readRunFile n (now (sets .entry)) (now (s .entry)) ⌝ }
+    ensures alone { λ t. ⌜ ((r : Refusal) → t .answer ≡ Answer.Refused r → t ≡ refusedFile r) ⌝ }
 {
     let chosen = tables::calls::chosen_core(n, sets);
     match chosen {

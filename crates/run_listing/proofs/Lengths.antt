@@ -5,11 +5,11 @@ use Prim.Native.Nat.{ℕ, suc, _*_, _≤_}
 use native.Mathlib.Omega.{arith}
 use lib.ListN.{length, length-append, length-map}
 use Rattle.drive_sets.specs.Lists.Places.{length-range}
-use Rattle.drive_sets.specs.Refusals.{Outcome, refused, result, number}
+use Rattle.drive_sets.specs.Refusals.{Outcome, refused, result}
 use Rattle.drive_sets.specs.Refusals.Laws.{first-result}
 use Rattle.records.specs.Marks.{ascii}
-use Rattle.tables.specs.Files.{readTable}
-use Rattle.tables.specs.Files.Laws.{table-read}
+use Rattle.table_files.specs.Files.{readTable}
+use Rattle.table_files.specs.Files.Laws.{table-read}
 use Rattle.runs.specs.Scenario.{Scenario, frame}
 use Rattle.runs.specs.CrashRecords.{scenario}
 use Rattle.agreement.specs.Simulated.{Ending, decides, undecided, stopped, endingOf, endings}

@@ -12,7 +12,7 @@ use Rattle.run_listing.specs.RunListing.{driveLine, endingLines, coreLin
 use Rattle.run_listing.specs.RunParts.{endingFor, driveLines, endingAt}
 use Rattle.drive_sets.specs.Refusals.{Outcome, andThen, number, outcomeOf}
 use Rattle.drive_sets.specs.declared.Refusal.{Refusal}
-use Rattle.tables.specs.Files.{ReadTable}
+use Rattle.table_files.specs.Files.{ReadTable}
 use Rattle.drive_sets.specs.declared.Answer.{Answer}
 use Rattle.drive_sets.specs.declared.Answer.the-variants as answers
 use Rattle.run_files.specs.RunFiles.{RunFile, readRunFile}

@@ -1,9 +1,9 @@
 -- The text of the run program: how each drive ends, then the core and f. On a refusal only `refused` and its number.
 use mathlib.Core.List.{List, [], _∷_, _++_}
 use Prim.Native.Nat.{ℕ, suc}
-use Rattle.drive_sets.specs.Refusals.{Outcome, refused, result, andThen, number}
+use Rattle.drive_sets.specs.Refusals.{Outcome, refused, result, andThen}
 use Rattle.records.specs.Marks.{ascii}
-use Rattle.tables.specs.Files.{ReadTable, readTable}
+use Rattle.table_files.specs.Files.{ReadTable, readTable}
 use Rattle.agreement.specs.Simulated.{Ending, decides, undecided, stopped}
 use Rattle.run_files.specs.RunFiles.{RunFile, readRunFile}
 use Rattle.simulation.specs.Simulation.{Simulated, simulated}

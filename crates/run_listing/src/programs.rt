@@ -1,7 +1,7 @@
 // The run program as a function: from the bytes on the input to the text that is printed, in a lent buffer.
 ghost use Prim.Native.Nat.{_≤_};
 ghost use Rattle.drive_sets.specs.Filled.{Filled};
-ghost use Rattle.tables.specs.Reading.{setsOf};
+ghost use Rattle.tables.specs.Complete.{setsOf};
 ghost use Rattle.simulation.specs.Endings.{simulatedOutcome};
 ghost use Rattle.run_listing.specs.RunListing.{runText, simulatedWith, runProgram};
 ghost use Rattle.text.specs.Printing.{Printed};
@@ -12,7 +12,7 @@ use drive_sets::Answer;
 use records::Writing;
 use simulation::simulating::Simulated;
 use simulation::simulating::simulate;
-use tables::reading::Table;
+use tables::frames::Table;
 use text::lines::put_refused;
 use text::printing::MAX_TEXT;
 use text::printing::print;
@@ -65,12 +65,13 @@ fn put_behind(buf: &mut [u8], table: Table, rest: &[u8]) -> usize
 fn put_run(buf: &mut [u8], input: &[u8]) -> usize
     ensures { λ r. ⌜ Filled (now (buf .entry)) (now (buf .exit)) 0 r (runProgram (now (input .entry))) ⌝ }
 {
-    let file = tables::files::read_table(input);
-    let complete = file.complete;
-    let answer = complete.answer;
+    let mut rest: &[u8] = input;
+    let t = table_files::files::read_table(input, &mut rest);
+    let answer = t.answer;
+    let table = t.table;
     match answer {
         Answer::Refused(r) => put_refused(buf, 0, r),
-        Answer::Accepted => put_behind(buf, complete.table, records::rest(input, file.used)),
+        Answer::Accepted => put_behind(buf, table, rest),
     }
 }
 

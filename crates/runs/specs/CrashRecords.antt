@@ -16,9 +16,12 @@ pub record CrashRecord : Type 0 where
   pub round : ℕ
   pub sends : ℕ
 
--- the drives with a CR
+-- the drives that the records name, in their order and as a set: the drives with a CR
+abbrev pub drivesOf : List CrashRecord → List ℕ
+drivesOf crs = map (λ (c : CrashRecord). c .drive) crs
+
 unfoldable pub crashed : List CrashRecord → ℕ
-crashed crs = ofDrives (map (λ (c : CrashRecord). c .drive) crs)
+crashed crs = ofDrives (drivesOf crs)
 
 -- ---- CR: 8, 9, 10
 

@@ -12,6 +12,8 @@ use Rattle.drive_sets.specs.Lists.{filter, all, any, elem}
 use Rattle.drive_sets.specs.Masks.{has, size}
 use Rattle.drive_sets.specs.Refusals.{Outcome, refused, result, number}
 use Rattle.drive_sets.specs.Counts.{isDrive}
+use Rattle.set_orders.specs.Order.{normal}
+use Rattle.tables.specs.Tables.{normalTable}
 use Rattle.runs.specs.Protocol.{Protocol}
 use Rattle.runs.specs.World.{Call, opens, sends, delivers, closes, driveOf, Slot, unopened, opened, World, nothingOpen, apply, applyAll, refusedIn, active}
 use Rattle.runs.specs.Scenario.{Scenario, frame, coreOf, goneBefore, goneBy, sendsNone}
@@ -26,10 +28,20 @@ sameList (x ∷ l) (y ∷ m) = eqb x y && sameList l m
 
 -- ---- the opening part: each of the frame's drives is opened once, all from one table
 
+-- the sets are accepted with this normal table, however they list it
+unfoldable pub isTable : Outcome (List ℕ) → List ℕ → Bool
+isTable (refused r) table = false
+isTable (result given) table = sameList given table
+
 -- the call opens a drive that is not among those opened so far
 unfoldable pub dueOpening : Scenario → (ℕ → Bool) → Call → Bool
 dueOpening s done (opens d n sets own number) =
-    isDrive (s .n) d && not (done d) && eqb n (s .n) && sameList sets (s .sets) && eqb own d && eqb number (s .proposal d)
+    isDrive (s .n) d
+    && not (done d)
+    && eqb n (s .n)
+    && isTable (normalTable n sets) (normal (s .sets))
+    && eqb own d
+    && eqb number (s .proposal d)
 dueOpening s done (sends d room start) = false
 dueOpening s done (delivers d bytes) = false
 dueOpening s done (closes d) = false

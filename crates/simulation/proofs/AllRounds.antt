@@ -17,9 +17,10 @@ use Rattle.agreement.specs.Simulated.{Ending, decides, undecided, stopped}
 use Rattle.agreement.specs.Canonical.{openingCalls, roundCalls, roundsFrom, canonicalRounds, endingOn, firstDecision, canonicalEnding}
 use Rattle.run_files.specs.declared.crashes.Crashes.{Crashes}
 use Rattle.simulation.specs.declared.simulating.Notes.{Notes}
-use Rattle.simulation.specs.States.{stateAt, worldOf, Says}
-use Rattle.simulation.specs.Endings.{foundOf, orLater}
-use Rattle.simulation.proofs.Worlds.{world-at}
+use Rattle.simulated_rounds.specs.States.{stateAt, worldOf, Says}
+use Rattle.simulation.specs.Endings.{foundOf, nothingFound, orLater}
+use Rattle.simulation.proofs.FirstDecisions.{nothing-found}
+use Rattle.simulated_rounds.proofs.Worlds.{world-at}
 
 -- ---- the first decision counts
 
@@ -60,13 +61,13 @@ module _ (n core : ℕ) (c : Crashes) (states₀ : List Exchange) where
     pub same : (s : Scenario) → Says n core c s → (d : ℕ) → isDrive n d ≡ true
         → orLater (foundOf found d) (given s d (size core - done) (suc done) (worldOf n states)) ≡ given s d (size core) 1 (worldOf n states₀)
 
-  pub run-start : (found : Notes) → ((d : ℕ) → foundOf found d ≡ undecided) → Running states₀ found 0
+  pub run-start : Running states₀ nothingFound 0
   unfolding orLater
-  run-start found none = record {
+  run-start = record {
     upTo = omega arith;
     same = λ s g d h.
         let whole : size core - 0 ≡ size core = omega arith in
-        ap₂ (λ (e : Ending) (k : ℕ). orLater e (given s d k 1 (worldOf n states₀))) (none d) whole;
+        ap₂ (λ (e : Ending) (k : ℕ). orLater e (given s d k 1 (worldOf n states₀))) (nothing-found d) whole;
   }
 
   pub run-turn : (states next : List Exchange) (found noted : Notes) (done : ℕ) → Running states found done → done < size core

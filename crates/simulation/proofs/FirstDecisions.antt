@@ -19,8 +19,8 @@ use Rattle.agreement.specs.Simulated.{Ending, undecided}
 use Rattle.agreement.specs.Canonical.{endingOn}
 use Rattle.run_files.specs.Reading.{noRound, roundAt}
 use Rattle.drive_states.specs.State.{pattern, numberIn}
-use Rattle.simulation.specs.States.{blank, stateAt}
-use Rattle.simulation.specs.Endings.{endingBy, orLater}
+use Rattle.simulated_rounds.specs.States.{blank, stateAt}
+use Rattle.simulation.specs.Endings.{endingBy, foundOf, nothingFound, orLater}
 
 -- ---- nothing found
 
@@ -33,6 +33,10 @@ module _ {A : Type 0} where
 pub none-found : (round number : ℕ) → round ≡ 0 → endingBy round number ≡ undecided
 unfolding endingBy
 none-found round number e = ap (λ (x : ℕ). endingBy x number) e
+
+pub nothing-found : (d : ℕ) → foundOf nothingFound d ≡ undecided
+unfolding foundOf
+nothing-found d = none-found _ _ (ap (λ (x : Round). x .0) (same-at 64 (d - 1) noRound))
 
 -- ---- the loop
 

@@ -28,7 +28,8 @@ use Rattle.runs.specs.Scenario.{Scenario, frame, coreOf}
 use Rattle.agreement.specs.Canonical.{openingCalls}
 use Rattle.run_files.specs.declared.crashes.Crashes.{Crashes}
 use Rattle.drive_states.specs.State.{pattern, numberIn}
-use Rattle.simulation.specs.States.{blank, stateAt, worldOf, Told}
+use Rattle.simulated_rounds.specs.States.{blank, stateAt, worldOf}
+use Rattle.simulation.specs.Arguments.{Told}
 
 -- ---- the loop
 

@@ -16,12 +16,11 @@ use Rattle.drive_sets.specs.Masks.{has, common, size, drives}
 use Rattle.drive_sets.specs.Masks.Laws.{has-common}
 use Rattle.drive_sets.specs.Masks.Sizes.{elem-drives, length-drives}
 use Rattle.drive_sets.specs.declared.Pattern.{Pattern}
-use Rattle.drive_sets.specs.declared.Refusal.{Refusal}
 use Rattle.drive_sets.specs.Refusals.{Outcome, refused, result, andThen}
 use Rattle.drive_sets.specs.Refusals.Laws.{refused-no-result}
 use Rattle.set_orders.specs.Order.{normal}
-use Rattle.tables.specs.Tables.{chosen, normalTable, chosenCore}
-use Rattle.tables.specs.Tables.Laws.{Accepted, accepted-table, core-given, chosen-core}
+use Rattle.tables.specs.Tables.{chosen, normalTable, chosenCore, Accepted}
+use Rattle.tables.specs.Tables.Laws.{accepted-table, core-given, chosen-core}
 use Rattle.drive_sets.specs.Counts.{isDrive}
 use Rattle.drive_sets.specs.Limits.{patternLimit}
 use Rattle.drive_sets.specs.Counts.Laws.{drive-bounds, isDrive-range}
@@ -37,7 +36,8 @@ use Rattle.run_files.specs.Reading.{values, roundAt}
 use Rattle.simulation.specs.Simulation.{checkedCrashes, Simulated, simulatedOf, unlessTouched, simulated}
 use Rattle.simulation.specs.Simulation.Laws.{checked-valid}
 use Rattle.drive_states.specs.State.{pattern, numberIn}
-use Rattle.simulation.specs.States.{crashAt, Says, Told}
+use Rattle.simulated_rounds.specs.States.{crashAt, Says}
+use Rattle.simulation.specs.Arguments.{Told}
 
 -- ---- lists
 

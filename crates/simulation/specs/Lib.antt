@@ -1,4 +1,4 @@
 -- The simulated exchange, that it reaches agreement, and what the code's values say.
 pub mod Simulation
-pub mod States
+pub mod Arguments
 pub mod Endings

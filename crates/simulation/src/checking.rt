@@ -5,7 +5,6 @@ ghost use Rattle.drive_sets.specs.Refusals.{result, outcomeOf};
 ghost use Rattle.runs.specs.CrashRecords.{checkedCrash};
 ghost use Rattle.run_files.specs.Reading.{crashOfDrive, crashesIn};
 ghost use Rattle.simulation.specs.Simulation.{checkedCrashes};
-use crate::crashes;
 use drive_sets::Answer;
 use drive_sets::Drive;
 use run_files::crashes::Crashes;
@@ -17,8 +16,10 @@ fn check_one(n: u8, core: u64, last: Drive, d: Drive, crashes: Crashes) -> Answe
 {
     let rounds = crashes.rounds;
     let sends = crashes.sends;
-    let round = crashes::round_at(rounds, d);
-    let made = crashes::sends_at(sends, d);
+    let i = d.0;
+    let at = (i - 1) as usize;
+    let round = rounds[at];
+    let made = sends[at];
     run_files::crashes::check_crash(n, core, last, d, round, made)
 }
 

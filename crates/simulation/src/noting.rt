@@ -5,8 +5,8 @@ ghost use Prim.Native.Nat.{ℕ, _≤_};
 ghost use Rattle.drive_sets.specs.Counts.{isDrive};
 ghost use Rattle.agreement.specs.Simulated.{undecided};
 ghost use Rattle.agreement.specs.Canonical.{endingOn};
-ghost use Rattle.simulation.specs.States.{stateAt};
-ghost use Rattle.simulation.specs.Endings.{endingBy, foundOf, orLater};
+ghost use Rattle.simulated_rounds.specs.States.{stateAt};
+ghost use Rattle.simulation.specs.Endings.{endingBy, foundOf, nothingFound, orLater};
 use crate::simulating::Notes;
 use drive_sets::Pattern;
 use drive_sets::Round;
@@ -21,7 +21,7 @@ struct First {
 
 // Nothing found yet.
 pub(crate) fn nothing() -> Notes
-    ensures { λ r. ⌜ ((d : ℕ) → foundOf r d ≡ undecided) ⌝ }
+    ensures { λ r. ⌜ r ≡ nothingFound ⌝ }
 {
     Notes {
         rounds: [Round(0); 64],

@@ -5,15 +5,15 @@ ghost use Prim.Native.Nat.{ℕ, _^_, _≤_, _<_};
 ghost use Rattle.drive_sets.specs.Counts.{isDrive};
 ghost use Rattle.runs.specs.Scenario.{Scenario};
 ghost use Rattle.agreement.specs.Canonical.{canonicalEnding};
-ghost use Rattle.simulation.specs.States.{Told};
+ghost use Rattle.simulation.specs.Arguments.{Told};
 ghost use Rattle.simulation.specs.Endings.{foundOf};
 use crate::noting;
 use crate::opening;
-use crate::rounds;
 use crate::simulating::Notes;
 use drive_sets::Pattern;
 use drive_sets::Round;
 use run_files::crashes::Crashes;
+use simulated_rounds::rounds;
 
 // The first decisions of the drives 1 to n, where the table has this chosen core.
 pub(crate) fn run(n: u8, core: u64, numbers: [Pattern; 64], crashes: Crashes) -> Notes

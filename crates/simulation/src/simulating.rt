@@ -1,15 +1,15 @@
 // The simulated exchange as a call. The crashes are handed over by drive, as the run file reader gives them: at most one to a drive, rising.
 ghost use mathlib.Core.Path.{_≡_};
-ghost use Prim.Native.Nat.{ℕ, _^_, _≤_, _<_};
+ghost use Prim.Native.Nat.{_^_, _≤_, _<_};
 ghost use lib.ListN.{take};
-ghost use Rattle.drive_sets.specs.Refusals.{refused, result, number};
+ghost use Rattle.drive_sets.specs.Refusals.{result};
 ghost use Rattle.tables.specs.Tables.{chosenCore};
 ghost use Rattle.runs.specs.Scenario.{Scenario};
 ghost use Rattle.runs.specs.CrashRecords.{crashed};
 ghost use Rattle.run_files.specs.Reading.{values, crashesIn};
 ghost use Rattle.simulation.specs.Simulation.{checkedCrashes, simulatedOf, unlessTouched, simulated};
-ghost use Rattle.simulation.specs.States.{Told};
-ghost use Rattle.simulation.specs.Endings.{simulatedOutcome};
+ghost use Rattle.simulation.specs.Arguments.{Told};
+ghost use Rattle.simulation.specs.Endings.{refusedSimulated, simulatedOutcome};
 use crate::checking;
 use crate::noting;
 use crate::running;
@@ -36,7 +36,7 @@ pub struct Simulated {
 }
 
 fn refused(r: Refusal) -> Simulated
-    ensures { λ t. ⌜ ((n : ℕ) → simulatedOutcome n t ≡ refused (number r)) ⌝ }
+    ensures { λ t. ⌜ t ≡ refusedSimulated r ⌝ }
 {
     Simulated {
         answer: Answer::Refused(r),
@@ -51,6 +51,7 @@ fn refused(r: Refusal) -> Simulated
 fn result_on(n: u8, core: u64, numbers: [Pattern; 64], crashes: Crashes) -> Simulated
     requires { ⌜ (n ≤ 64) × (core < 2 ^ n) ⌝ }
     ensures { λ r. ⌜ ((s : Scenario) → Told n core numbers crashes s → simulatedOutcome n r ≡ result (simulatedOf s)) ⌝ }
+    ensures taken { λ r. ⌜ r .answer ≡ Answer.Accepted ⌝ }
 {
     let found = running::run(n, core, numbers, crashes);
     let crashed = crashes.crashed;
@@ -73,7 +74,8 @@ fn where_untouched(
     crashes: Crashes,
 ) -> Simulated
     requires { ⌜ (chosenCore n (now sets) ≡ result core) × (checkedCrashes n core 0 (crashesIn crashes) (result (crashesIn crashes)) ≡ result (crashesIn crashes)) ⌝ }
-    ensures { λ r. ⌜ simulatedOutcome n r ≡ unlessTouched n (now (sets .entry)) (take n (values numbers)) (crashesIn crashes) ⌝ }
+    ensures { λ t. ⌜ simulatedOutcome n t ≡ unlessTouched n (now (sets .entry)) (take n (values numbers)) (crashesIn crashes) ⌝ }
+    ensures alone { λ t. ⌜ ((r : Refusal) → t .answer ≡ Answer.Refused r → t ≡ refusedSimulated r) ⌝ }
 {
     if tables::calls::meets_all(sets, crashes.crashed) {
         return refused(Refusal::NoneUntouched);
@@ -90,7 +92,8 @@ fn where_checked(
     crashes: Crashes,
 ) -> Simulated
     requires { ⌜ chosenCore n (now sets) ≡ result core ⌝ }
-    ensures { λ r. ⌜ simulatedOutcome n r ≡ checkedCrashes n core 0 (crashesIn crashes) (unlessTouched n (now (sets .entry)) (take n (values numbers)) (crashesIn crashes)) ⌝ }
+    ensures { λ t. ⌜ simulatedOutcome n t ≡ checkedCrashes n core 0 (crashesIn crashes) (unlessTouched n (now (sets .entry)) (take n (values numbers)) (crashesIn crashes)) ⌝ }
+    ensures alone { λ t. ⌜ ((r : Refusal) → t .answer ≡ Answer.Refused r → t ≡ refusedSimulated r) ⌝ }
 {
     let checked = checking::check_all(n, core, crashes);
     match checked {
@@ -100,9 +103,10 @@ fn where_checked(
 }
 
 // The simulated exchange: from n and sets, the pattern numbers, drive 1 first, and the crashes. The table's refusals, then those of each
-// crash, then 11.
+// crash, then 11. Beside a refusal nothing is told.
 pub fn simulate(n: u8, sets: &[u64], numbers: [Pattern; 64], crashes: Crashes) -> Simulated
-    ensures { λ r. ⌜ simulatedOutcome n r ≡ simulated n (now (sets .entry)) (take n (values numbers)) (crashesIn crashes) ⌝ }
+    ensures { λ t. ⌜ simulatedOutcome n t ≡ simulated n (now (sets .entry)) (take n (values numbers)) (crashesIn crashes) ⌝ }
+    ensures alone { λ t. ⌜ ((r : Refusal) → t .answer ≡ Answer.Refused r → t ≡ refusedSimulated r) ⌝ }
 {
     let chosen = tables::calls::chosen_core(n, sets);
     match chosen {

@@ -1,4 +1,3 @@
 -- What the functions' proofs share.
 pub mod Listings
 pub mod Lengths
-pub mod ReadTables

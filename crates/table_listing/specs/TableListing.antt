@@ -2,10 +2,10 @@
 -- On a refusal only `refused` and its number.
 use mathlib.Core.List.{List, _++_}
 use Prim.Native.Nat.{ℕ}
-use Rattle.drive_sets.specs.Refusals.{Outcome, refused, result, number}
+use Rattle.drive_sets.specs.Refusals.{Outcome, refused, result}
 use Rattle.records.specs.Marks.{ascii}
 use Rattle.tables.specs.Tables.{cores, chosen}
-use Rattle.tables.specs.Files.{ReadTable, readWhole}
+use Rattle.table_files.specs.Files.{ReadTable, readWhole}
 use Rattle.verdicts.specs.Verdicts.{Verdict, yes, no, verdictOn}
 use Rattle.text.specs.declared.Base.the-variants.{Decimal, Hexadecimal}
 use Rattle.text.specs.Text.{fields, named, line, lines, refusalLine}

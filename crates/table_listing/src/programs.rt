@@ -2,9 +2,9 @@
 ghost use mathlib.Core.Path.{_≡_};
 ghost use lib.ListN.{take};
 ghost use Rattle.drive_sets.specs.Filled.{Filled};
-ghost use Rattle.tables.specs.Tables.{cores};
-ghost use Rattle.tables.specs.Reading.{setsOf};
-ghost use Rattle.tables.specs.Complete.{CompleteWithin};
+ghost use Rattle.drive_sets.specs.Refusals.{result};
+ghost use Rattle.tables.specs.Tables.{cores, checkedSets};
+ghost use Rattle.tables.specs.Complete.{setsOf, CompleteWithin};
 ghost use Rattle.table_listing.specs.TableListing.{listing, tableProgram};
 ghost use Rattle.text.specs.Printing.{Printed};
 use crate::table_text::put_listing;
@@ -17,7 +17,7 @@ use text::printing::print;
 
 // The listing of a table that was read with its cores.
 fn put_complete(buf: &mut [u8], t: TableWithCores) -> usize
-    requires { ⌜ CompleteWithin t × (take (t .found) (t .cores) ≡ cores (setsOf (t .table))) ⌝ }
+    requires { ⌜ CompleteWithin t × (take (t .found) (t .cores) ≡ cores (setsOf (t .table))) × (checkedSets (t .table .n) (setsOf (t .table)) ≡ result (setsOf (t .table))) ⌝ }
     ensures { λ r. ⌜ Filled (now (buf .entry)) (now (buf .exit)) 0 r (listing (t .table .n) (setsOf (t .table))) ⌝ }
 {
     let table = t.table;
@@ -33,12 +33,11 @@ fn put_complete(buf: &mut [u8], t: TableWithCores) -> usize
 fn put_table(buf: &mut [u8], input: &[u8]) -> usize
     ensures { λ r. ⌜ Filled (now (buf .entry)) (now (buf .exit)) 0 r (tableProgram (now (input .entry))) ⌝ }
 {
-    let file = tables::files::read_whole(input);
-    let complete = file.complete;
-    let answer = complete.answer;
+    let t = table_files::files::read_whole(input);
+    let answer = t.answer;
     match answer {
         Answer::Refused(r) => put_refused(buf, 0, r),
-        Answer::Accepted => put_complete(buf, complete),
+        Answer::Accepted => put_complete(buf, t),
     }
 }
 

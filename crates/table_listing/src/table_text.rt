@@ -1,13 +1,13 @@
 // The text of an accepted table: its drives, its sets, its cores, the chosen one, and the verdicts on 2, 3 and 4.
 ghost use mathlib.Core.Path.{_≡_};
 ghost use Prim.Native.Nat.{_≤_};
-ghost use lib.ListN.{length, getD};
+ghost use lib.ListN.{getD};
 ghost use Rattle.drive_sets.specs.Filled.{Filled};
-ghost use Rattle.tables.specs.Tables.{cores};
+ghost use Rattle.drive_sets.specs.Refusals.{result};
+ghost use Rattle.tables.specs.Tables.{cores, checkedSets};
 ghost use Rattle.verdicts.specs.Verdicts.{verdictOn};
 ghost use Rattle.verdicts.specs.Held.{verdictOf};
 ghost use Rattle.table_listing.specs.TableListing.{noPart, verdictLine, verdictLines, listing};
-ghost use Rattle.drive_sets.specs.Limits.{maxSets};
 use text::Base;
 use text::lines::put_fields;
 use text::lines::put_line;
@@ -54,17 +54,19 @@ fn put_verdict(buf: &mut [u8], at: usize, k: u8, v: Verdict) -> usize
     put_no(buf, headed, &places[0..k as usize], &blocks[0..k as usize])
 }
 
-// The verdict on k of a normal table, and its line.
+// The verdict on k of a normal table, which meets no refusal, and its line.
 fn put_verdict_on(buf: &mut [u8], at: usize, k: u8, n: u8, sets: &[u64]) -> usize
-    requires { ⌜ (2 ≤ k) × (k ≤ 4) × (length (now sets) ≤ maxSets) ⌝ }
+    requires { ⌜ (2 ≤ k) × (k ≤ 4) × (checkedSets n (now sets) ≡ result (now sets)) ⌝ }
     ensures { λ r. ⌜ Filled (now (buf .entry)) (now (buf .exit)) at r (verdictLine k (verdictOn k n (now (sets .entry)))) ⌝ }
 {
-    put_verdict(buf, at, k, verdicts::verdict_on(k, n, sets))
+    let judged = verdicts::calls::verdict_on(k, n, sets);
+    let verdict = judged.verdict;
+    put_verdict(buf, at, k, verdict)
 }
 
 // The verdicts on 2, 3 and 4.
 fn put_verdicts(buf: &mut [u8], at: usize, n: u8, sets: &[u64]) -> usize
-    requires { ⌜ length (now sets) ≤ maxSets ⌝ }
+    requires { ⌜ checkedSets n (now sets) ≡ result (now sets) ⌝ }
     ensures { λ r. ⌜ Filled (now (buf .entry)) (now (buf .exit)) at r (verdictLines n (now (sets .entry))) ⌝ }
 {
     let two = put_verdict_on(buf, at, 2, n, sets);
@@ -73,7 +75,7 @@ fn put_verdicts(buf: &mut [u8], at: usize, n: u8, sets: &[u64]) -> usize
 }
 
 // The first, 0 where there is none.
-fn first(groups: &[u64]) -> u64
+fn first_group(groups: &[u64]) -> u64
     ensures { λ r. ⌜ r ≡ getD (now (groups .entry)) 0 0 ⌝ }
 {
     if groups.len() == 0 {
@@ -84,12 +86,18 @@ fn first(groups: &[u64]) -> u64
 
 // The listing of a normal table, given its cores, from the buffer's first place on.
 pub(crate) fn put_listing(buf: &mut [u8], n: u8, sets: &[u64], groups: &[u64]) -> usize
-    requires { ⌜ (length (now sets) ≤ maxSets) × (now groups ≡ cores (now sets)) ⌝ }
+    requires { ⌜ (checkedSets n (now sets) ≡ result (now sets)) × (now groups ≡ cores (now sets)) ⌝ }
     ensures { λ r. ⌜ Filled (now (buf .entry)) (now (buf .exit)) 0 r (listing n (now (sets .entry))) ⌝ }
 {
     let counted = put_line(buf, 0, b"drives", Base::Decimal, n as u64);
     let listed = put_lines(buf, counted, b"set", Base::Hexadecimal, sets);
     let cored = put_lines(buf, listed, b"core", Base::Hexadecimal, groups);
-    let chosen = put_line(buf, cored, b"chosen", Base::Hexadecimal, first(groups));
+    let chosen = put_line(
+        buf,
+        cored,
+        b"chosen",
+        Base::Hexadecimal,
+        first_group(groups),
+    );
     put_verdicts(buf, chosen, n, sets)
 }

@@ -15,16 +15,16 @@ use Rattle.drive_sets.specs.declared.Answer.{Answer}
 use Rattle.drive_sets.specs.declared.Answer.the-variants as answers
 use Rattle.tables.specs.declared.completing.TableWithCores.{TableWithCores}
 use Rattle.drive_sets.specs.Limits.{maxSets}
-use Rattle.tables.specs.Tables.{cores, chosen, dual, normalTable, chosenCore}
-use Rattle.tables.specs.Tables.Laws.{Accepted, table-accepted, sets-word, some-core, accepted-normal}
+use Rattle.tables.specs.Tables.{cores, chosen, dual, normalTable, chosenCore, Accepted}
+use Rattle.tables.specs.Tables.Laws.{table-accepted, sets-word, some-core, accepted-normal}
 use Rattle.set_orders.specs.declared.sorting.Order.the-variants.{ByMask}
 use Rattle.hitting_sets.specs.Hitting.{hits, minimals}
 use Rattle.core_search.specs.Found.{Found}
+use Rattle.core_search.specs.Found.Laws.{found-listed}
 use Rattle.set_orders.specs.Order.{byMask, precedes}
 use Rattle.set_orders.specs.Order.Sort.{length-sort}
 use Rattle.hitting_sets.specs.Hitting.Normal.{hits-normal}
-use Rattle.tables.specs.Reading.{setsOf}
-use Rattle.tables.specs.Complete.{Complete, withCores, completeTable, completeOutcome}
+use Rattle.tables.specs.Complete.{setsOf, Complete, withCores, completeTable, completeOutcome}
 
 module _ {A B : Type 0} where
   -- a refusal of what is made of a result is one of the result
@@ -93,4 +93,4 @@ module _ {groups out new : List ℕ} {r : ℕ} (room : length out ≡ maxSets) (
 
   pub dual-found : r ≤ maxSets → (ltb maxSets (length (dual groups)) ≡ false) × (take r new ≡ dual groups)
   unfolding dual precedes
-  dual-found m = (le-ltb maxSets (length (dual groups)) (omega (arith, found .total, length-sort byMask (minimals groups))), found .listed (omega arith) (omega arith))
+  dual-found m = (le-ltb maxSets (length (dual groups)) (omega (arith, found .total, length-sort byMask (minimals groups))), found-listed found (omega arith))

@@ -3,42 +3,56 @@ use mathlib.Core.Path.{_≡_, refl, sym, ap, ap₂, _∙_}
 use mathlib.Core.Bool.{Bool, true, false}
 use mathlib.Core.List.{List, [], _∷_}
 use Prim.Native.Nat.{ℕ, _-_, _≤_, _<_}
-use native.Mathlib.Nat.{sub-zero, le-of-lt}
+use native.Mathlib.Nat.{sub-zero}
 use native.Mathlib.Omega.{arith}
-use lib.ListN.{length, take, drop, length-drop, drop-of-length-le}
-use lib.Seq.{take-at, drop-length}
+use lib.Dec.{ltb}
+use lib.ListN.{length, take, drop, replicate, length-drop}
+use lib.Seq.{take-at}
 use borrow.Author.Tests.{lt-ltb, le-ltb}
 use Rattle.drive_sets.specs.declared.Refusal.the-variants.{TooManyCores}
-use Rattle.drive_sets.specs.Refusals.{Outcome, refused, result, andThen, number}
-use Rattle.records.proofs.Parts.{rest-is}
+use Rattle.drive_sets.specs.declared.Refusal.{Refusal}
+use Rattle.drive_sets.specs.declared.Answer.{Answer}
+use Rattle.drive_sets.specs.declared.Answer.the-variants as answers
+use Rattle.drive_sets.specs.Refusals.{Outcome, refused, result, refuseIf, andThen, number, outcomeOf}
+use Rattle.drive_sets.specs.Refusals.Laws.{refused-no-result, same-result}
+use Rattle.set_orders.specs.declared.normal_form.NormalForm.{NormalForm}
+use Rattle.set_orders.specs.declared.normal_form.NormalForm.the-variants as forms
 use Rattle.set_orders.specs.declared.sorting.Order.the-variants.{BySize}
 use Rattle.hitting_sets.specs.Hitting.{minimals}
 use Rattle.core_search.specs.Found.{Found}
-use Rattle.set_orders.specs.Order.{sort, bySize, precedes, normal, normalWithin, Listed}
+use Rattle.core_search.specs.Found.Laws.{found-listed}
+use Rattle.set_orders.specs.LentLists.{countOf, listAfter}
+use Rattle.set_orders.specs.Order.{sort, bySize, precedes, normal, normalList, formOutcome}
 use Rattle.set_orders.specs.Order.Sort.{length-sort}
-use Rattle.set_orders.specs.Order.Normal.{normalWithin-fits, length-normal}
-use Rattle.tables.specs.declared.reading.Table.{Table}
+use Rattle.set_orders.specs.Order.Normal.{normalList-result, length-normal}
+use Rattle.tables.specs.declared.frames.Table.{Table}
 use Rattle.drive_sets.specs.Limits.{maxSets, maxCores}
-use Rattle.tables.specs.Tables.{isEmpty, cores, withinCoreLimit}
-use Rattle.tables.specs.Files.{ReadTable, accepted}
-use Rattle.tables.specs.Reading.{setsOf}
-use Rattle.tables.specs.Complete.{withCores, completeSets, readWithCores}
+use Rattle.tables.specs.Tables.{isEmpty, cores, withinCoreLimit, checkedSets, normalTable}
+use Rattle.tables.specs.Complete.{setsOf, withCores, fewCores, completeSets, completeTable}
 
 -- ---- the normal table
 
-module _ (sets old new : List ℕ) (count : ℕ) (most : length sets ≤ maxSets) (room : length old ≡ maxSets) (l : Listed (normalWithin (length old) sets) old new count) where
-  is-normal : normalWithin (length old) sets ≡ normal sets
-  is-normal = normalWithin-fits (length old) sets most (omega arith)
+abbrev zeros : List ℕ
+zeros = replicate maxSets 0
 
-  pub count-le : count ≤ maxSets
-  count-le = omega (arith, l .count, ap length is-normal, length-normal sets)
+-- the normal form of at most 128 sets, in an array of as many zeros
+module _ (sets : List ℕ) (most : length sets ≤ maxSets) (form : NormalForm) (says : formOutcome form ≡ countOf (normalList maxSets sets)) where
+  is-normal : normalList maxSets sets ≡ result (normal sets)
+  is-normal = normalList-result maxSets sets most most
 
-  pub normal-taken : take count new ≡ normal sets
-  normal-taken = ap (take count) (l .listed) ∙ (take-at (normalWithin (length old) sets) (drop count old) count (sym (l .count)) ∙ is-normal)
+  pub form-given : {r : Refusal} → form ≡ forms.Refused r → ⊥
+  form-given e = refused-no-result (ap formOutcome (sym e) ∙ (says ∙ ap countOf is-normal))
 
-  -- as a part from the start on
-  pub normal-part : take (count - 0) new ≡ normal sets
-  normal-part = ap (λ (k : ℕ). take k new) (sub-zero count) ∙ normal-taken
+  module _ {count : ℕ} (e : form ≡ forms.Sets count) where
+    count-is : count ≡ length (normal sets)
+    count-is = same-result (ap formOutcome (sym e) ∙ (says ∙ ap countOf is-normal))
+
+    pub count-le : count ≤ maxSets
+    count-le = omega (arith, count-is, length-normal sets)
+
+    pub normal-taken : {new : List ℕ} → new ≡ listAfter zeros (normalList maxSets sets) → take count new ≡ normal sets
+    unfolding listAfter
+    normal-taken f = ap (take count) (f ∙ ap (listAfter zeros) is-normal) ∙ take-at (normal sets) (drop (length (normal sets)) zeros) count (sym count-is)
 
 -- ---- the cores
 
@@ -46,21 +60,45 @@ by-size : precedes BySize ≡ bySize
 unfolding precedes
 by-size = refl
 
-module _ (n : ℕ) (sets part out out' : List ℕ) (found : ℕ) (e : part ≡ normal sets) (room : length out ≡ maxCores) (f : Found (precedes BySize) part out out' found) where
-  core-count : length (cores (normal sets)) ≡ length (minimals part)
+module _ (n : ℕ) {part out out' : List ℕ} {found : ℕ} (table : List ℕ) (e : part ≡ table) (room : length out ≡ maxCores)
+    (f : Found (precedes BySize) part out out' found) where
+  core-count : length (cores table) ≡ length (minimals part)
   unfolding cores
-  core-count = length-sort bySize (minimals (normal sets)) ∙ ap (λ (l : List ℕ). length (minimals l)) (sym e)
+  core-count = length-sort bySize (minimals table) ∙ ap (λ (l : List ℕ). length (minimals l)) (sym e)
 
-  pub too-many : maxCores < found → refused (number TooManyCores) ≡ completeSets n sets
-  unfolding completeSets withinCoreLimit
-  too-many h = rw (lt-ltb maxCores (length (cores (normal sets))) (omega (arith, f .total, core-count)))
+  pub too-many : maxCores < found → refused (number TooManyCores) ≡ fewCores n table
+  unfolding fewCores
+  too-many h = rw (lt-ltb maxCores (length (cores table)) (omega (arith, f .total, core-count)))
 
-  pub completed : found ≤ maxCores → (table : List ℕ) → table ≡ normal sets → result (record { n = n; sets = table; cores = take found out' }) ≡ completeSets n sets
-  unfolding completeSets withinCoreLimit withCores cores
-  completed h table same =
-      ap₂ (λ (t c : List ℕ). result (record { n = n; sets = t; cores = c })) same
-      (f .listed (omega arith) (omega arith) ∙ ap₂ (λ (b : ℕ → ℕ → Bool) (l : List ℕ). sort b (minimals l)) by-size e)
-      ∙ rw (le-ltb maxCores (length (cores (normal sets))) (omega (arith, f .total, core-count)))
+  pub completed : found ≤ maxCores → result (record { n = n; sets = table; cores = take found out' }) ≡ fewCores n table
+  unfolding fewCores withCores cores
+  completed h =
+      ap (λ (c : List ℕ). result (record { n = n; sets = table; cores = c }))
+      (found-listed f (omega arith) ∙ ap₂ (λ (b : ℕ → ℕ → Bool) (l : List ℕ). sort b (minimals l)) by-size e)
+      ∙ rw (le-ltb maxCores (length (cores table)) (omega (arith, f .total, core-count)))
+
+pub few-cores : (n : ℕ) (sets : List ℕ) → fewCores n (normal sets) ≡ completeSets n sets
+unfolding fewCores completeSets withinCoreLimit
+few-cores n sets = go (ltb maxCores (length (cores (normal sets))))
+  where
+    go : (b : Bool)
+        → refuseIf b TooManyCores (result (withCores n (normal sets)))
+        ≡ andThen (refuseIf b TooManyCores (result (normal sets))) (λ table. result (withCores n table))
+    go true = refl
+    go false = refl
+
+-- the answer of the check, then the rest
+module _ (n : ℕ) (sets : List ℕ) (answer : Answer) (e : outcomeOf answer sets ≡ checkedSets n sets) where
+  pub check-said : (a : Answer) → answer ≡ a → outcomeOf a sets ≡ checkedSets n sets
+  check-said a f = ap (λ (b : Answer). outcomeOf b sets) (sym f) ∙ e
+
+  pub complete-said : (a : Answer) → answer ≡ a → andThen (outcomeOf a sets) (completeSets n) ≡ completeTable n sets
+  unfolding completeTable completeSets normalTable
+  complete-said a f = ap (λ (o : Outcome (List ℕ)). andThen o (completeSets n)) (check-said a f) ∙ go (checkedSets n sets)
+    where
+      go : (o : Outcome (List ℕ)) → andThen o (completeSets n) ≡ andThen (andThen o withinCoreLimit) (λ table. result (withCores n table))
+      go (refused r) = refl
+      go (result l) = refl
 
 -- a table's sets, as a part of its array from the start on
 pub first-taken : (t : Table) → take (t .count - 0) (t .sets) ≡ setsOf t
@@ -79,19 +117,8 @@ unfolding isEmpty
 some-elements [] ne = absurd (ne refl)
 some-elements (x ∷ l) ne = refl
 
--- ---- tables from a file
+-- ---- nothing behind, or something
 
-pub cores-accepted : (t : ReadTable) → andThen (completeSets (t .n) (t .sets)) (λ table. result (record { table = table; rest = t .rest })) ≡ andThen (accepted t) readWithCores
-unfolding completeSets accepted readWithCores
-cores-accepted t = go (withinCoreLimit (t .sets))
-  where
-    go : (o : Outcome (List ℕ))
-        → andThen (andThen o (λ table. result (withCores (t .n) table))) (λ table. result (record { table = table; rest = t .rest }))
-        ≡ andThen (andThen o (λ table. result (record { n = t .n; sets = table; rest = t .rest }))) readWithCores
-    go (refused r) = refl
-    go (result table) = refl
-
--- nothing behind, or something
 pub rest-none : (s : List ℕ) (k : ℕ) → length s ≤ k → isEmpty (drop k s) ≡ true
 rest-none s k h = no-elements (drop k s) (omega (arith, length-drop k s))
 

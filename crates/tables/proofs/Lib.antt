@@ -1,5 +1,3 @@
 -- What the functions' proofs share.
 pub mod Accepts
 pub mod Completes
-pub mod Steps
-pub mod Writes

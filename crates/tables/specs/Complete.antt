@@ -1,14 +1,21 @@
 -- A normal table with its cores, and what an answer with both says.
+use mathlib.Core.Path.{_≡_}
 use mathlib.Core.List.{List}
 use Prim.Native.Nat.{ℕ, _≤_}
-use lib.ListN.{length, take, drop}
-use Rattle.drive_sets.specs.Refusals.{Outcome, result, andThen, outcomeOf}
+use lib.Dec.{ltb}
+use lib.ListN.{length, take, replicate}
+use Rattle.drive_sets.specs.declared.Answer.the-variants.{Refused}
+use Rattle.drive_sets.specs.declared.Refusal.{Refusal}
+use Rattle.drive_sets.specs.declared.Refusal.the-variants.{TooManyCores}
+use Rattle.drive_sets.specs.Refusals.{Outcome, result, refuseIf, andThen, outcomeOf}
 use Rattle.tables.specs.declared.completing.TableWithCores.{TableWithCores}
-use Rattle.tables.specs.declared.files.TableFile.{TableFile}
 use Rattle.drive_sets.specs.Limits.{maxSets, maxCores}
 use Rattle.tables.specs.Tables.{cores, withinCoreLimit, normalTable}
-use Rattle.tables.specs.Files.{ReadTable, readTable, readWhole}
-use Rattle.tables.specs.Reading.{setsOf}
+use Rattle.tables.specs.declared.frames.Table.{Table}
+
+-- the sets of a table as it is held: the first `count` of its array
+unfoldable pub setsOf : Table → List ℕ
+setsOf t = take (t .count) (t .sets)
 
 pub record Complete : Type 0 where
   pub n : ℕ
@@ -18,6 +25,10 @@ pub record Complete : Type 0 where
 -- a normal table, and its cores
 unfoldable pub withCores : ℕ → List ℕ → Complete
 withCores n table = record { n = n; sets = table; cores = cores table }
+
+-- the same where there are at most 1024; else 13
+unfoldable pub fewCores : ℕ → List ℕ → Outcome Complete
+fewCores n table = refuseIf (ltb maxCores (length (cores table))) TooManyCores (result (withCores n table))
 
 -- the normal table of some sets, with its cores; 13 where there are more than 1024
 unfoldable pub completeSets : ℕ → List ℕ → Outcome Complete
@@ -31,33 +42,13 @@ completeTable n sets = andThen (normalTable n sets) (λ table. result (withCores
 unfoldable pub completeOutcome : TableWithCores → Outcome Complete
 completeOutcome r = outcomeOf (r .answer) (record { n = r .table .n; sets = setsOf (r .table); cores = take (r .found) (r .cores) })
 
--- its counts stay within the arrays
-pub record CompleteWithin (r : TableWithCores) : Type 0 where
-  pub sets : r .table .count ≤ maxSets
-  pub cores : r .found ≤ maxCores
+-- the answer with a refusal, and zeros
+unfoldable pub refusedTable : Refusal → TableWithCores
+refusedTable r =
+    record { answer = Refused r; table = record { n = 0; count = 0; sets = replicate maxSets 0 }; found = 0; cores = replicate maxCores 0 }
 
--- ---- tables from a file, with their cores
-
--- what is read: the table with its cores, and the bytes after EN
-pub record ReadComplete : Type 0 where
-  pub table : Complete
-  pub rest : List ℕ
-
-unfoldable pub readWithCores : ReadTable → Outcome ReadComplete
-readWithCores t = result (record { table = withCores (t .n) (t .sets); rest = t .rest })
-
--- with more behind it, and nothing more
-unfoldable pub readComplete : List ℕ → Outcome ReadComplete
-readComplete s = andThen (readTable s) readWithCores
-
-unfoldable pub readWholeComplete : List ℕ → Outcome ReadComplete
-readWholeComplete s = andThen (readWhole s) readWithCores
-
--- what a reader's answer says of the bytes s
-unfoldable pub fileOutcome : TableFile → List ℕ → Outcome ReadComplete
-fileOutcome r s = andThen (completeOutcome (r .complete)) (λ table. result (record { table = table; rest = drop (r .used) s }))
-
--- its counts stay within the arrays and the bytes s
-pub record FileWithin (r : TableFile) (s : List ℕ) : Type 0 where
-  pub complete : CompleteWithin (r .complete)
-  pub bytes : r .used ≤ length s
+-- an answer's counts stay within the arrays, and a refusal is its number alone: all else is zero
+pub record CompleteWithin (t : TableWithCores) : Type 0 where
+  pub sets : t .table .count ≤ maxSets
+  pub cores : t .found ≤ maxCores
+  pub alone : (r : Refusal) → t .answer ≡ Refused r → t ≡ refusedTable r

@@ -1,6 +1,4 @@
--- Tables given as n and sets, tables as bytes, and reading as the code does it.
+-- Tables given as n and sets, with their cores, and what the answers of the calls say.
 pub mod Tables
-pub mod Files
-pub mod Reading
 pub mod Complete
 pub mod Answers

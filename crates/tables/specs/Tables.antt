@@ -1,13 +1,14 @@
 -- Survivor tables, their cores and the way back, and the calls that are given n and sets.
 -- A frame is a system of n drives; a survivor set is a set of drives that may be the ones that stay up; a core is a minimal hitting set of
 -- the survivor sets (Junqueira and Marzullo).
+use mathlib.Core.Path.{_≡_}
 use mathlib.Core.Bool.{Bool, true, false, not, _&&_}
 use mathlib.Core.List.{List, [], _∷_}
-use Prim.Native.Nat.{ℕ}
+use Prim.Native.Nat.{ℕ, _≤_}
 use lib.Dec.{eqb, leb, ltb}
 use lib.ListN.{length, getD}
 use Rattle.drive_sets.specs.declared.Refusal.the-variants.{WrongMark, FrameSize, BadSet, TooManySets, TooManyCores}
-use Rattle.drive_sets.specs.Lists.{all}
+use Rattle.drive_sets.specs.Lists.{all, elem}
 use Rattle.drive_sets.specs.Masks.{full, subset}
 use Rattle.drive_sets.specs.Refusals.{Outcome, result, refuseIf, andThen}
 use Rattle.hitting_sets.specs.Hitting.{hits, minimals}
@@ -48,13 +49,28 @@ withinCoreLimit sets = refuseIf (ltb maxCores (length (cores (normal sets)))) To
 
 -- ---- the calls given n and sets: 3, 2, 5, then 4 set by set, then 13
 
-unfoldable pub normalTable : ℕ → List ℕ → Outcome (List ℕ)
-normalTable n sets =
+-- what n and sets meet before the cores are looked for; the sets where they meet nothing
+unfoldable pub checkedSets : ℕ → List ℕ → Outcome (List ℕ)
+checkedSets n sets =
     refuseIf (not (isFrame n)) FrameSize
     (refuseIf (isEmpty sets) WrongMark
     (refuseIf (ltb maxSets (length sets)) TooManySets
     (refuseIf (not (all (isSet n) sets)) BadSet
-    (withinCoreLimit sets))))
+    (result sets))))
+
+-- the normal table
+unfoldable pub normalTable : ℕ → List ℕ → Outcome (List ℕ)
+unfolding checkedSets
+normalTable n sets = andThen (checkedSets n sets) withinCoreLimit
+
+-- n and sets that meet no refusal
+pub record Accepted (n : ℕ) (sets : List ℕ) : Type 0 where
+  pub low : 1 ≤ n
+  pub high : n ≤ maxDrives
+  pub some : 1 ≤ length sets
+  pub most : length sets ≤ maxSets
+  pub good : (s : ℕ) → elem s sets ≡ true → isSet n s ≡ true
+  pub few-cores : length (cores (normal sets)) ≤ maxCores
 
 unfoldable pub coreList : ℕ → List ℕ → Outcome (List ℕ)
 coreList n sets = andThen (normalTable n sets) (λ table. result (cores table))

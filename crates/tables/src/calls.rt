@@ -1,15 +1,13 @@
 // The calls given n and sets or groups: the chosen core, whether some drives meet every set, and Back.
 ghost use mathlib.Core.Path.{_≡_};
-ghost use Prim.Native.Nat.{_≤_};
 ghost use Rattle.drive_sets.specs.Refusals.{refused, number};
 ghost use Rattle.hitting_sets.specs.Hitting.{hits};
-ghost use Rattle.drive_sets.specs.Limits.{maxSets};
 ghost use Rattle.tables.specs.Tables.{chosenCore, meetsEvery, survivorSets};
-ghost use Rattle.tables.specs.Answers.{chosenOutcome, meetingOutcome, listOutcome};
+ghost use Rattle.tables.specs.Answers.{chosenOutcome, meetingOutcome, listOutcome, ListWithin};
 use crate::completing;
 use crate::completing::all_sets;
-use crate::reading::is_frame;
-use crate::reading::is_set;
+use crate::frames::is_frame;
+use crate::frames::is_set;
 use drive_sets::Answer;
 use drive_sets::Refusal;
 use hitting_sets::missed::first_missed;
@@ -77,7 +75,7 @@ pub fn meets_every(n: u8, sets: &[u64], group: u64) -> Meeting
 
 fn no_list(r: Refusal) -> SetList
     ensures { λ t. ⌜ listOutcome t ≡ refused (number r) ⌝ }
-    ensures within { λ t. ⌜ t .count ≤ maxSets ⌝ }
+    ensures within { λ t. ⌜ ListWithin t ⌝ }
 {
     SetList {
         answer: Answer::Refused(r),
@@ -89,7 +87,7 @@ fn no_list(r: Refusal) -> SetList
 // Back: the smallest groups that meet each of the groups. 3, 13, 4, 5.
 pub fn survivor_sets(n: u8, groups: &[u64]) -> SetList
     ensures { λ r. ⌜ listOutcome r ≡ survivorSets n (now (groups .entry)) ⌝ }
-    ensures within { λ r. ⌜ r .count ≤ maxSets ⌝ }
+    ensures within { λ r. ⌜ ListWithin r ⌝ }
 {
     if !is_frame(n) {
         return no_list(Refusal::FrameSize);

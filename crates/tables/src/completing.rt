@@ -2,19 +2,19 @@
 ghost use mathlib.Core.Path.{_≡_};
 ghost use Prim.Native.Nat.{_≤_};
 ghost use lib.ListN.{length};
-ghost use Rattle.tables.specs.Complete.{completeSets, completeTable, completeOutcome, CompleteWithin};
+ghost use Rattle.tables.specs.Complete.{fewCores, completeSets, completeTable, completeOutcome, CompleteWithin, setsOf};
 ghost use Rattle.drive_sets.specs.Limits.{maxSets};
-ghost use Rattle.tables.specs.Tables.{isSet};
+ghost use Rattle.tables.specs.Tables.{isSet, checkedSets};
 ghost use Rattle.drive_sets.specs.Lists.{all};
-ghost use Rattle.tables.specs.Reading.{setsOf};
-ghost use Rattle.drive_sets.specs.Refusals.{refused, number};
-use crate::reading::Table;
-use crate::reading::is_frame;
-use crate::reading::is_set;
+ghost use Rattle.drive_sets.specs.Refusals.{refused, number, outcomeOf};
+use crate::frames::Table;
+use crate::frames::is_frame;
+use crate::frames::is_set;
 use drive_sets::Answer;
 use drive_sets::Refusal;
 use set_orders::MAX_CORES;
 use set_orders::MAX_SETS;
+use set_orders::normal_form::NormalForm;
 use set_orders::sorting::Order;
 
 // A normal table with its cores, the first `found` of the array, where it is accepted.
@@ -25,7 +25,8 @@ pub struct TableWithCores {
     pub cores: [u64; MAX_CORES],
 }
 
-pub(crate) fn refused(r: Refusal) -> TableWithCores
+// The answer that is this refusal, and nothing else.
+pub fn refused(r: Refusal) -> TableWithCores
     ensures { λ t. ⌜ completeOutcome t ≡ refused (number r) ⌝ }
     ensures within { λ t. ⌜ CompleteWithin t ⌝ }
 {
@@ -41,32 +42,22 @@ pub(crate) fn refused(r: Refusal) -> TableWithCores
     }
 }
 
-// The normal table of at most 128 sets and its cores; 13 where there are more than 1024.
-fn complete_sets(n: u8, sets: &[u64]) -> TableWithCores
-    requires { ⌜ length (now sets) ≤ maxSets ⌝ }
-    ensures { λ r. ⌜ completeOutcome r ≡ completeSets n (now (sets .entry)) ⌝ }
+// A normal table with its cores; 13 where there are more than 1024.
+fn with_cores(table: Table) -> TableWithCores
+    requires { ⌜ table .count ≤ maxSets ⌝ }
+    ensures { λ r. ⌜ completeOutcome r ≡ fewCores (table .n) (setsOf table) ⌝ }
     ensures within { λ r. ⌜ CompleteWithin r ⌝ }
 {
-    let mut normal = [0u64; MAX_SETS];
-    let count = set_orders::normal_form::normal(sets, &mut normal);
+    let count = table.count;
+    let sets = table.sets;
     let mut cores = [0u64; MAX_CORES];
     let found = core_search::finding::minimal_hitting_sets(
         Order::BySize,
-        &normal[0..count],
+        &sets[0..count],
         &mut cores,
     );
-    let table = Table {
-        n,
-        count,
-        sets: normal,
-    };
     if MAX_CORES < found {
-        return TableWithCores {
-            answer: Answer::Refused(Refusal::TooManyCores),
-            table,
-            found: 0,
-            cores,
-        };
+        return refused(Refusal::TooManyCores);
     }
     TableWithCores {
         answer: Answer::Accepted,
@@ -76,16 +67,22 @@ fn complete_sets(n: u8, sets: &[u64]) -> TableWithCores
     }
 }
 
-// The same of the sets listed in an array.
-pub(crate) fn complete(t: Table) -> TableWithCores
-    requires { ⌜ t .count ≤ maxSets ⌝ }
-    ensures { λ r. ⌜ completeOutcome r ≡ completeSets (t .n) (setsOf t) ⌝ }
+// The normal table of at most 128 sets and its cores; 13 where there are more than 1024.
+fn complete_sets(n: u8, sets: &[u64]) -> TableWithCores
+    requires { ⌜ length (now sets) ≤ maxSets ⌝ }
+    ensures { λ r. ⌜ completeOutcome r ≡ completeSets n (now (sets .entry)) ⌝ }
     ensures within { λ r. ⌜ CompleteWithin r ⌝ }
 {
-    let n = t.n;
-    let count = t.count;
-    let sets = t.sets;
-    complete_sets(n, &sets[0..count])
+    let mut normal = [0u64; MAX_SETS];
+    let form = set_orders::normal_form::normal(sets, &mut normal);
+    match form {
+        NormalForm::Refused(r) => refused(r),
+        NormalForm::Sets(count) => with_cores(Table {
+            n,
+            count,
+            sets: normal,
+        }),
+    }
 }
 
 // Each is a set of the frame.
@@ -102,22 +99,33 @@ pub(crate) fn all_sets(n: u8, sets: &[u64]) -> bool
     true
 }
 
+// What n and sets meet before the cores are looked for: 3, 2, 5, then 4 set by set.
+pub fn check_sets(n: u8, sets: &[u64]) -> Answer
+    ensures { λ r. ⌜ outcomeOf r (now (sets .entry)) ≡ checkedSets n (now (sets .entry)) ⌝ }
+{
+    if !is_frame(n) {
+        return Answer::Refused(Refusal::FrameSize);
+    }
+    if sets.len() == 0 {
+        return Answer::Refused(Refusal::WrongMark);
+    }
+    if MAX_SETS < sets.len() {
+        return Answer::Refused(Refusal::TooManySets);
+    }
+    if !all_sets(n, sets) {
+        return Answer::Refused(Refusal::BadSet);
+    }
+    Answer::Accepted
+}
+
 // The normal table of n drives and some sets, with its cores: 3, 2, 5, 4, 13.
 pub fn accept(n: u8, sets: &[u64]) -> TableWithCores
     ensures { λ r. ⌜ completeOutcome r ≡ completeTable n (now (sets .entry)) ⌝ }
     ensures within { λ r. ⌜ CompleteWithin r ⌝ }
 {
-    if !is_frame(n) {
-        return refused(Refusal::FrameSize);
+    let checked = check_sets(n, sets);
+    match checked {
+        Answer::Refused(r) => refused(r),
+        Answer::Accepted => complete_sets(n, sets),
     }
-    if sets.len() == 0 {
-        return refused(Refusal::WrongMark);
-    }
-    if MAX_SETS < sets.len() {
-        return refused(Refusal::TooManySets);
-    }
-    if !all_sets(n, sets) {
-        return refused(Refusal::BadSet);
-    }
-    complete_sets(n, sets)
 }

@@ -1,6 +1,4 @@
-// Survivor tables: reading, writing, cores and the way back.
+// Survivor tables given as n and sets: the normal table, its cores and the way back.
 pub mod calls;
 pub mod completing;
-pub mod files;
-pub mod reading;
-pub mod writing;
+pub mod frames;

@@ -1,17 +1,15 @@
--- What the code's values say: a verdict in the arrays of an answer and back, what the search found, and the bounds within which the
--- arrays hold a verdict.
-use mathlib.Core.Bool.{Bool, true, false, _&&_, cond}
+-- What the code's values say: a verdict in the arrays of an answer and back, and what the search found.
+use mathlib.Core.Bool.{true, false, cond}
 use mathlib.Core.List.{List, [], _∷_, _++_}
 use mathlib.Core.Option.{Option, some, none}
 use Prim.Native.Nat.{ℕ, suc}
-use lib.Dec.{leb, ltb}
-use lib.ListN.{length, take}
+use lib.Dec.{ltb}
+use lib.ListN.{take}
 use Rattle.drive_sets.specs.Refusals.{Outcome, refused, result, outcomeOf}
 use Rattle.verdicts.specs.declared.Named.{Named}
 use Rattle.verdicts.specs.declared.calls.Judgement.{Judgement}
 use Rattle.verdicts.specs.declared.Verdict.{Verdict as Answer}
-use Rattle.verdicts.specs.Verdicts.{Verdict, yes, no, verdictOn}
-use Rattle.drive_sets.specs.Limits.{maxSets}
+use Rattle.verdicts.specs.Verdicts.{Verdict, yes, no}
 
 -- the verdict on k that an answer holds: yes, or no with the first k positions and blocks
 unfoldable pub verdictOf : Answer → ℕ → Verdict
@@ -39,19 +37,11 @@ foundIn (some ps) = record { any = true; positions = inFour ps }
 unfoldable pub foundAt : ℕ → ℕ → Option (List ℕ)
 foundAt place sets = cond (ltb place sets) (some (suc place ∷ [])) none
 
--- what the arrays can hold: k 2 to 4, and at most 128 sets
-unfoldable pub fits : ℕ → ℕ → Bool
-fits k sets = leb 2 k && (leb k 4 && leb sets maxSets)
-
--- The verdict on a normal table, within these bounds; yes outside them, where the call refuses with 12 or 5.
-unfoldable pub verdictWithin : ℕ → ℕ → List ℕ → Verdict
-verdictWithin k n table = cond (fits k (length table)) (verdictOn k n table) yes
-
--- what the answer of the call on k says
+-- what the answer of a call on k says
 unfoldable pub judgementOf : Judgement → ℕ → Outcome Verdict
 judgementOf j k = outcomeOf (j .answer) (verdictOf (j .verdict) k)
 
--- and what its arrays hold: the verdict, or those of a yes beside a refusal
+-- and what its arrays hold: the verdict, or zeros beside a refusal
 unfoldable pub heldIn : Outcome Verdict → Answer
-heldIn (refused r) = answerOf yes
+heldIn (refused r) = withBlocks (inFour []) []
 heldIn (result v) = answerOf v

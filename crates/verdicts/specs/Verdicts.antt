@@ -9,7 +9,7 @@ use lib.ListN.{getD}
 use Rattle.drive_sets.specs.declared.Refusal.the-variants.{BlockCount}
 use Rattle.drive_sets.specs.Masks.{full, union, common, outside}
 use Rattle.drive_sets.specs.Refusals.{Outcome, result, refuseIf, andThen}
-use Rattle.tables.specs.Tables.{normalTable}
+use Rattle.tables.specs.Tables.{checkedSets, normalTable}
 pub mod Search
 pub mod Firsts
 pub mod Intersection
@@ -66,3 +66,9 @@ unfoldable pub verdict : ℕ → ℕ → List ℕ → Outcome Verdict
 verdict k n sets =
     refuseIf (not (leb 2 k && leb k 4)) BlockCount
     (andThen (normalTable n sets) (λ table. result (verdictOn k n table)))
+
+-- the call given a normal table, for which the cores are not looked for: 12, then 3, 2, 5, 4
+unfoldable pub verdictGiven : ℕ → ℕ → List ℕ → Outcome Verdict
+verdictGiven k n table =
+    refuseIf (not (leb 2 k && leb k 4)) BlockCount
+    (andThen (checkedSets n table) (λ sets. result (verdictOn k n sets)))

@@ -1,11 +1,12 @@
-// The verdict call given n and sets: 12, then the table's refusals.
+// The verdict calls: given n and sets, 12 and then the table's refusals; and given a normal table, 12 and then what
+// needs no search for cores.
 ghost use mathlib.Core.Path.{_≡_};
 ghost use mathlib.Core.Bool.{_&&_};
 ghost use Prim.Native.Nat.{ℕ, _≤_};
 ghost use lib.Dec.{leb};
 ghost use lib.ListN.{length};
 ghost use Rattle.drive_sets.specs.Refusals.{refused, result, number};
-ghost use Rattle.verdicts.specs.Verdicts.{verdictOn, verdict};
+ghost use Rattle.verdicts.specs.Verdicts.{verdictOn, verdict, verdictGiven};
 ghost use Rattle.verdicts.specs.Held.{judgementOf, heldIn};
 ghost use Rattle.drive_sets.specs.Limits.{maxSets};
 use crate::MAX_BLOCKS;
@@ -34,14 +35,14 @@ fn refused(r: Refusal) -> Judgement
     Judgement {
         answer: Answer::Refused(r),
         verdict: Verdict {
-            shared: true,
+            shared: false,
             positions: [0u8; 4],
             blocks: [0u64; 4],
         },
     }
 }
 
-// The verdict on a normal table, as the answer of the call.
+// The verdict on a normal table, as the answer of a call.
 fn on_normal(k: u8, n: u8, table: &[u64]) -> Judgement
     requires { ⌜ (2 ≤ k) × (k ≤ 4) × (length (now table) ≤ maxSets) ⌝ }
     ensures says { λ j. ⌜ judgementOf j k ≡ result (verdictOn k n (now (table .entry))) ⌝ }
@@ -49,7 +50,7 @@ fn on_normal(k: u8, n: u8, table: &[u64]) -> Judgement
 {
     Judgement {
         answer: Answer::Accepted,
-        verdict: crate::verdict_on(k, n, table),
+        verdict: crate::find_verdict(k, n, table),
     }
 }
 
@@ -69,5 +70,21 @@ pub fn judge(k: u8, n: u8, sets: &[u64]) -> Judgement
     match answer {
         Answer::Refused(r) => refused(r),
         Answer::Accepted => on_normal(k, n, &normal[0..count]),
+    }
+}
+
+// The verdict on k of a table of n drives whose sets are the normal table's: 12, 3, 2, 5, 4. For a caller who has the
+// cores already, since they are not looked for.
+pub fn verdict_on(k: u8, n: u8, table: &[u64]) -> Judgement
+    ensures says { λ j. ⌜ judgementOf j k ≡ verdictGiven k n (now (table .entry)) ⌝ }
+    ensures whole { λ j. ⌜ j .verdict ≡ heldIn (verdictGiven k n (now (table .entry))) ⌝ }
+{
+    if !is_block_count(k) {
+        return refused(Refusal::BlockCount);
+    }
+    let checked = tables::completing::check_sets(n, table);
+    match checked {
+        Answer::Refused(r) => refused(r),
+        Answer::Accepted => on_normal(k, n, table),
     }
 }

@@ -6,11 +6,10 @@ ghost use mathlib.Core.Option.{none};
 ghost use Prim.Native.Nat.{ℕ, suc, _≤_};
 ghost use lib.ListN.{length, take, drop};
 ghost use Rattle.drive_sets.specs.Lists.{elem};
-ghost use Rattle.verdicts.specs.Verdicts.{setsAt, disjoint, blocksOf};
+ghost use Rattle.verdicts.specs.Verdicts.{setsAt, disjoint, blocksOf, verdictOn};
 ghost use Rattle.verdicts.specs.Meaning.{inEvery};
-ghost use Rattle.verdicts.specs.Held.{verdictOf, answerOf, withBlocks, foundIn, foundAt, fits, verdictWithin};
+ghost use Rattle.verdicts.specs.Held.{verdictOf, answerOf, withBlocks, foundIn, foundAt};
 ghost use Rattle.drive_sets.specs.Limits.{maxSets};
-use set_orders::MAX_SETS;
 
 pub mod calls;
 
@@ -135,33 +134,18 @@ fn in_every(table: &[u64], shared: u64) -> u64
     common
 }
 
-// What the arrays can hold: k 2 to 4, and a table's most sets.
-fn fits(k: u8, sets: usize) -> bool
-    ensures { λ r. ⌜ r ≡ fits k sets ⌝ }
-{
-    if k < MIN_BLOCKS {
-        return false;
-    }
-    if MAX_BLOCKS < k {
-        return false;
-    }
-    sets <= MAX_SETS
-}
-
 // The verdict on a normal table. A drive that every set has is in any k of them, so there is nothing to search for.
-// The call given n and sets, with its refusals, is `calls::judge`.
-pub fn verdict_on(k: u8, n: u8, table: &[u64]) -> Verdict
-    ensures says { λ r. ⌜ verdictOf r k ≡ verdictWithin k n (now (table .entry)) ⌝ }
-    ensures whole { λ r. ⌜ r ≡ answerOf (verdictWithin k n (now (table .entry))) ⌝ }
+pub(crate) fn find_verdict(k: u8, n: u8, table: &[u64]) -> Verdict
+    requires { ⌜ (2 ≤ k) × (k ≤ 4) × (length (now table) ≤ maxSets) ⌝ }
+    ensures says { λ r. ⌜ verdictOf r k ≡ verdictOn k n (now (table .entry)) ⌝ }
+    ensures whole { λ r. ⌜ r ≡ answerOf (verdictOn k n (now (table .entry))) ⌝ }
 {
-    if fits(k, table.len()) {
-        let frame = drive_sets::full(n);
-        if in_every(table, frame) == 0 {
-            let found = disjoint(k, table, 0, frame);
-            if found.any {
-                let positions = found.positions;
-                return no_at(k, n, table, positions);
-            }
+    let frame = drive_sets::full(n);
+    if in_every(table, frame) == 0 {
+        let found = disjoint(k, table, 0, frame);
+        if found.any {
+            let positions = found.positions;
+            return no_at(k, n, table, positions);
         }
     }
     Verdict {

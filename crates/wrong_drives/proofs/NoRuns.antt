@@ -13,7 +13,7 @@ use Rattle.drive_sets.specs.Refusals.Laws.{refused-no-result}
 use Rattle.drive_states.specs.declared.Exchange.{Exchange}
 use Rattle.agreement.specs.Calls.{initial}
 use Rattle.agreement.specs.Calls.Evaluated.{evaluated}
-use Rattle.agreement.proofs.CallLaws.{opened-initial}
+use Rattle.agreement.proofs.CallLaws.{opening-same-table, opened-initial}
 use Rattle.runs.specs.World.{Call, opens, sends, delivers, closes, driveOf, Slot, unopened, opened, World, nothingOpen, afterCall, apply, applyAll, refusedIn, active}
 use Rattle.runs.specs.World.Laws.{Gives, by-opening, by-message, by-close, put-same, call-keeps}
 use Rattle.runs.specs.Scenario.{frame, coreOf, goneBefore, sendsNone}
@@ -42,7 +42,7 @@ stays-on w c d h = call-keeps neverRoom On w c d h (λ y g. given-on g)
 
 due-on : (done : ℕ → Bool) (w : World) (c : Call) → Opens pair done c 1 → On (apply neverRoom w c 1)
 unfolding evaluated apply afterCall active
-due-on done w c o = rw (o .is) (ap active (put-same w 1 _))
+due-on done w c o = rw (o .is) (ap active (put-same w 1 _) ∙ rw (opening-same-table 2 (o .listing) (pair .sets) 1 7 (o .table ∙ sym (pair-valid .accepted))) refl)
 
 opening-on-all : (done : ℕ → Bool) (w : World) (cs : List Call) → (done 1 ≡ true → On (w 1)) → openingPart neverRoom pair done w cs ≡ true
     → On (applyAll neverRoom w cs 1)

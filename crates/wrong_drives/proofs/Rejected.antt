@@ -9,7 +9,7 @@ use Rattle.drive_states.specs.Messages.{decided, knownOf, messageBytes, longest
 use Rattle.runs.specs.World.{Call, opens, sends, delivers, closes, driveOf, nothingOpen, put, afterCall, onState, apply, applyAll, isRefused, refusedBy, refusedIn, active, decisionOf}
 use Rattle.runs.specs.Scenario.{frame, coreOf, goneBefore, goneBy, sendsNone}
 use Rattle.agreement.specs.Sends.{listOf, cut, reach}
-use Rattle.runs.specs.Runs.{sameList, dueOpening, openingPart, nothingYet, isCalled, wroteJust, settled, sendingOf, sentBy, lacksRoom, sender, closer, undelivered, arrived, complete, due, noted, roundPart, roundParts, joined}
+use Rattle.runs.specs.Runs.{sameList, isTable, dueOpening, openingPart, nothingYet, isCalled, wroteJust, settled, sendingOf, sentBy, lacksRoom, sender, closer, undelivered, arrived, complete, due, noted, roundPart, roundParts, joined}
 use Rattle.runs.specs.Statement.{Agreement}
 use Rattle.wrong_drives.proofs.Refuting.{numberOn, Parts, undecided-refutes, apart-refutes}
 use Rattle.wrong_drives.specs.Scenarios.{proposals, pair, halfGone, listened}
@@ -18,11 +18,12 @@ use Rattle.wrong_drives.specs.Wrong.{with, decideOwn, ownNumber, ownAtOn
 
 -- all that a run computes with
 unfoldable pub runs : Unit {0}
-unfolding evaluated elem driveOf nothingOpen put afterCall onState apply applyAll isRefused refusedBy refusedIn active decisionOf frame coreOf goneBefore goneBy sendsNone listOf cut reach sameList dueOpening openingPart nothingYet isCalled wroteJust settled sendingOf sentBy lacksRoom sender closer undelivered arrived complete due noted roundPart roundParts joined numberOn with listenersFirst decideOwn openHalted closeFirst closeTwo
+unfolding evaluated elem driveOf nothingOpen put afterCall onState apply applyAll isRefused refusedBy refusedIn active decisionOf frame coreOf goneBefore goneBy sendsNone listOf cut reach sameList isTable dueOpening openingPart nothingYet isCalled wroteJust settled sendingOf sentBy lacksRoom sender closer undelivered arrived complete due noted roundPart roundParts joined numberOn with listenersFirst decideOwn openHalted closeFirst closeTwo
 runs = tt
 
+-- both from one table; for drive 2 it is listed in another order, and with a set that holds another
 abbrev openings : List Call
-openings = opens 1 2 (1 ∷ 2 ∷ []) 1 7 ∷ opens 2 2 (1 ∷ 2 ∷ []) 2 5 ∷ []
+openings = opens 1 2 (1 ∷ 2 ∷ []) 1 7 ∷ opens 2 2 (2 ∷ 3 ∷ 1 ∷ []) 2 5 ∷ []
 
 -- a round in which both send, both are told, and both close
 abbrev roundOf : List ℕ → List ℕ → List Call

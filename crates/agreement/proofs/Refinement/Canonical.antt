@@ -22,7 +22,7 @@ use Rattle.runs.specs.Scenario.Laws.{frame-distinct}
 use Rattle.agreement.specs.Document01.{apply, applyAll, refusedIn, openingPart, sendingOf, roundParts, Run}
 use Rattle.runs.specs.Runs.{dueOpening, sender}
 use Rattle.runs.specs.Runs as anyRuns
-use Rattle.runs.specs.Runs.Laws.{sameList-refl}
+use Rattle.runs.specs.Runs.Laws.{is-table}
 use Rattle.agreement.specs.Instance.{instanceOf}
 use Rattle.agreement.specs.Canonical.{room, openingCalls, roundCalls, roundsFrom, canonicalRounds, canonical}
 use Rattle.runs.specs.Statement.{Valid}
@@ -37,14 +37,14 @@ use Rattle.agreement.proofs.Refinement.CanonicalRounds.{round-canonical
 
 -- ---- the openings
 
-module _ (s : Scenario) where
+module _ {s : Scenario} (ok : Valid s) where
   abbrev openingOf : ℕ → Call
   openingOf d = opens d (s .n) (s .sets) d (s .proposal d)
 
   opening-due : (done : ℕ → Bool) (a : ℕ) → elem a (frame s) ≡ true → done a ≡ false → dueOpening s done (openingOf a) ≡ true
   unfolding dueOpening frame
   opening-due done a i n =
-      and-intro (and-intro (and-intro (and-intro (and-intro (isDrive-range (s .n) a ∙ i) (ap not n)) (eq-eqb (s .n) (s .n) refl)) (sameList-refl (s .sets)))
+      and-intro (and-intro (and-intro (and-intro (and-intro (isDrive-range (s .n) a ∙ i) (ap not n)) (eq-eqb (s .n) (s .n) refl)) (is-table (ok .accepted)))
       (eq-eqb a a refl)) (eq-eqb (s .proposal a) (s .proposal a) refl)
 
   -- where those of the list are still to come
@@ -96,7 +96,7 @@ module _ {s : Scenario} (ok : Valid s) where
   pub canonical-parts : roundParts s 1 (applyAll nothingOpen (openingCalls s)) (canonicalRounds s) ≡ true
   unfolding canonicalRounds
   canonical-parts =
-      rounds-canonical (size (coreOf s)) 0 (applyAll nothingOpen (openingCalls s)) (omega arith) (opening-begins ok (openingCalls s) (openings-canonical s))
+      rounds-canonical (size (coreOf s)) 0 (applyAll nothingOpen (openingCalls s)) (omega arith) (opening-begins ok (openingCalls s) (openings-canonical ok))
 
   pub canonical-run : Run s (canonical s)
   unfolding canonical
@@ -105,6 +105,6 @@ module _ {s : Scenario} (ok : Valid s) where
     rounds = canonicalRounds s;
     whole = refl;
     many = canonical-many;
-    opensAll = openings-canonical s;
+    opensAll = openings-canonical ok;
     keepsRounds = canonical-parts;
   }

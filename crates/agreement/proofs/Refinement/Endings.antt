@@ -106,7 +106,7 @@ module _ {s : Scenario} (ok : Valid s) {d : ℕ} (u : Up s d) where
 
   canonical-ending : canonicalEnding s d ≡ endingOf s (s .crash d) d
   canonical-ending =
-      parts-give (canonicalRounds s) 0 (applyAll nothingOpen (openingCalls s)) (opening-begins ok (openingCalls s) (openings-canonical s))
+      parts-give (canonicalRounds s) 0 (applyAll nothingOpen (openingCalls s)) (opening-begins ok (openingCalls s) (openings-canonical ok))
       (omega (arith, canonical-many ok)) (canonical-parts ok)
       ∙ (ap (endingFrom (instanceOf s) d 0) (canonical-many ok) ∙ sym ending-up)
 

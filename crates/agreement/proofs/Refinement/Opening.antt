@@ -17,7 +17,7 @@ use Rattle.drive_states.specs.declared.Decision.the-variants.{Undecided}
 use Rattle.drive_states.specs.State.{pattern}
 use Rattle.drive_sets.specs.Counts.Laws.{isDrive-range}
 use Rattle.agreement.specs.Calls.{initial, opening, decisionOn}
-use Rattle.agreement.proofs.CallLaws.{opening-accepted}
+use Rattle.agreement.proofs.CallLaws.{opening-accepted, opening-same-table}
 use Rattle.sync_crash.specs.Rounds.{InFrame, start, after, decision}
 use Rattle.runs.specs.World.{Call, driveOf, opened, World, nothingOpen, afterCall, decisionOf}
 use Rattle.agreement.specs.Document01.{document01, apply, applyAll, refusedIn, openingPart}
@@ -85,10 +85,11 @@ module _ {s : Scenario} (ok : Valid s) where
   abbrev AreOpen : (ℕ → Bool) → World → Type 0
   AreOpen done w = (d : ℕ) → InFrame (instanceOf s) d → done d ≡ true → w d ≡ opened (stateOf (instanceOf s) 0 d (λ x. false))
 
-  -- a due opening is the one that the scenario asks for
+  -- a due opening is the one that the scenario asks for, whatever the listing
   due-opened : (done : ℕ → Bool) (w : World) (c : Call) (d : ℕ) → InFrame (instanceOf s) d → Opens s done c d → apply w c d ≡ opened (stateOf (instanceOf s) 0 d (λ x. false))
   unfolding worlds.apply afterCall
-  due-opened done w c d f o = rw (o .is) (put-same w d _ ∙ rw (opening-state d f) refl)
+  due-opened done w c d f o =
+      rw (o .is) (put-same w d _ ∙ rw (opening-same-table (s .n) (o .listing) (s .sets) d (s .proposal d) (o .table ∙ sym (ok .accepted)), opening-state d f) refl)
 
   call-opens : (done : ℕ → Bool) (w : World) (c : Call) → AreOpen done w → (dueOpening s done c || refusedIn w c) ≡ true → AreOpen (doneAfter s done c) (apply w c)
   call-opens done w c g t y f h =

@@ -1,15 +1,12 @@
 -- First parts of lists: what stands in one stands in the list, and a first part of two lists one after the other that gets into the second
--- has all of the first; what stands at a place of a list is in it. And what is kept by two tests, and kept first,
--- and what stands behind a front.
+-- has all of the first; what stands at a place of a list is in it. And what is kept by two tests, and kept first.
 use mathlib.Core.Path.{_≡_, refl, sym, ap, _∙_, subst}
 use mathlib.Core.Bool.{Bool, true, false, _&&_}
 use mathlib.Core.Logic.{⊎-elim}
 use mathlib.Core.List.{List, [], _∷_, _++_}
-use Prim.Native.Nat.{ℕ, zero, suc, _+_, _-_, _≤_, _<_}
-use native.Mathlib.Omega.{arith}
+use Prim.Native.Nat.{ℕ, zero, suc, _<_}
 use lib.Dec.{ltb}
-use lib.ListN.{length, take, drop, getD}
-use lib.Seq.{drop-drop, drop-append-add}
+use lib.ListN.{take, getD}
 use borrow.Author.Tests.{ltb-true}
 use Rattle.drive_sets.specs.Bools.Laws.{clash, by-test, false-of, and-intro, and-left, and-right}
 use Rattle.drive_sets.specs.Lists.{filter, all, elem, ordered, distinct}
@@ -74,10 +71,3 @@ first-kept-least p (y ∷ l) a o i h f =
     (λ e. ap (λ (k : List ℕ). getD k 0 0) (filter-false p y l (f y (elem-head y l) (ltb-true y a (all-elem (ltb y) l a (and-left (all (ltb y) l) _ o) e))))
     ∙ first-kept-least p l a (and-right (all (ltb y) l) _ o) e h (λ x g. f x (elem-tail x y l g)))
     (elem-cases a y l i)
-
--- what stands behind a new front
-pub drop-behind : (front : List ℕ) (r : ℕ) (l : List ℕ) (k : ℕ) → length front ≡ r → r ≤ k → drop k (front ++ drop r l) ≡ drop k l
-drop-behind front r l k e le =
-    let past : k ≡ length front + (k - r) = omega arith in
-    let whole : r + (k - r) ≡ k = omega arith in
-    ap (λ (n : ℕ). drop n (front ++ drop r l)) past ∙ (drop-append-add front (drop r l) (k - r) ∙ (drop-drop (k - r) r l ∙ ap (λ (n : ℕ). drop n l) whole))

@@ -1,8 +1,10 @@
--- Laws of outcomes: what a result says of the refusals before it.
-use mathlib.Core.Path.{_≡_, refl}
+-- Laws of outcomes: what a result says of the refusals before it; and of answers, of which a refused one is known by its refusal.
+use mathlib.Core.Path.{_≡_, refl, sym, ap, _∙_}
 use mathlib.Core.Bool.{Bool, true, false}
 use Prim.Native.Nat.{ℕ}
 use native.Mathlib.Omega.{arith}
+use Rattle.drive_sets.specs.declared.Answer.{Answer}
+use Rattle.drive_sets.specs.declared.Answer.the-variants.{Accepted, Refused}
 use Rattle.drive_sets.specs.declared.Refusal.{Refusal}
 use Rattle.drive_sets.specs.Refusals.{Outcome, refused, result, refuseIf, andThen}
 
@@ -23,3 +25,19 @@ module _ {A B : Type 0} where
   pub first-result : (o : Outcome A) (f : A → Outcome B) {b : B} → andThen o f ≡ result b → (a : A) × (o ≡ result a) × (f a ≡ result b)
   first-result (refused r) f e = absurd (refused-no-result e)
   first-result (result a) f e = (a, refl, e)
+
+-- ---- answers
+
+pub accepted-not-refused : {r : Refusal} → Accepted ≡ Refused r → ⊥
+accepted-not-refused e = let z : _≡_ {A = ℕ} 0 1 = cc in omega arith
+
+pub same-refusal : {q r : Refusal} → Refused q ≡ Refused r → q ≡ r
+same-refusal e = cc
+
+-- a value that its refusal makes, or that is accepted, is the one that the refusal makes wherever it is refused
+module _ {A : Type 0} (answer : A → Answer) (refusedAs : Refusal → A) (is : (q : Refusal) → answer (refusedAs q) ≡ Refused q) where
+  pub refused-alone : {a : A} {q : Refusal} → a ≡ refusedAs q → (r : Refusal) → answer a ≡ Refused r → a ≡ refusedAs r
+  refused-alone {q = q} e r h = e ∙ ap refusedAs (same-refusal (sym (is q) ∙ (ap answer (sym e) ∙ h)))
+
+  pub accepted-alone : {a : A} → answer a ≡ Accepted → (r : Refusal) → answer a ≡ Refused r → a ≡ refusedAs r
+  accepted-alone e r h = absurd (accepted-not-refused (sym e ∙ h))

@@ -10,6 +10,6 @@ unfolding closed replyOf
 regdulyn-close-spec =
     tie.close
     (tie.spec
-    (λ c κs. search needs) (λ c. search needs) (λ c κs. search needs) (λ c. search needs) (λ c κs. search needs) (λ c κs. search needs)
+    (λ c κs. search needs) (λ c κs. search needs) (λ c. search needs) (λ c κs. search needs) (λ c. search needs) (λ c κs. search needs) (λ c κs. search needs)
     (λ c. rw (← c .before .before .before .before .before .«open» .ensures .answer, c .before .before .answer .given .1) (c .refusal-code .ensures))
     (λ c. rw (← c .before .before .before .before .before .«open» .ensures .answer, c .before .before .enum-told .given .1, ← c .before .deliver-all .ensures .1) (c .close-all .ensures)))

@@ -1,6 +1,7 @@
 -- The refusal, or the cores that were listed.
 use mathlib.Core.Path.{refl}
-use Rattle.exports.specs.Codes.{fitting, listAfter}
+use Rattle.set_orders.specs.LentLists.{listAfter}
+use Rattle.exports.specs.Codes.{fitting}
 use Rattle.exports.proofs.Outcomes.{cores-refused, cores-listed}
 use borrow.Author.Needs.{needs}
 use Rattle.exports.proofs.regdulyn_cores.Statement.{statement}

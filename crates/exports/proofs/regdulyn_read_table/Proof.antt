@@ -1,6 +1,7 @@
 -- The refusal, or the sets of the table that was read.
 use mathlib.Core.Path.{refl}
-use Rattle.exports.specs.Codes.{fitting, listAfter}
+use Rattle.set_orders.specs.LentLists.{listAfter}
+use Rattle.exports.specs.Codes.{fitting}
 use Rattle.exports.proofs.Outcomes.{read-refused, read-listed}
 use borrow.Author.Needs.{needs}
 use Rattle.exports.proofs.regdulyn_read_table.Statement.{statement}
@@ -12,6 +13,6 @@ regdulyn-read-table-spec =
     tie.close
     (tie.spec
     (λ c κs. search needs) (λ c. search needs) (λ c κs. search needs) (λ c. search needs) (λ c. search needs) (λ c κs. search needs)
-    (λ c. let a = c .before .before .before .before .before .before .before .before .before .before .args in rw (← read-refused (c .before .before .before .before .before .before .before .read-whole .result) (a .s .now) (c .before .before .before .before .before .before .before .read-whole .ensures .0) _ (c .before .before .answer .given .1)) (c .refusal-code .ensures, refl))
+    (λ c. let a = c .before .before .before .before .before .before .before .before .before .args in rw (← read-refused (c .before .before .before .before .before .before .read-whole .result) (a .s .now) (c .before .before .before .before .before .before .read-whole .ensures .0) _ (c .before .before .answer .given .1)) (c .refusal-code .ensures, refl))
     (λ c. search needs)
-    (λ c. let a = c .before .before .before .before .before .before .before .before .before .before .before .before .before .args in rw (← read-listed (c .before .before .before .before .before .before .before .before .before .before .read-whole .result) (a .s .now) (c .before .before .before .before .before .before .before .before .before .before .read-whole .ensures .0) (c .before .before .before .before .before .enum-told .given .1)) (c .before .before .put-list .ensures)))
+    (λ c. let a = c .before .before .before .before .before .before .before .before .before .before .before .before .args in rw (← read-listed (c .before .before .before .before .before .before .before .before .before .read-whole .result) (a .s .now) (c .before .before .before .before .before .before .before .before .before .read-whole .ensures .0) (c .before .before .before .before .before .enum-told .given .1)) (c .before .before .put-list .ensures)))

@@ -11,7 +11,7 @@ unfolding sent sentBytes replyOf
 regdulyn-send-spec =
     tie.close
     (tie.spec
-    (λ c κs. search needs) (λ c. search needs) (λ c κs. search needs) (λ c. search needs) (λ c κs. search needs) (λ c κs. search needs)
+    (λ c κs. search needs) (λ c κs. search needs) (λ c. search needs) (λ c κs. search needs) (λ c. search needs) (λ c κs. search needs) (λ c κs. search needs)
     (λ c. rw (← c .before .before .before .before .before .«open» .ensures .answer, c .before .before .answer .given .1) (c .refusal-code .ensures, refl))
     (λ c. search needs)
     (λ c. rw (← c .before .before .before .before .before .before .before .before .«open» .ensures .answer, c .before .before .before .before .before .enum-told .given .1, ← c .before .before .before .before .close-round .ensures) (c .before .before .send-all .ensures)))

@@ -6,7 +6,7 @@ use Rattle.drive_sets.specs.Masks.{outside, ofDrives}
 use Rattle.hitting_sets.specs.Hitting.{hits}
 use Rattle.tables.specs.Tables.{chosenCore}
 use Rattle.records.specs.RecordLists.{nextOf, widthOf, stepOf, readFrom, readList}
-use Rattle.tables.specs.Files.{dueAfter, takenSet, readListed, accepted, readTable, readWhole}
+use Rattle.table_files.specs.Files.{dueAfter, takenSet, readListed, accepted, readTable, readWhole}
 use Rattle.verdicts.specs.Verdicts.{firstWith, disjoint, blocksOf, verdictOn}
 use Rattle.agreement.specs.Calls.Evaluated.{evaluated}
 use Rattle.sync_crash.specs.Rounds.{start, smallestOf, sends, reaches, adds, known, announces, announced, heard, unchanged, stable, ifStable, decides, halts, closes, closed, step, after}

@@ -24,16 +24,15 @@ use Rattle.drive_sets.specs.Refusals.Laws.{same-result, passed, first-result}
 use Rattle.hitting_sets.specs.Hitting.{hits}
 use Rattle.set_orders.specs.Order.{normal}
 use Rattle.tables.specs.Tables.{isEmpty, chosen, chosenCore}
-use Rattle.tables.specs.Tables.Laws as tables
+use Rattle.tables.specs.Tables as tables
+use Rattle.tables.specs.Tables.Laws.{core-given}
+use Rattle.drive_sets.specs.Limits.{patternLimit}
 use Rattle.records.specs.RecordLists.{readList}
-use Rattle.runs.specs.CrashRecords.{CrashRecord, crashed, mostSends}
+use Rattle.runs.specs.CrashRecords.{drivesOf, CrashRecord, crashed, mostSends}
 use Rattle.drive_sets.specs.Counts.{isRound}
 use Rattle.run_files.specs.RunFiles.{RunFile, crashOf, proposalList, noCrash, crashList, ReadRun, readRecords, untouchedLeft, wholeRun, readBehind, readRunFile}
-use Rattle.run_files.specs.RunFiles.Laws.{Bytes, numbers-read, Passes, next-bounds, AllPass, crashes-read}
-
--- the drives of CR records
-unfoldable pub drivesOf : List CrashRecord → List ℕ
-drivesOf cs = map (λ (c : CrashRecord). c .drive) cs
+use Rattle.records.specs.Fields.{Bytes}
+use Rattle.run_files.specs.RunFiles.Laws.{numbers-read, Passes, next-bounds, AllPass, crashes-read}
 
 -- ---- one crash
 
@@ -74,7 +73,6 @@ module _ (n core : ℕ) where
 
   -- each drive is above the last, and they rise
   above-last : (last : ℕ) (cs : List CrashRecord) → AllPass n core last cs → (d : ℕ) → elem d (drivesOf cs) ≡ true → (last < d) × (1 ≤ d) × (d ≤ n)
-  unfolding drivesOf
   above-last last [] all d h = absurd (clash h (elem-none d))
   above-last last (c ∷ cs) all d h =
       let b = next-bounds n last (c .drive) (all .0 .next) in
@@ -83,14 +81,14 @@ module _ (n core : ℕ) where
       (elem-cases d (c .drive) (drivesOf cs) h)
 
   pub rising : (last : ℕ) (cs : List CrashRecord) → AllPass n core last cs → ordered ltb (drivesOf cs) ≡ true
-  unfolding ordered drivesOf
+  unfolding ordered
   rising last [] all = refl
   rising last (c ∷ cs) all =
       and-intro (all-intro (ltb (c .drive)) (drivesOf cs) (λ d h. lt-ltb (c .drive) d (above-last (c .drive) cs (all .1) d h .0))) (rising (c .drive) cs (all .1))
 
 -- a drive has a CR or none
 elem-crash : (cs : List CrashRecord) (d : ℕ) → elem d (drivesOf cs) ≡ isSome (crashOf cs d)
-unfolding elem drivesOf crashOf
+unfolding elem crashOf
 elem-crash [] d = elem-none d
 elem-crash (c ∷ cs) d =
     by-test (eqb (c .drive) d)
@@ -102,7 +100,7 @@ elem-crash (c ∷ cs) d =
 module _ (n core : ℕ) (frame : n ≤ 64) (cs : List CrashRecord) (all : AllPass n core 0 cs) where
   -- the drives with a CR are those of the mask
   pub has-crashed : (d : ℕ) → has d (crashed cs) ≡ isSome (crashOf cs d)
-  unfolding crashed drivesOf
+  unfolding crashed
   has-crashed d =
       has-ofDrives d (drivesOf cs) (λ e h. let b = above-last n core 0 cs all e h in (b .1, omega (arith, b .2))) ∙ elem-crash cs d
 
@@ -111,7 +109,7 @@ module _ (n core : ℕ) (frame : n ≤ 64) (cs : List CrashRecord) (all : AllPas
 pub record Accepted (n : ℕ) (sets s : List ℕ) (f : RunFile) : Type 0 where
   pub table : tables.Accepted n sets
   pub many : length (f .numbers) ≡ n
-  pub patterns : Bytes s → (i : ℕ) → getD (f .numbers) i 0 < 65536
+  pub patterns : Bytes s → (i : ℕ) → getD (f .numbers) i 0 < patternLimit
   pub passes : (d : ℕ) (c : CrashRecord) → crashOf (f .crashes) d ≡ some c → (c .drive ≡ d) × Allowed n (chosen (normal sets)) c
   pub drives-rise : ordered ltb (drivesOf (f .crashes)) ≡ true
   pub with-crash : (d : ℕ) → has d (crashed (f .crashes)) ≡ isSome (crashOf (f .crashes) d)
@@ -121,7 +119,7 @@ pub not-refused : (n : ℕ) (sets s : List ℕ) (f : RunFile) → readRunFile n 
 unfolding readRunFile readBehind readRecords wholeRun untouchedLeft hits
 not-refused n sets s f e =
     let found = first-result (chosenCore n sets) (λ k. readBehind n k sets s) e in
-    let given = tables.core-given n sets (found .1) in
+    let given = core-given n sets (found .1) in
     let read = first-result (readRecords n core s) (wholeRun sets) (ap (λ (k : ℕ). readBehind n k sets s) (given .1) ∙ found .2) in
     let first = first-result (readList (proposalList n) [] s) _ (read .1) in
     let p = first .0 in

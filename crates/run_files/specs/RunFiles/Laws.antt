@@ -13,7 +13,8 @@ use Rattle.drive_sets.specs.Bools.Laws.{clash, and-left, and-right}
 use Rattle.drive_sets.specs.declared.Refusal.the-variants.{DriveNumber, CrashRound, CrashSends}
 use Rattle.drive_sets.specs.Refusals.{result}
 use Rattle.drive_sets.specs.Refusals.Laws.{same-result, passed, first-result}
-use Rattle.records.specs.Fields.{fromBytes, fieldAt}
+use Rattle.drive_sets.specs.Limits.{patternWidth, patternLimit}
+use Rattle.records.specs.Fields.{Bytes, fromBytes, fieldAt}
 use Rattle.records.specs.Fields.Laws.{fromBytes-lt}
 use Rattle.records.specs.Marks.{ascii, markText, mark, bodyWidth, isKind, isDue}
 use Rattle.records.specs.RecordLists.{ReadList, widthOf, readList}
@@ -25,25 +26,22 @@ use Rattle.run_files.specs.RunFiles.{takenProposal, proposalList, crashF
 
 -- ---- the numbers
 
-abbrev pub Bytes : List ℕ → Type 0
-Bytes s = (i : ℕ) → getD s i 0 < 256
-
 bytes-drop : (k : ℕ) (s : List ℕ) → Bytes s → Bytes (drop k s)
 bytes-drop k s b i = subst (λ (x : ℕ). x < 256) (sym (getD-drop k s i 0)) (b (k + i))
 
 -- the numbers that are read: so many, and each a pattern number
 pub record Numbers (n : ℕ) (s numbers : List ℕ) : Type 0 where
   pub many : length numbers ≡ n
-  pub patterns : Bytes s → (i : ℕ) → getD numbers i 0 < 65536
+  pub patterns : Bytes s → (i : ℕ) → getD numbers i 0 < patternLimit
 
 -- one number more
-patterns-more : (given : List ℕ) (v i : ℕ) → ((j : ℕ) → getD given j 0 < 65536) → v < 65536 → getD (given ++ (v ∷ [])) i 0 < 65536
+patterns-more : (given : List ℕ) (v i : ℕ) → ((j : ℕ) → getD given j 0 < patternLimit) → v < patternLimit → getD (given ++ (v ∷ [])) i 0 < patternLimit
 patterns-more [] v zero all h = h
 patterns-more [] v (suc i) all h = omega arith
 patterns-more (x ∷ given) v zero all h = all 0
 patterns-more (x ∷ given) v (suc i) all h = patterns-more given v i (λ j. all (suc j)) h
 
-pub pattern-lt : (s : List ℕ) → Bytes s → fieldAt 3 2 s < 65536
+pub pattern-lt : (s : List ℕ) → Bytes s → fieldAt 3 patternWidth s < patternLimit
 pattern-lt s b = fromBytes-lt 2 (take 2 (drop 3 s)) (omega (arith, length-take 2 (drop 3 s))) (bytes-take 2 (drop 3 s) (bytes-drop 3 s b))
 
 pub numbers-read : (n : ℕ) (s : List ℕ) {p : ReadList (List ℕ)} → readList (proposalList n) [] s ≡ result p → Numbers n s (p .list)
@@ -54,14 +52,14 @@ numbers-read n s {p} e =
     record { many = omega (arith, w .1 .0); patterns = λ b i. w .1 .1 b .1 i }
   where
     Good : List ℕ → List ℕ → Type 0
-    Good given b = (length given ≤ n) × (Bytes s → Bytes b × ((i : ℕ) → getD given i 0 < 65536))
+    Good given b = (length given ≤ n) × (Bytes s → Bytes b × ((i : ℕ) → getD given i 0 < patternLimit))
 
     kept : (given b t : List ℕ) → Good given b → leb n (length given) ≡ false → takenProposal given b ≡ result t → Good t (drop 5 b)
     kept given b t g going q =
-        let next = passed (not (eqb (fieldAt 2 1 b) (suc (length given)))) DriveNumber (result (given ++ (fieldAt 3 2 b ∷ []))) q in
+        let next = passed (not (eqb (fieldAt 2 1 b) (suc (length given)))) DriveNumber (result (given ++ (fieldAt 3 patternWidth b ∷ []))) q in
         subst (λ (l : List ℕ). Good l (drop 5 b)) (same-result (next .1)) (
-          omega (arith, length-append given (fieldAt 3 2 b ∷ []), leb-false n (length given) going),
-          λ bytes. (bytes-drop 5 b (g .1 bytes .0), λ i. patterns-more given (fieldAt 3 2 b) i (g .1 bytes .1) (pattern-lt b (g .1 bytes .0))),
+          omega (arith, length-append given (fieldAt 3 patternWidth b ∷ []), leb-false n (length given) going),
+          λ bytes. (bytes-drop 5 b (g .1 bytes .0), λ i. patterns-more given (fieldAt 3 patternWidth b) i (g .1 bytes .1) (pattern-lt b (g .1 bytes .0))),
         )
 
 -- ---- a CR that passes 8, 9 and 10

@@ -3,7 +3,7 @@
 use mathlib.Core.Path.{_≡_, refl, sym, ap, ap₂, _∙_}
 use mathlib.Core.Bool.{Bool, false, not}
 use mathlib.Core.List.{List, [], _∷_, _++_}
-use Prim.Native.Nat.{ℕ, suc, _+_, _-_, _≤_, _<_}
+use Prim.Native.Nat.{ℕ, suc, _-_, _≤_, _<_}
 use native.Mathlib.Omega.{arith}
 use lib.Dec.{eqb, leb}
 use lib.ListN.{length, take, length-append}
@@ -17,7 +17,7 @@ use Rattle.records.specs.RecordLists.{ReadList, widthOf, readList}
 use Rattle.records.specs.RecordLists.Prefixes.{field-prefix, list-prefix}
 use Rattle.tables.specs.Tables.{withinCoreLimit, chosenCore}
 use Rattle.tables.specs.Tables.Laws.{core-given}
-use Rattle.tables.specs.Files.{ReadTable, readListed, accepted, readTable}
+use Rattle.table_files.specs.Files.{ReadTable, readListed, accepted, readTable}
 use Rattle.runs.specs.CrashRecords.{CrashRecord, checkedCrash}
 use Rattle.run_files.specs.RunFiles.{RunFile, takenProposal, proposalList, crashFields, CrashList, noCrash, takenCrash, crashList, readRecords, wholeRun, untouchedLeft, readBehind, readRunFile}
 use Rattle.run_files.specs.RunFiles.Laws.{next-bounds, checked-passes}

@@ -1,5 +1,5 @@
--- Laws of runs: the test whether two lists are equal, the opening that is due, what happens in the opening part to a drive that is not opened yet,
--- and that only a due close makes a drive count as closed.
+-- Laws of runs: the test whether two lists are equal, the listings of one table, the opening that is due, what happens
+-- in the opening part to a drive that is not opened yet, and that only a due close makes a drive count as closed.
 use mathlib.Core.Path.{_≡_, refl, sym, ap, ap₂, _∙_}
 use mathlib.Core.Bool.{Bool, true, false, _&&_, _||_}
 use mathlib.Core.Logic.{⊎-elim}
@@ -8,12 +8,17 @@ use Prim.Native.Nat.{ℕ}
 use lib.Dec.{eqb}
 use borrow.Author.Tests.{eqb-true, eq-eqb, not-true}
 use Rattle.drive_sets.specs.Bools.Laws.{clash, and-intro, and-left, and-right, and-not, or-cases, or-false-left, or-false-right}
+use Rattle.drive_sets.specs.Refusals.{Outcome, refused, result}
 use Rattle.drive_sets.specs.Counts.{isDrive}
+use Rattle.set_orders.specs.Order.{normal}
+use Rattle.set_orders.specs.Order.Normal.{normal-idempotent}
+use Rattle.tables.specs.Tables.{normalTable}
+use Rattle.tables.specs.Tables.Laws.{table-accepted, accepted-table, accepted-normal}
 use Rattle.runs.specs.Protocol.{Protocol}
 use Rattle.runs.specs.Scenario.{Scenario}
 use Rattle.runs.specs.World.{Call, opens, sends, delivers, closes, driveOf, unopened, World, apply, refusedIn}
 use Rattle.runs.specs.World.Laws.{apply-other, refused-keeps}
-use Rattle.runs.specs.Runs.{sameList, dueOpening, RoundProgress, noted}
+use Rattle.runs.specs.Runs.{sameList, isTable, dueOpening, RoundProgress, noted}
 
 pub sameList-true : (l m : List ℕ) → sameList l m ≡ true → l ≡ m
 unfolding sameList
@@ -30,20 +35,41 @@ sameList-refl (x ∷ l) = and-intro (eq-eqb x x refl) (sameList-refl l)
 
 -- ---- openings
 
--- the call opens a drive of the frame that was not opened yet, as the scenario asks for
+pub table-is : (o : Outcome (List ℕ)) (table : List ℕ) → isTable o table ≡ true → o ≡ result table
+unfolding isTable
+table-is (refused r) table h = absurd (clash h refl)
+table-is (result given) table h = ap result (sameList-true given table h)
+
+pub is-table : {o : Outcome (List ℕ)} {table : List ℕ} → o ≡ result table → isTable o table ≡ true
+unfolding isTable
+is-table {table = table} e = rw e (sameList-refl table)
+
+-- the normal table, which the reader hands back, is one of the listings of a table
+pub normal-listing : (n : ℕ) (sets : List ℕ) → normalTable n sets ≡ result (normal sets) → normalTable n (normal sets) ≡ result (normal sets)
+normal-listing n sets e = accepted-table n (normal sets) (accepted-normal n sets (table-accepted n sets (normal sets) e .0)) ∙ ap result (normal-idempotent sets)
+
+-- the call opens a drive of the frame that was not opened yet, as the scenario asks for, from a listing of its table
 pub record Opens (s : Scenario) (done : ℕ → Bool) (c : Call) (d : ℕ) : Type 0 where
   pub in-frame : isDrive (s .n) d ≡ true
   pub new : done d ≡ false
-  pub is : c ≡ opens d (s .n) (s .sets) d (s .proposal d)
+  pub listing : List ℕ
+  pub table : normalTable (s .n) listing ≡ result (normal (s .sets))
+  pub is : c ≡ opens d (s .n) listing d (s .proposal d)
 
 pub due-opens : (s : Scenario) (done : ℕ → Bool) (c : Call) → dueOpening s done c ≡ true → Opens s done c (driveOf c)
 unfolding dueOpening driveOf
 due-opens s done (opens d n sets own number) t =
     let n-is : n ≡ s .n = eqb-true n (s .n) (search (and-left, and-right)) in
-    let sets-are : sets ≡ s .sets = sameList-true sets (s .sets) (search (and-left, and-right)) in
+    let accepted = table-is (normalTable n sets) (normal (s .sets)) (search (and-left, and-right)) in
     let own-is : own ≡ d = eqb-true own d (search (and-left, and-right)) in
     let number-is : number ≡ s .proposal d = eqb-true number (s .proposal d) (search and-right) in
-    record { in-frame = search (and-left, and-right); new = not-true (done d) (search (and-left, and-right)); is = cc }
+    record {
+      in-frame = search (and-left, and-right);
+      new = not-true (done d) (search (and-left, and-right));
+      listing = sets;
+      table = ap (λ (m : ℕ). normalTable m sets) (sym n-is) ∙ accepted;
+      is = cc;
+    }
 due-opens s done (sends d room start) t = absurd (clash t refl)
 due-opens s done (delivers d bytes) t = absurd (clash t refl)
 due-opens s done (closes d) t = absurd (clash t refl)

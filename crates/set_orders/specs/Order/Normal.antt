@@ -7,8 +7,9 @@ use Prim.Native.Nat.{ℕ, zero, suc, _≤_, _<_, zero-le}
 use native.Mathlib.Omega.{arith}
 use lib.Dec.{eqb, leb}
 use lib.ListN.{length}
-use borrow.Author.Tests.{eqb-true, eqb-false, ne-eqb, leb-true, leb-false, le-leb, lt-leb, not-true}
-use Rattle.drive_sets.specs.Bools.Laws.{clash, by-test, false-of, true-of, same-test, and-intro, and-left, and-right, or-and-not, cond-true, cond-false}
+use borrow.Author.Tests.{eqb-true, eqb-false, ne-eqb, leb-true, leb-false, le-ltb, not-true}
+use Rattle.drive_sets.specs.Bools.Laws.{clash, by-test, false-of, true-of, same-test, and-intro, and-left, and-right, or-and-not, cond-false}
+use Rattle.drive_sets.specs.Limits.{maxSets}
 use Rattle.drive_sets.specs.Lists.{filter, any, elem, distinct, ordered}
 use Rattle.drive_sets.specs.Lists.Laws.{elem-some, some-elem, any-elem, any-intro, elem-filter, filter-append, filter-same, length-filter, ordered-unique}
 use Rattle.drive_sets.specs.Lists.Takes.{filter-filter}
@@ -16,7 +17,10 @@ use Rattle.drive_sets.specs.Lists.Distinct.{distinct-none, distinct-cons, disti
 use Rattle.drive_sets.specs.Masks.{subset, size, Below}
 use Rattle.drive_sets.specs.Masks.Laws.{subset-refl, subset-trans}
 use Rattle.drive_sets.specs.Masks.Sizes.{subset-size}
-use Rattle.set_orders.specs.Order.{byMask, dropRepeats, holdsAnother, normal, normalWithin}
+use Rattle.drive_sets.specs.Refusals.{result}
+use Rattle.set_orders.specs.LentLists.{inRoom}
+use Rattle.set_orders.specs.LentLists.Laws.{in-room}
+use Rattle.set_orders.specs.Order.{byMask, dropRepeats, holdsAnother, normal, normalList}
 use Rattle.set_orders.specs.Order.Strict.{byMask-strict}
 use Rattle.set_orders.specs.Order.Sort.{elem-sort, length-sort, ordered-sort}
 
@@ -140,20 +144,15 @@ normal-fixed sets o antichain =
 pub normal-idempotent : (sets : List ℕ) → normal (normal sets) ≡ normal sets
 normal-idempotent sets = normal-fixed (normal sets) (ordered-normal sets) (antichain-normal sets)
 
--- ---- where there is room
+-- ---- in a slice with room for so many
 
-pub normalWithin-fits : (room : ℕ) (sets : List ℕ) → length sets ≤ 128 → length sets ≤ room → normalWithin room sets ≡ normal sets
-unfolding normalWithin
-normalWithin-fits room sets p q = cond-true _ _ (and-intro (le-leb (length sets) 128 p) (le-leb (length sets) room q))
+pub normalList-fits : (room : ℕ) (sets : List ℕ) → length sets ≤ maxSets → normalList room sets ≡ inRoom room (normal sets)
+unfolding normalList
+normalList-fits room sets h = cond-false _ _ (le-ltb maxSets (length sets) h)
 
-pub normalWithin-over : (room : ℕ) (sets : List ℕ) → 128 < length sets → normalWithin room sets ≡ []
-unfolding normalWithin
-normalWithin-over room sets h = cond-false _ _ (ap (λ (b : Bool). b && leb (length sets) room) (lt-leb (length sets) 128 h))
-
-pub normalWithin-short : (room : ℕ) (sets : List ℕ) → room < length sets → normalWithin room sets ≡ []
-unfolding normalWithin
-normalWithin-short room sets h =
-    cond-false _ _ (ap (λ (b : Bool). leb (length sets) 128 && b) (lt-leb (length sets) room h) ∙ and-false (leb (length sets) 128))
+-- as many places as sets are enough
+pub normalList-result : (room : ℕ) (sets : List ℕ) → length sets ≤ maxSets → length sets ≤ room → normalList room sets ≡ result (normal sets)
+normalList-result room sets h k = normalList-fits room sets h ∙ in-room room (normal sets) (omega (arith, length-normal sets))
 
 -- ---- what it keeps
 

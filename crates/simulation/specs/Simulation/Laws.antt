@@ -20,14 +20,14 @@ use Rattle.drive_sets.specs.Refusals.{Outcome, result}
 use Rattle.drive_sets.specs.Refusals.Laws.{passed, first-result, same-result}
 use Rattle.hitting_sets.specs.Hitting.{hits}
 use Rattle.set_orders.specs.Order.{normal}
-use Rattle.tables.specs.Tables.{chosen, normalTable}
-use Rattle.tables.specs.Tables.Laws.{Accepted, table-accepted}
+use Rattle.tables.specs.Tables.{chosen, normalTable, Accepted}
+use Rattle.tables.specs.Tables.Laws.{table-accepted}
 use Rattle.drive_sets.specs.Counts.{isDrive, isRound}
 use Rattle.drive_sets.specs.Limits.{patternLimit}
 use Rattle.drive_sets.specs.Counts.Laws.{drive-bounds}
 use Rattle.runs.specs.Scenario.{stays, crashes, Scenario, coreOf}
 use Rattle.runs.specs.Scenario.Laws.{stays-crashes}
-use Rattle.runs.specs.CrashRecords.{CrashRecord, crashed, isNext, mostSends, checkedCrash, crashIn, scenario}
+use Rattle.runs.specs.CrashRecords.{CrashRecord, drivesOf, crashed, isNext, mostSends, checkedCrash, crashIn, scenario}
 use Rattle.runs.specs.Statement.{Passes, Valid, Untouched}
 use Rattle.agreement.specs.Simulated.{EndsAgreed, SimulatedAgreement}
 use Rattle.agreement.proofs.SimulatedRuns.{simulated-agreement}
@@ -85,26 +85,22 @@ found n core (c ∷ cs) all d round sends e =
           sends = subst (λ (x : ℕ). x ≤ mostSends n core d) same-sends (subst (λ (x : ℕ). c .sends ≤ mostSends n core x) t (all .0 .sends));
         }
 
--- the drives that the records name
-abbrev named : List CrashRecord → List ℕ
-named crs = map (λ (c : CrashRecord). c .drive) crs
-
 -- a drive that no record names has no CR
-not-named : (crs : List CrashRecord) (d : ℕ) → elem d (named crs) ≡ false → crashIn crs d ≡ stays
+not-named : (crs : List CrashRecord) (d : ℕ) → elem d (drivesOf crs) ≡ false → crashIn crs d ≡ stays
 unfolding crashIn
 not-named [] d h = refl
 not-named (c ∷ cs) d h =
     by-test (eqb (c .drive) d)
-    (λ t. absurd (clash (subst (λ (x : ℕ). elem x (c .drive ∷ named cs) ≡ true) (eqb-true (c .drive) d t) (elem-head (c .drive) (named cs))) h))
-    (λ t. cond-false _ _ t ∙ not-named cs d (false-of (elem d (named cs)) (λ q. clash (elem-tail d (c .drive) (named cs) q) h)))
+    (λ t. absurd (clash (subst (λ (x : ℕ). elem x (c .drive ∷ drivesOf cs) ≡ true) (eqb-true (c .drive) d t) (elem-head (c .drive) (drivesOf cs))) h))
+    (λ t. cond-false _ _ t ∙ not-named cs d (false-of (elem d (drivesOf cs)) (λ q. clash (elem-tail d (c .drive) (drivesOf cs) q) h)))
 
-named-bounds : (n core : ℕ) (crs : List CrashRecord) → AllChecked n core crs → (d : ℕ) → elem d (named crs) ≡ true → (1 ≤ d) × (d ≤ n)
+named-bounds : (n core : ℕ) (crs : List CrashRecord) → AllChecked n core crs → (d : ℕ) → elem d (drivesOf crs) ≡ true → (1 ≤ d) × (d ≤ n)
 named-bounds n core [] all d h = absurd (clash h (elem-none d))
 named-bounds n core (c ∷ cs) all d h =
     ⊎-elim
     (λ t. drive-bounds n d (subst (λ (x : ℕ). isDrive n x ≡ true) (sym t) (all .0 .drive)))
     (λ t. named-bounds n core cs (all .1) d t)
-    (elem-cases d (c .drive) (named cs) h)
+    (elem-cases d (c .drive) (drivesOf cs) h)
 
 -- ---- the scenario of an accepted table and records that pass
 
@@ -166,10 +162,10 @@ module _ (n : ℕ) (sets numbers : List ℕ) (crs : List CrashRecord) {r : Simul
       record {
         set = s .0;
         listed = s .1;
-        stay = λ d h. not-named crs d (sym (has-ofDrives d (named crs) named-64) ∙ meets-not d (s .0) (crashed crs) (s .2) h);
+        stay = λ d h. not-named crs d (sym (has-ofDrives d (drivesOf crs) named-64) ∙ meets-not d (s .0) (crashed crs) (s .2) h);
       }
     where
-      named-64 : (d : ℕ) → elem d (named crs) ≡ true → (1 ≤ d) × (d ≤ 64)
+      named-64 : (d : ℕ) → elem d (drivesOf crs) ≡ true → (1 ≤ d) × (d ≤ 64)
       named-64 d h = let b = named-bounds n (chosen (normal sets)) crs (accept .records) d h in (b .0, omega (arith, b .1, accept .table .high))
 
   pub simulated-gives : r ≡ simulatedOf given

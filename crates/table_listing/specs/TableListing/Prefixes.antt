@@ -19,7 +19,7 @@ use Rattle.records.specs.RecordLists.{atRecord, ReadList, widthOf, readList}
 use Rattle.records.specs.RecordLists.Prefixes.{drop-prefix, field-prefix, head-prefix, Alike, no-other, at-record, by-cond, list-prefix}
 use Rattle.drive_sets.specs.Limits.{maxSets, maxInput}
 use Rattle.tables.specs.Tables.{isFrame, isSet, isEmpty}
-use Rattle.tables.specs.Files.{ReadTable, takenSet, setList, listedTable, readListed, accepted, readWhole}
+use Rattle.table_files.specs.Files.{ReadTable, takenSet, setList, listedTable, readListed, accepted, readWhole}
 use Rattle.table_listing.specs.TableListing.{listingOf, tableProgram}
 
 -- whether anything stands behind is seen from one byte

@@ -30,45 +30,46 @@ use Rattle.hitting_sets.specs.Hitting.Listed.{listed-minimal, minimal-listed, l
 use Rattle.set_orders.specs.Order.Normal.{normal-elem, ordered-normal, antichain-normal, normal-idempotent, normal-some, length-normal}
 use Rattle.hitting_sets.specs.Hitting.Normal.{hits-normal}
 use Rattle.drive_sets.specs.Limits.{maxDrives, maxSets, maxCores}
-use Rattle.tables.specs.Tables.{isFrame, isSet, isEmpty, cores, chosen, dual, withinCoreLimit, normalTable, survivorSets, chosenCore}
+use Rattle.tables.specs.Tables.{Accepted, isFrame, isSet, isEmpty, cores, chosen, dual, withinCoreLimit, checkedSets, normalTable, survivorSets, chosenCore}
 
 -- ---- what it is for n and sets to meet no refusal
-
-pub record Accepted (n : ℕ) (sets : List ℕ) : Type 0 where
-  pub low : 1 ≤ n
-  pub high : n ≤ maxDrives
-  pub some : 1 ≤ length sets
-  pub most : length sets ≤ maxSets
-  pub good : (s : ℕ) → elem s sets ≡ true → isSet n s ≡ true
-  pub few-cores : length (cores (normal sets)) ≤ maxCores
 
 not-empty : (l : List ℕ) → isEmpty l ≡ false → 1 ≤ length l
 unfolding isEmpty
 not-empty [] e = absurd (clash refl e)
 not-empty (x ∷ l) e = omega arith
 
-some-not-empty : (l : List ℕ) → 1 ≤ length l → isEmpty l ≡ false
+pub some-not-empty : (l : List ℕ) → 1 ≤ length l → isEmpty l ≡ false
 unfolding isEmpty
 some-not-empty [] h = absurd (omega arith)
 some-not-empty (x ∷ l) h = refl
 
+-- at most 128 sets pass
+pub checked-most : (n : ℕ) (sets : List ℕ) {l : List ℕ} → checkedSets n sets ≡ result l → length sets ≤ maxSets
+unfolding checkedSets
+checked-most n sets e =
+    let some = passed (isEmpty sets) WrongMark _ (passed (not (isFrame n)) FrameSize _ e .1) in
+    ltb-false maxSets (length sets) (passed (ltb maxSets (length sets)) TooManySets _ (some .1) .0)
+
 pub table-accepted : (n : ℕ) (sets table : List ℕ) → normalTable n sets ≡ result table → Accepted n sets × (table ≡ normal sets)
-unfolding normalTable withinCoreLimit isFrame
+unfolding normalTable checkedSets withinCoreLimit isFrame
 table-accepted n sets table e =
-    let frame = passed (not (isFrame n)) FrameSize _ e in
+    let checked = first-result (checkedSets n sets) withinCoreLimit e in
+    let frame = passed (not (isFrame n)) FrameSize _ (checked .1) in
     let some = passed (isEmpty sets) WrongMark _ (frame .1) in
     let most = passed (ltb maxSets (length sets)) TooManySets _ (some .1) in
     let good = passed (not (all (isSet n) sets)) BadSet _ (most .1) in
-    let few = passed (ltb maxCores (length (cores (normal sets)))) TooManyCores _ (good .1) in (
+    let few = passed (ltb maxCores (length (cores (normal (checked .0))))) TooManyCores _ (checked .2) in
+    let same = same-result (good .1) in (
       record {
         low = leb-true 1 n (and-left (leb 1 n) (leb n maxDrives) (not-false (isFrame n) (frame .0)));
         high = leb-true n maxDrives (and-right (leb 1 n) (leb n maxDrives) (not-false (isFrame n) (frame .0)));
         some = not-empty sets (some .0);
         most = ltb-false maxSets (length sets) (most .0);
         good = λ s h. all-elem (isSet n) sets s (not-false (all (isSet n) sets) (good .0)) h;
-        few-cores = ltb-false maxCores (length (cores (normal sets))) (few .0);
+        few-cores = rw same (ltb-false maxCores (length (cores (normal (checked .0)))) (few .0));
       },
-      sym (same-result (few .1)),
+      sym (same-result (few .1)) ∙ ap normal (sym same),
     )
 
 pub accepted-within-limit : (n : ℕ) (sets : List ℕ) → Accepted n sets → withinCoreLimit sets ≡ result (normal sets)
@@ -79,10 +80,14 @@ pub accepted-frame : (n : ℕ) (sets : List ℕ) → Accepted n sets → isFrame
 unfolding isFrame
 accepted-frame n sets a = and-intro (le-leb 1 n (a .low)) (le-leb n maxDrives (a .high))
 
+pub accepted-checked : (n : ℕ) (sets : List ℕ) → Accepted n sets → checkedSets n sets ≡ result sets
+unfolding checkedSets
+accepted-checked n sets a =
+    rw (accepted-frame n sets a, some-not-empty sets (a .some), le-ltb maxSets (length sets) (a .most), all-intro (isSet n) sets (a .good))
+
 pub accepted-table : (n : ℕ) (sets : List ℕ) → Accepted n sets → normalTable n sets ≡ result (normal sets)
 unfolding normalTable
-accepted-table n sets a =
-    rw (accepted-frame n sets a, some-not-empty sets (a .some), le-ltb maxSets (length sets) (a .most), all-intro (isSet n) sets (a .good)) (accepted-within-limit n sets a)
+accepted-table n sets a = rw (accepted-checked n sets a) (accepted-within-limit n sets a)
 
 -- a chosen core that is given is that of an accepted table
 pub core-given : (n : ℕ) (sets : List ℕ) {core : ℕ} → chosenCore n sets ≡ result core → Accepted n sets × (chosen (normal sets) ≡ core)

@@ -11,9 +11,9 @@ use Rattle.drive_sets.specs.Bools.Laws.{and-left, and-right}
 use Rattle.drive_sets.specs.Refusals.{result}
 use Rattle.drive_sets.specs.Refusals.Laws.{passed, first-result, same-result}
 use Rattle.set_orders.specs.Order.{normal}
-use Rattle.tables.specs.Tables.{normalTable}
-use Rattle.tables.specs.Tables.Laws.{Accepted, table-accepted, accepted-normal}
-use Rattle.verdicts.specs.Verdicts.{Verdict, verdictOn, verdict}
+use Rattle.tables.specs.Tables.{normalTable, Accepted}
+use Rattle.tables.specs.Tables.Laws.{table-accepted, accepted-normal, accepted-checked, accepted-table}
+use Rattle.verdicts.specs.Verdicts.{Verdict, verdictOn, verdict, verdictGiven}
 
 pub record Answered (k n : ℕ) (sets : List ℕ) (v : Verdict) : Type 0 where
   pub low : 2 ≤ k
@@ -34,3 +34,8 @@ verdict-answered k n sets v e =
       accepted = accepted-normal n sets (known .0);
       is = sym (same-result (table .2)) ∙ ap (verdictOn k n) (known .1);
     }
+
+-- of an accepted table the call given its normal table says the same
+pub given-normal : (k n : ℕ) (sets : List ℕ) → Accepted n sets → verdictGiven k n (normal sets) ≡ verdict k n sets
+unfolding verdict verdictGiven
+given-normal k n sets a = rw (accepted-checked n (normal sets) (accepted-normal n sets a), accepted-table n sets a)

@@ -12,7 +12,7 @@ use Rattle.drive_sets.specs.Lists.{elem}
 use Rattle.drive_sets.specs.Lists.Places.{getD-elem, map-elem}
 use Rattle.drive_sets.specs.Masks.{full}
 use Rattle.drive_sets.specs.Masks.Laws.{has-bounds, full-has, full-lt, full-word}
-use Rattle.tables.specs.Tables.Laws.{Accepted}
+use Rattle.tables.specs.Tables.{Accepted}
 use Rattle.verdicts.specs.Verdicts.{Verdict, yes, no, setAt, setsAt, disjoint, blocksOf, verdictWith, verdictOn}
 use Rattle.verdicts.specs.Verdicts.Search.{Shared, disjoint-none}
 use Rattle.verdicts.specs.Verdicts.Firsts.{Names, disjoint-first}

@@ -17,7 +17,7 @@ use Rattle.drive_sets.specs.Lists.Places.{elem-map, length-range}
 use Rattle.drive_sets.specs.Masks.{has, full, outside, subset}
 use Rattle.drive_sets.specs.Masks.Laws.{full-has, subset-has}
 use Rattle.drive_sets.specs.Masks.Outside.{has-outside}
-use Rattle.tables.specs.Tables.Laws.{Accepted}
+use Rattle.tables.specs.Tables.{Accepted}
 use Rattle.verdicts.specs.Verdicts.{yes, disjoint, verdictOn}
 use Rattle.verdicts.specs.Verdicts.Intersection.{none-yes, some-no, yes-intersection}
 use Rattle.verdicts.specs.Verdicts.Splits.{blockOf-lt, has-blockOf}

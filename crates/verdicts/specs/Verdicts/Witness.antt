@@ -14,8 +14,8 @@ use Rattle.drive_sets.specs.Masks.Laws.{not-meets}
 use Rattle.drive_sets.specs.Masks.Outside.{subset-outside}
 use Rattle.hitting_sets.specs.Hitting.Duality.{Cores, cores-minimals, holds-core-or-complement}
 use Rattle.set_orders.specs.Order.{bySize}
-use Rattle.tables.specs.Tables.{cores}
-use Rattle.tables.specs.Tables.Laws.{Accepted, sets-below}
+use Rattle.tables.specs.Tables.{cores, Accepted}
+use Rattle.tables.specs.Tables.Laws.{sets-below}
 use Rattle.verdicts.specs.Verdicts.{no, setAt, setsAt, blocksOf, verdictOn}
 use Rattle.verdicts.specs.Verdicts.Intersection.{no-some, shared-drive, sets-from, some-first}
 use Rattle.verdicts.specs.Verdicts.Blocks.{length-blocks, blocks-lt, blocks-rule, in-block, blocks-apart, blocks-whole}

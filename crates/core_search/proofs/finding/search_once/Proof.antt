@@ -2,7 +2,7 @@
 use mathlib.Core.Path.{refl}
 use mathlib.Core.Bool.{false}
 use borrow.Author.Needs.{needs}
-use Rattle.core_search.proofs.Finds.{tried-more, tried-part, tried-all, unlimited-all}
+use Rattle.core_search.proofs.Finds.{tried-none, tried-more, tried-all, unlimited-all}
 use Rattle.core_search.proofs.finding.search_once.Statement.{statement}
 use Rattle.core_search.proofs.finding.search_once.Tie as tie
 
@@ -11,7 +11,7 @@ returns c = (tried-more _ _ _ _ _ _ (search needs) (c .before .before .before .b
 
 returns-2 : tie.Need-returns-2
 returns-2 c = (
-  tried-part _ _ _ _ _ _ (search needs) (c .before .before .before .before .before .before .before .search-all .ensures) (c .given-up .ensures),
+  tried-none (c .given-up .ensures),
   λ u lt. absurd (unlimited-all (λ x y. false) _ _ _ _ _ (search needs) (c .before .before .before .before .before .before .before .search-all .ensures) (c .before .if2 .taken) u lt),
 )
 

@@ -21,7 +21,7 @@ unfolding crashesOutcome
 read-crashes-spec =
     tie.close
     (tie.spec
-    Inv-loop μ-loop (λ c κs. search needs) (λ c. listing-start _ _ _ _ (c .none .ensures .0) (c .none .ensures .1) (c .none .ensures .2)) (λ c. search needs)
+    Inv-loop μ-loop (λ c κs. search needs) (λ c. rw (c .none .ensures) (listing-start _ _ _)) (λ c. search needs)
     (λ c. omega (arith, c .loop .inv .reading .within)) (λ c. search needs) (λ c κs. search needs) (λ c. search needs) (λ c κs. search needs)
     (λ c. (rw (c .refused .ensures .0) (listing-stop (c .before .before .before .before .before .before .loop .inv) (c .before .before .before .before .next-step .ensures) (c .before .before .next .given .1)), omega (arith, c .refused .ensures .1)))
     (λ c. search needs) (λ c. omega (arith, listed-within (c .before .before .before .before .loop .inv) (c .before .before .next-step .ensures) (c .enum-told .given .1)))

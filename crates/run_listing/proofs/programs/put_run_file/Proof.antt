@@ -8,10 +8,10 @@ use Rattle.run_listing.proofs.programs.put_run_file.Statement.{statemen
 use Rattle.run_listing.proofs.programs.put_run_file.Tie as tie
 
 returns : tie.Need-returns
-returns c = filled-same (run-file-text (c .before .before .before .before .before .before .before .before .before .before .before .before .before .args .n) (c .before .before .before .before .before .before .before .before .before .before .before .before .before .args .sets .now) (c .before .before .before .before .before .before .before .before .before .before .before .before .before .args .rest .now) (c .before .before .before .before .before .before .before .before .before .read-run-file .result) (c .before .before .before .before .before .before .before .before .before .read-run-file .ensures) (c .before .before .before .before .before .answer .given .1)) (c .before .before .put-refused .ensures)
+returns c = filled-same (run-file-text (c .before .before .before .before .before .before .before .before .before .before .before .before .before .args .n) (c .before .before .before .before .before .before .before .before .before .before .before .before .before .args .sets .now) (c .before .before .before .before .before .before .before .before .before .before .before .before .before .args .rest .now) (c .before .before .before .before .before .before .before .before .before .read-run-file .result) (c .before .before .before .before .before .before .before .before .before .read-run-file .ensures .0) (c .before .before .before .before .before .answer .given .1)) (c .before .before .put-refused .ensures)
 
 returns-2 : tie.Need-returns-2
-returns-2 c = filled-same (run-file-text (c .before .before .before .before .before .before .before .before .before .before .before .before .before .args .n) (c .before .before .before .before .before .before .before .before .before .before .before .before .before .args .sets .now) (c .before .before .before .before .before .before .before .before .before .before .before .before .before .args .rest .now) (c .before .before .before .before .before .before .before .before .before .read-run-file .result) (c .before .before .before .before .before .before .before .before .before .read-run-file .ensures) (c .before .before .before .before .before .enum-told .given .1) ∙ ap runText (sym (c .before .before .before .simulate .ensures))) (c .before .before .put-simulated .ensures)
+returns-2 c = filled-same (run-file-text (c .before .before .before .before .before .before .before .before .before .before .before .before .before .args .n) (c .before .before .before .before .before .before .before .before .before .before .before .before .before .args .sets .now) (c .before .before .before .before .before .before .before .before .before .before .before .before .before .args .rest .now) (c .before .before .before .before .before .before .before .before .before .read-run-file .result) (c .before .before .before .before .before .before .before .before .before .read-run-file .ensures .0) (c .before .before .before .before .before .enum-told .given .1) ∙ ap runText (sym (c .before .before .before .simulate .ensures .0))) (c .before .before .put-simulated .ensures)
 
 pub put-run-file-spec : {M : Type 1} → statement M
 put-run-file-spec =

@@ -9,5 +9,4 @@ unfolding crashRecord crashOfDrive
 check-one-spec =
     tie.close
     (tie.spec
-    (λ c κs. search needs) (λ c κs. search needs) (λ c κs. search needs)
-    (λ c. rw (← c .before .before .round-at .ensures, ← c .before .sends-at .ensures) (c .check-crash .ensures)))
+    (λ c. search needs) (λ c. search needs) (λ c. search needs) (λ c. search needs) (λ c κs. search needs) (λ c. c .check-crash .ensures))

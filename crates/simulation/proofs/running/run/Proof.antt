@@ -20,10 +20,10 @@ run-spec =
     tie.close
     (tie.spec
     Inv-loop μ-loop (λ c κs. search needs) (λ c κs. search needs) (λ c κs. search needs)
-    (λ c. let a = c .before .before .before .args in run-start (a .n) (a .core) (a .crashes) _ _ (c .before .nothing .ensures)) (λ c. search needs)
+    (λ c. let a = c .before .before .before .args in rw (c .before .nothing .ensures) (run-start (a .n) (a .core) (a .crashes) _)) (λ c. search needs)
     (λ c. let a = c .before .before .before .before .before .args in omega (arith, c .before .before .size .ensures, size-le (a .core)))
     (λ c κs. search needs) (λ c κs. search needs)
     (λ c. let a = c .before .before .before .before .before .before .before .args in omega (arith, c .before .before .before .before .size .ensures, size-le (a .core)))
     (λ c. search needs)
-    (λ c. let a = c .before .before .before .before .before .before .before .args in let l = c .before .before .before .loop in run-turn (a .n) (a .core) (a .crashes) _ (l .states) _ (l .found) _ (l .done) (l .inv) (omega (arith, c .before .before .before .before .size .ensures)) (c .before .one-round .ensures) (c .note-all .ensures))
+    (λ c. let s = c .before .before .before .before .before .before .before in let a = s .args in let l = c .before .before .before .loop in run-turn (a .n) (a .core) (a .crashes) _ (l .states) _ (l .found) _ (l .done) (l .inv) (omega (arith, c .before .before .before .before .size .ensures)) (c .before .one-round .ensures .0 (s .pre .0) (s .pre .1)) (c .note-all .ensures))
     (λ c s t d i. let a = c .before .before .before .before .before .args in let l = c .before .loop in run-end (a .n) (a .core) (a .crashes) _ (l .states) (l .found) (l .done) (l .inv) (omega (arith, c .before .before .size .ensures)) s (t .says) d i ∙ all-given (a .core) s d (t .says .core-is) _ (world-opened (a .n) (a .core) (a .numbers) (a .crashes) s t _ (c .before .before .before .before .open-all .ensures))))

@@ -1,11 +1,10 @@
 -- The parts of the arrays that hold the sets and the cores.
 use mathlib.Core.Path.{_≡_, sym, ap, _∙_}
 use native.Mathlib.Omega.{arith}
-use Prim.Native.Nat.{_-_}
-use lib.ListN.{length, length-take}
+use lib.ListN.{length}
 use Rattle.drive_sets.specs.Filled.Laws.{filled-same}
 use Rattle.tables.specs.Tables.{cores}
-use Rattle.tables.specs.Reading.{setsOf}
+use Rattle.tables.specs.Complete.{setsOf}
 use Rattle.text.proofs.Puts.{cut}
 use Rattle.table_listing.specs.TableListing.{listing}
 use borrow.Author.Needs.{needs}
@@ -21,6 +20,6 @@ put-complete-spec =
     (λ c. let long : length (c .before .before .before .before .before .before .args .t .table .sets) ≡ 128 = search needs in omega (arith, c .before .before .before .before .before .before .pre .0 .sets))
     (λ c. search needs) (λ c. search needs)
     (λ c. let long : length (c .before .before .before .before .before .before .before .before .args .t .cores) ≡ 1024 = search needs in omega (arith, c .before .before .before .before .before .before .before .before .pre .0 .cores))
-    (λ c κs. let t = c .before .before .before .before .before .before .before .before .before .args .t in (omega (arith, length-take (t .table .count - 0) (t .table .sets), c .before .before .before .before .before .before .before .before .before .pre .0 .sets), cut (t .cores) (t .found) ∙ (c .before .before .before .before .before .before .before .before .before .pre .1 ∙ sym (ap cores (cut (t .table .sets) (t .table .count))))))
+    (λ c κs. let t = c .before .before .before .before .before .before .before .before .before .args .t in (rw (cut (t .table .sets) (t .table .count)) (c .before .before .before .before .before .before .before .before .before .pre .2), cut (t .cores) (t .found) ∙ (c .before .before .before .before .before .before .before .before .before .pre .1 ∙ sym (ap cores (cut (t .table .sets) (t .table .count))))))
     (λ c. search needs)
     (λ c. let t = c .before .before .before .before .before .before .before .before .before .before .before .before .args .t in filled-same (ap (listing (t .table .n)) (sym (cut (t .table .sets) (t .table .count)))) (c .before .before .put-listing .ensures)))

@@ -1,0 +1,2 @@
+-- Lists put into another order.
+pub mod Rearranged

@@ -1,0 +1,4 @@
+-- What the functions' proofs share.
+pub mod Steps
+pub mod TableReads
+pub mod Writes

@@ -1,0 +1,4 @@
+// Survivor tables as bytes: reading and writing.
+pub mod files;
+mod reading;
+pub mod writing;

@@ -1,0 +1,19 @@
+-- The refusals in order.
+use borrow.Author.Tests.{lt-ltb, le-ltb}
+use borrow.Author.Needs.{needs}
+use Rattle.tables.specs.Tables.{checkedSets}
+use Rattle.tables.proofs.Completes.{no-elements, some-elements}
+use Rattle.tables.proofs.completing.check_sets.Statement.{statement}
+use Rattle.tables.proofs.completing.check_sets.Tie as tie
+
+pub check-sets-spec : {M : Type 1} → statement M
+unfolding checkedSets
+check-sets-spec =
+    tie.close
+    (tie.spec
+    (λ c κs. search needs) (λ c. rw (← c .before .is-frame .ensures, c .if1 .taken))
+    (λ c. rw (← c .before .before .is-frame .ensures, c .before .if1 .left, no-elements _ (c .if2 .taken)))
+    (λ c. rw (← c .before .before .before .is-frame .ensures, c .before .before .if1 .left, some-elements _ (c .before .if2 .left), lt-ltb 128 _ (c .if3 .taken)))
+    (λ c κs. search needs)
+    (λ c. rw (← c .before .before .before .before .before .is-frame .ensures, c .before .before .before .before .if1 .left, some-elements _ (c .before .before .before .if2 .left), le-ltb 128 _ (c .before .before .if3 .left), ← c .before .all-sets .ensures, c .if4 .taken))
+    (λ c. rw (← c .before .before .before .before .before .is-frame .ensures, c .before .before .before .before .if1 .left, some-elements _ (c .before .before .before .if2 .left), le-ltb 128 _ (c .before .before .if3 .left), ← c .before .all-sets .ensures, c .if4 .left)))
