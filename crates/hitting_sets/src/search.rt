@@ -11,9 +11,9 @@ ghost use Rattle.hitting_sets.specs.Hitting.{hits, Minimal, critical, se
 ghost use Rattle.hitting_sets.specs.LookAhead.{inAll, privates, forbidden, covered, cannotExtend};
 ghost use Rattle.hitting_sets.specs.Missed.{FirstMissed, Candidates};
 ghost use Rattle.hitting_sets.specs.Fuel.{Searched};
-use crate::MOST_COUNT;
 use crate::missed::first_missed;
 use drive_sets::Drive;
+use set_orders::MOST_COUNT;
 
 // ---- what is forbidden
 

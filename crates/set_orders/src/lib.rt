@@ -7,3 +7,6 @@ pub mod sorting;
 pub const MAX_SETS: usize = 128;
 
 pub const MAX_CORES: usize = 1024;
+
+// Counts that only choose an order stop here.
+pub const MOST_COUNT: u64 = 0xffff_ffff;
