@@ -1,4 +1,5 @@
--- Calls that are not refused: what the call gives where each condition fails, in document 01's order; and a send with too little room.
+-- Calls that are not refused: what the call gives where each condition fails, in document 01's order; and a send with
+-- too little room.
 use mathlib.Core.Path.{_≡_, refl, sym, ap}
 use mathlib.Core.Bool.{true, false, not}
 use mathlib.Core.List.{List, [], _∷_, map}
@@ -16,8 +17,8 @@ use Rattle.drive_sets.specs.Lists.Laws.{elem-head, elem-tail}
 use Rattle.drive_sets.specs.Masks.{has}
 use Rattle.drive_sets.specs.Refusals.{Outcome, refused, result, refuseIf, number}
 use Rattle.drive_sets.specs.Refusals.Laws.{same-result, passed, first-result}
-use Rattle.records.specs.LentBuffers.{fitting}
-use Rattle.tables.specs.Tables.{chosen, normalTable}
+use Rattle.drive_sets.specs.Lent.{fitting}
+use Rattle.survivor_tables.specs.Tables.{chosen, normalTable}
 use Rattle.drive_states.specs.declared.Exchange.{Exchange}
 use Rattle.drive_states.specs.declared.Decision.the-variants.{Undecided, Decided}
 use Rattle.drive_sets.specs.Counts.{isDrive}

@@ -1,6 +1,6 @@
--- The instance of a valid scenario is lawful, which is where the order of the sends matters, and meets the bounds of an exchange. And what the
--- statements count and name, in terms of the instance: the core's size, f, the drives that stay up, and the core drive that an untouched
--- survivor set gives.
+-- The instance of a valid scenario is lawful, which is where the order of the sends matters, and meets the bounds of an
+-- exchange. And what the statements count and name, in terms of the instance: the core's size, f, the drives that stay
+-- up, and the core drive that an untouched survivor set gives.
 use mathlib.Core.Path.{_≡_, sym, ap, _∙_, subst, fun-ext}
 use mathlib.Core.Bool.{Bool, true, not, _&&_, Bool·not-not}
 use mathlib.Core.List.{List}
@@ -16,10 +16,10 @@ use Rattle.drive_sets.specs.Masks.{has, size}
 use Rattle.drive_sets.specs.Masks.Laws.{meets-has}
 use Rattle.drive_sets.specs.Masks.Frames.{has-range, drives-frame, size-frame}
 use Rattle.drive_sets.specs.Masks.Tests.{setOf, setOf-drives}
-use Rattle.tables.specs.Tables.{chosen, Accepted}
-use Rattle.tables.specs.Tables.Laws.{ChosenCore, table-accepted, chosen-core, sets-below}
+use Rattle.survivor_tables.specs.Tables.{chosen, Accepted}
+use Rattle.survivor_tables.specs.Tables.Laws.{ChosenCore, table-accepted, chosen-core, sets-below}
 use Rattle.drive_sets.specs.Counts.Laws.{isDrive-range}
-use Rattle.set_orders.specs.Order.{normal}
+use Rattle.survivor_tables.specs.Order.{normal}
 use Rattle.sync_crash.specs.Rounds.{InFrame, Lawful, StaysUp, failures}
 use Rattle.runs.specs.Scenario.{Crash, stays, Scenario, frame, coreOf, goneBy, hasCrash}
 use Rattle.agreement.specs.Sends.{listOf, reach}

@@ -1,5 +1,6 @@
--- The proof of demand 3: laws of the calls; the states of a run as functions of the abstract rounds, and that every run follows them; the
--- canonical order of calls; a scenario that needs round f + 1; the theorems; and the simulated exchange.
+-- The proof of demand 3: laws of the calls; the states of a run as functions of the abstract rounds, and that every run
+-- follows them; the canonical order of calls; a scenario that needs round f + 1; the theorems; and the simulated
+-- exchange.
 pub mod CallLaws
 pub mod SendLists
 pub mod Instances

@@ -1,5 +1,6 @@
--- A run follows the abstract rounds (section 4 of docs/AGREEMENT.md, "Refinement"): what the world is when a round begins, and what it is, with
--- the round's progress, at any time in its part. Each is stated as equality with a state that the abstract rounds give.
+-- A run follows the abstract rounds (section 4 of docs/AGREEMENT.md, "Refinement"): what the world is when a round
+-- begins, and what it is, with the round's progress, at any time in its part. Each is stated as equality with a state
+-- that the abstract rounds give.
 use mathlib.Core.Path.{_≡_}
 use mathlib.Core.Bool.{Bool, true, false, _||_, cond}
 use mathlib.Core.Logic.{_⊎_}

@@ -1,23 +1,29 @@
--- Laws of the list of a sender: who is on it, and how far it gets. The other core drives come before the listeners, so a sender that reaches a
--- listener reaches all of them; and a drive with no CR up to a round gets through its list.
-use mathlib.Core.Path.{_≡_, refl, sym, ap, _∙_}
-use mathlib.Core.Bool.{true, false, not, _&&_}
+-- Laws of the list of a sender: who is on it, and how far it gets. The other core drives come before the listeners, so
+-- a sender that reaches a listener reaches all of them; and a drive with no CR up to a round gets through its list. The
+-- list is also that of two masks.
+use mathlib.Core.Path.{_≡_, refl, sym, ap, ap₂, _∙_}
+use mathlib.Core.Bool.{Bool, true, false, not, _&&_}
 use mathlib.Core.Logic.{_≢_, ⊎-elim}
-use mathlib.Core.List.{List}
-use Prim.Native.Nat.{ℕ}
+use mathlib.Core.List.{List, _++_}
+use Prim.Native.Nat.{ℕ, _^_, _≤_, _<_}
 use native.Mathlib.Omega.{arith}
 use lib.Dec.{eqb}
 use lib.ListN.{take}
 use borrow.Author.Tests.{eq-eqb, ne-eqb, le-leb, not-true}
 use Rattle.drive_sets.specs.Bools.Laws.{clash, by-test, false-of, and-intro, and-left, and-right}
-use Rattle.drive_sets.specs.Lists.{filter, elem, distinct}
-use Rattle.drive_sets.specs.Lists.Laws.{elem-append-left, elem-append-right, elem-append-cases, elem-filter}
+use Rattle.drive_sets.specs.Counts.{isDrive}
+use Rattle.drive_sets.specs.Counts.Laws.{drive-bounds}
+use Rattle.drive_sets.specs.Lists.{range, filter, elem, distinct}
+use Rattle.drive_sets.specs.Lists.Laws.{elem-append-left, elem-append-right, elem-append-cases, elem-filter, elem-range, filter-same}
 use Rattle.drive_sets.specs.Lists.Distinct.{distinct-append}
 use Rattle.drive_sets.specs.Lists.Takes.{elem-take, take-past, distinct-take}
-use Rattle.drive_sets.specs.Masks.{has}
+use Rattle.drive_sets.specs.Masks.{has, single, minus, outside, drives}
+use Rattle.drive_sets.specs.Masks.Laws.{has-minus, has-single, full-has, minus-lt}
+use Rattle.drive_sets.specs.Masks.Outside.{outside-lt, has-outside}
+use Rattle.drive_sets.specs.Masks.Frames.{drives-frame}
 use Rattle.runs.specs.Scenario.{Crash, stays, crashes, Scenario, frame, coreOf, goneBy}
 use Rattle.runs.specs.Scenario.Laws.{kept-distinct}
-use Rattle.agreement.specs.Sends.{listOf, cut, reach}
+use Rattle.agreement.specs.Sends.{receivers, listOf, cut, reach}
 
 -- what holds of a list and of its first parts holds of how far it gets
 cut-keeps : (K : List ℕ → Type 0) (c : Crash) (r : ℕ) (l : List ℕ) → K l → ((m : ℕ) → K (take m l)) → K (cut c r l)
@@ -30,6 +36,26 @@ pub cut-up : (c : Crash) (r : ℕ) (l : List ℕ) → goneBy c r ≡ false → c
 unfolding cut goneBy
 cut-up stays r l h = refl
 cut-up (crashes q m) r l h = rw (ne-eqb q r (λ e. clash (le-leb q r (omega arith)) h))
+
+-- ---- the list as the drives of two masks, as code finds them
+
+pub receivers-masks : (n core d : ℕ) → n ≤ 64 → core < 2 ^ n → isDrive n d ≡ true
+    → receivers (range 1 n) core d ≡ drives (minus core (single d)) ++ drives (outside n core)
+receivers-masks n core d few within h = ap₂ (λ (a b : List ℕ). a ++ b) others listeners
+  where
+    others : filter (λ e. has e core && not (eqb e d)) (range 1 n) ≡ drives (minus core (single d))
+    others =
+        let b = drive-bounds n d h in
+        filter-same (λ e. has e core && not (eqb e d)) (λ e. has e (minus core (single d))) (range 1 n)
+        (λ e i. sym (has-minus e core (single d) ∙ ap (λ (x : Bool). has e core && not x) (has-single e d (b .0) (omega (arith, b .1, few)))))
+        ∙ sym (drives-frame n (minus core (single d)) (minus-lt n core (single d) within) few)
+
+    listeners : filter (λ e. not (has e core)) (range 1 n) ≡ drives (outside n core)
+    listeners =
+        filter-same (λ e. not (has e core)) (λ e. has e (outside n core)) (range 1 n)
+        (λ e i. let b = elem-range e 1 n i in
+        sym (has-outside e n core ∙ ap (λ (x : Bool). x && not (has e core)) (full-has e n few (b .0) (omega (arith, b .1)))))
+        ∙ sym (drives-frame n (outside n core) (outside-lt n core) few)
 
 -- ---- the list of a sender
 

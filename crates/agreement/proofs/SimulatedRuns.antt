@@ -1,5 +1,5 @@
--- The simulated exchange: every run of a scenario gives what it gives, and where a survivor set is untouched every drive that stays up decides
--- in it, on the agreed number, in a round up to f + 1.
+-- The simulated exchange: every run of a scenario gives what it gives, and where a survivor set is untouched every
+-- drive that stays up decides in it, on the agreed number, in a round up to f + 1.
 use mathlib.Core.Path.{_≡_, sym, subst}
 use mathlib.Core.List.{List}
 use Prim.Native.Nat.{ℕ, zero, suc}
@@ -8,7 +8,7 @@ use Rattle.runs.specs.Scenario.{Scenario}
 use Rattle.agreement.specs.Document01.{Run}
 use Rattle.runs.specs.Statement.{Valid, Up, Decides, Agreement}
 use Rattle.agreement.specs.Canonical.{canonical}
-use Rattle.agreement.specs.Simulated.{decides, endingOf, EveryRunGives, EndsAsAgreed, SimulatedAgreement}
+use Rattle.agreement.specs.RoundEndings.{decides, endingOf, EveryRunGives, EndsAsAgreed, SimulatedAgreement}
 use Rattle.agreement.proofs.Refinement.Canonical.{canonical-run}
 use Rattle.agreement.proofs.Refinement.Endings.{ending-rounds, rounds-ending}
 use Rattle.agreement.proofs.Refinement.Runs.{rounds-decide, decides-rounds}

@@ -1,6 +1,6 @@
--- The states of a run as functions of the abstract rounds (section 4 of docs/AGREEMENT.md, "Refinement"): what a drive holds in round k + 1
--- once it has accepted the messages of some senders. It depends on the set of those senders and not on the order in which their messages
--- came, so that two orders of the same messages leave equal states.
+-- The states of a run as functions of the abstract rounds (section 4 of docs/AGREEMENT.md, "Refinement"): what a drive
+-- holds in round k + 1 once it has accepted the messages of some senders. It depends on the set of those senders and
+-- not on the order in which their messages came, so that two orders of the same messages leave equal states.
 use mathlib.Core.Path.{_≡_}
 use mathlib.Core.Bool.{Bool, true, false, not, _&&_, _||_, cond}
 use mathlib.Core.List.{List, [], _∷_, map}
@@ -82,7 +82,8 @@ module _ (S : Instance) (k : ℕ) where
   abbrev pub messageOf : ℕ → List ℕ
   messageOf d = messageBytes (valueOf d)
 
--- What an exchange asks of an instance: a frame of 1 to 64 drives, a core that is not empty, and proposals that are pattern numbers.
+-- What an exchange asks of an instance: a frame of 1 to 64 drives, a core that is not empty, and proposals that are
+-- pattern numbers.
 pub record Bounded (S : Instance) : Type 0 where
   pub low : 1 ≤ S .n
   pub high : S .n ≤ 64

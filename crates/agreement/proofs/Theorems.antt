@@ -1,6 +1,6 @@
--- Demand 3 on whole lists of calls, for every accepted table: agreement by round f + 1 in every run of a scenario with an untouched survivor
--- set; that every run of a scenario gives what the rules give, and so the same as every other; that there is one; and that round f + 1 is
--- needed.
+-- Demand 3 on whole lists of calls, for every accepted table: agreement by round f + 1 in every run of a scenario with
+-- an untouched survivor set; that every run of a scenario gives what the rules give, and so the same as every other;
+-- that there is one; and that round f + 1 is needed.
 use mathlib.Core.Path.{_≡_, sym, ap, _∙_}
 use mathlib.Core.Bool.{true}
 use mathlib.Core.List.{List}

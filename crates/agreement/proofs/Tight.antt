@@ -1,7 +1,8 @@
--- Round f + 1 is needed, for every accepted table, whatever is proposed, and every f below the core's size. In the scenario that shows it the core
--- drives other than p, rising, crash one after the other, the i-th in round i before it makes any send, for i from 1 to f, and nobody else
--- crashes. So in each of the rounds 1 to f the others hear one drive less than before, nobody finds the round stable and nobody announces; in
--- round f + 1 all find it stable. Some survivor set meets the core in p alone, and it is untouched.
+-- Round f + 1 is needed, for every accepted table, whatever is proposed, and every f below the core's size. In the
+-- scenario that shows it the core drives other than p, rising, crash one after the other, the i-th in round i before it
+-- makes any send, for i from 1 to f, and nobody else crashes. So in each of the rounds 1 to f the others hear one drive
+-- less than before, nobody finds the round stable and nobody announces; in round f + 1 all find it stable. Some
+-- survivor set meets the core in p alone, and it is untouched.
 use mathlib.Core.Path.{_≡_, refl, sym, ap, _∙_, subst}
 use mathlib.Core.Bool.{Bool, true, not, _&&_}
 use mathlib.Core.List.{List}
@@ -24,9 +25,9 @@ use Rattle.drive_sets.specs.Masks.{has, single, minus, size, drives}
 use Rattle.drive_sets.specs.Masks.Laws.{has-minus, has-single, has-common, has-bounds, minus-lt}
 use Rattle.drive_sets.specs.Masks.Sizes.{size-remove, elem-drives, drives-rising, length-drives, rising-unique}
 use Rattle.drive_sets.specs.Refusals.{result}
-use Rattle.set_orders.specs.Order.{normal}
-use Rattle.tables.specs.Tables.{chosen, normalTable, Accepted}
-use Rattle.tables.specs.Tables.Laws.{ChosenCore, table-accepted, chosen-core}
+use Rattle.survivor_tables.specs.Order.{normal}
+use Rattle.survivor_tables.specs.Tables.{chosen, normalTable, Accepted}
+use Rattle.survivor_tables.specs.Tables.Laws.{ChosenCore, table-accepted, chosen-core}
 use Rattle.drive_sets.specs.Counts.{isDrive}
 use Rattle.drive_sets.specs.Limits.{patternLimit}
 use Rattle.drive_sets.specs.Counts.Laws.{is-drive}

@@ -1,4 +1,5 @@
--- A drive is undecided exactly if its closes so far left it undecided: only a close decides, and in a run nothing undoes a decision.
+-- A drive is undecided exactly if its closes so far left it undecided: only a close decides, and in a run nothing
+-- undoes a decision.
 use mathlib.Core.Path.{_≡_, refl, sym, ap, _∙_, subst}
 use mathlib.Core.Bool.{Bool, true, false, not, _||_}
 use mathlib.Core.Logic.{⊎-elim}

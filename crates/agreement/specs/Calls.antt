@@ -1,5 +1,5 @@
--- The four calls of an exchange, each a total function of what it is handed: a refusal, or what the call gives. The refusals of a call
--- stand in document 01's order, and the first whose condition holds is given.
+-- The four calls of an exchange, each a total function of what it is handed: a refusal, or what the call gives. The
+-- refusals of a call stand in document 01's order, and the first whose condition holds is given.
 use mathlib.Core.Bool.{Bool, false, not, _&&_, _||_, cond}
 use mathlib.Core.List.{List, [], _∷_}
 use mathlib.Core.Option.{Option, none, some}
@@ -11,8 +11,8 @@ use Rattle.drive_sets.specs.declared.Refusal.the-variants.{DriveNumber, Already
 use Rattle.drive_sets.specs.Lists.{smallest}
 use Rattle.drive_sets.specs.Masks.{has, single, union, subset, size, drives}
 use Rattle.drive_sets.specs.Refusals.{Outcome, result, refuseIf, andThen}
-use Rattle.records.specs.LentBuffers.{fitting}
-use Rattle.tables.specs.Tables.{chosen, normalTable}
+use Rattle.drive_sets.specs.Lent.{fitting}
+use Rattle.survivor_tables.specs.Tables.{chosen, normalTable}
 use Rattle.drive_states.specs.declared.Exchange.{Exchange}
 use Rattle.drive_states.specs.declared.Announcement.{Announcement}
 use Rattle.drive_states.specs.declared.Announcement.the-variants.{Absent, By}
@@ -25,8 +25,8 @@ pub mod Evaluated
 
 -- ---- opening: the table's refusals, then 8
 
--- At opening a core drive knows its own number and a listener knows none, not even its own. Heard in round 0 is the core. An opened drive
--- is in round 1.
+-- At opening a core drive knows its own number and a listener knows none, not even its own. Heard in round 0 is the
+-- core. An opened drive is in round 1.
 unfoldable pub initial : ℕ → ℕ → ℕ → ℕ → Exchange
 initial n core own number = record {
   n = n;
@@ -94,7 +94,8 @@ unfoldable pub announcing : Announcement → ℕ → Content → Announcement
 announcing announced d (known mask entries) = announced
 announcing announced d (decided v) = lower announced d v
 
--- the state after an accepted message: every accepted sender counts as heard, a KN adds its drives' numbers, a DC announces a decision
+-- the state after an accepted message: every accepted sender counts as heard, a KN adds its drives' numbers, a DC
+-- announces a decision
 unfoldable pub accept : Exchange → Message → Exchange
 accept x m = record {
   n = x .n;
@@ -155,8 +156,8 @@ decide x Undecided Absent = stableDecision x
 unfoldable pub decisionAfter : Exchange → Decision
 decisionAfter x = decide x (x .decision) (x .announced)
 
--- a decided core drive halts at the close of the next round, a listener on deciding, and all at the close of the round whose number is the
--- core's size
+-- a decided core drive halts at the close of the next round, a listener on deciding, and all at the close of the round
+-- whose number is the core's size
 unfoldable pub halts : Exchange → Bool
 halts x =
     isDecided (x .decision)

@@ -1,5 +1,5 @@
--- The canonical order of calls of a scenario: all openings; in each round all sends, then all messages, then all closes, by drive. And what it
--- gives for a drive, which the code of the simulated exchange gives too.
+-- The canonical order of calls of a scenario: all openings; in each round all sends, then all messages, then all
+-- closes, by drive. And what it gives for a drive, which the code of the simulated exchange gives too.
 use mathlib.Core.Path.{_≡_}
 use mathlib.Core.List.{List, [], _∷_, _++_, map}
 use Prim.Native.Nat.{ℕ, zero, suc}
@@ -15,7 +15,7 @@ use Rattle.runs.specs.Scenario.{Scenario, frame, coreOf}
 use Rattle.agreement.specs.Sends.{reach}
 use Rattle.runs.specs.Runs.{sender, closer, joined}
 use Rattle.runs.specs.Statement.{Valid, Up}
-use Rattle.agreement.specs.Simulated.{Ending, decides, undecided, endingOf}
+use Rattle.agreement.specs.RoundEndings.{Ending, decides, undecided, endingOf}
 
 -- room for the longest message
 abbrev pub room : ℕ

@@ -67,7 +67,8 @@ Run = anyRuns.Run document01
 abbrev pub leaveUndecided : ℕ → World → List Call → Bool
 leaveUndecided = statements.leaveUndecided document01
 
--- ---- a drive, crashing later or not, decides in a round of a run exactly when the rules of document 01 give it: when the rounds do
+-- ---- a drive, crashing later or not, decides in a round of a run exactly when the rules of document 01 give it: when
+-- the rounds do
 
 unfoldable pub ByRules : Type 0
 ByRules = (s : Scenario) → Valid s → (calls : List Call) (run : Run s calls) → (d v k : ℕ)

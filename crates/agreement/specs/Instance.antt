@@ -1,4 +1,5 @@
--- A scenario as an instance of the rounds: the chosen core of its table, its proposals, and the failure pattern that its CRs make.
+-- A scenario as an instance of the rounds: the chosen core of its table, its proposals, and the failure pattern that
+-- its CRs make.
 use mathlib.Core.Bool.{Bool, not}
 use Prim.Native.Nat.{ℕ, suc}
 use Rattle.drive_sets.specs.Lists.{elem}

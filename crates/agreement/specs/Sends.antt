@@ -8,10 +8,12 @@ use Rattle.drive_sets.specs.Lists.{filter}
 use Rattle.drive_sets.specs.Masks.{has}
 use Rattle.runs.specs.Scenario.{Crash, stays, crashes, Scenario, frame, coreOf}
 
--- a sender sends to the other core drives, rising, then to the listeners, rising
+-- a sender sends to the other core drives, rising, then to the listeners, rising; drives are those of the frame
+abbrev pub receivers : List ℕ → ℕ → ℕ → List ℕ
+receivers drives core d = filter (λ e. has e core && not (eqb e d)) drives ++ filter (λ e. not (has e core)) drives
+
 unfoldable pub listOf : Scenario → ℕ → List ℕ
-listOf s d =
-    filter (λ e. has e (coreOf s) && not (eqb e d)) (frame s) ++ filter (λ e. not (has e (coreOf s))) (frame s)
+listOf s d = receivers (frame s) (coreOf s) d
 
 -- with a CR for this round, the first so many of them
 unfoldable pub cut : Crash → ℕ → List ℕ → List ℕ

@@ -1,4 +1,5 @@
-// The list that ends an operation: its count, then so many masks of sets or groups. A list is handed on as the bytes from its count on.
+// The list that ends an operation: its count, then so many masks of sets or groups. A list is handed on as the bytes
+// from its count on.
 ghost use Prim.Native.Nat.{_≤_};
 use crate::script;
 

@@ -1,26 +1,28 @@
-// The call program: makes the calls that a script on standard input lists, and prints what each gives, so that a test can hold the calls to a
-// second program. The calls of the exchange are made on one state.
+// The call program: makes the calls that a script on standard input lists, and prints what each gives, so that a test
+// can hold the calls to a second program. The calls of the exchange are made on one state.
 //
 // A script is a list of operations: one letter, then its fields, lowest byte first.
-//   L  n 1, own 1, core 8, round 1, before 8, heard 8, known 8, start 8, 64 pattern numbers of 2, announced 1 (0: none), its sender 1 and
-//      pattern number 2, decided 1 (0: not) and its pattern number 2, halted 1 (0: not): takes this state
+//   L  n 1, own 1, core 8, round 1, before 8, heard 8, known 8, start 8, 64 pattern numbers of 2, announced 1 (0:
+//      none), its sender 1 and pattern number 2, decided 1 (0: not) and its pattern number 2, halted 1 (0: not): takes
+//      this state
 //   O  n 1, drive 1, pattern number 2, list of sets: opens. A refused opening leaves the state as it was
 //   S  length 2, starting place 8: sends into a buffer of that length, at most 256, filled with a5
 //   M  length 2, then so many bytes: hands over a message
 //   C  closes the round
 //   B  n 1, list of groups: Back
-//   W  n 1, length 2, starting place 8, list of sets: writes the table into a buffer of that length, at most 1536, filled with a5
+//   W  n 1, length 2, starting place 8, list of sets: writes the table into a buffer of that length, at most 1536,
+//      filled with a5
 //   V  k 1, n 1, list of sets: the verdict on k
 //   H  n 1, group 8, list of sets: whether the group meets every set
 //   K  n 1, list of sets: the chosen core
 //   R  n 1, length 2, then so many bytes, list of sets: reads a run file
 //   X  n 1, 64 pattern numbers of 2, mask of the drives with a CR 8, 64 rounds of 1, 64 sends of 1, list of sets: the
 //      simulated exchange
-// A list is its count, 2, then so many masks, 8 each; those behind the 1026th are left out. Bytes that are not there count as none, and any
-// other letter does nothing. A script has at most 65536 bytes; more are left unread.
+// A list is its count, 2, then so many masks, 8 each; those behind the 1026th are left out. Bytes that are not there
+// count as none, and any other letter does nothing. A script has at most 65536 bytes; more are left unread.
 //
-// Each call prints a line with its answer, a send and a writer another one with the whole buffer, and every operation a line with each field
-// of the state.
+// Each call prints a line with its answer, a send and a writer another one with the whole buffer, and every operation a
+// line with each field of the state.
 ghost use Prim.Native.Nat.{_≤_};
 use drive_sets::Drive;
 use drive_sets::Pattern;
@@ -64,7 +66,7 @@ fn open_sets(x: Exchange, s: &[u8], sets: &[u64]) -> Exchange {
     let n = script::byte(s, 1);
     let own = Drive(script::byte(s, 2));
     let number = Pattern(script::short(s, 3));
-    replied(exchange::opening::open(x, n, sets, own, number))
+    replied(opening::open(x, n, sets, own, number))
 }
 
 fn open(x: Exchange, s: &[u8]) -> Exchange {

@@ -4,8 +4,8 @@ ghost use Prim.Native.Nat.{_≤_};
 use crate::lists;
 use crate::run_answers;
 use crate::script;
+use drive_crashes::Crashes;
 use drive_sets::Round;
-use run_files::crashes::Crashes;
 
 fn print_core(s: &[u8], sets: &[u64]) {
     let n = script::byte(s, 1);

@@ -1,4 +1,5 @@
-// The calls given n and sets or groups: each takes its fields from the operation at the start of the bytes, and prints what it gives.
+// The calls given n and sets or groups: each takes its fields from the operation at the start of the bytes, and prints
+// what it gives.
 use crate::answers;
 use crate::lists;
 use crate::printing;
@@ -17,7 +18,7 @@ pub(crate) fn back(s: &[u8]) {
 
 // Prints what the writer answers and the buffer it leaves.
 fn write_into(n: u8, sets: &[u64], buf: &mut [u8], start: usize) {
-    let w = table_files::writing::write_table(n, sets, buf, start);
+    let w = table_writing::write_table(n, sets, buf, start);
     printing::print_writing(w);
     printing::print_bytes(buf);
 }

@@ -10,12 +10,14 @@ use lib.Seq.{take-at, length-take-le}
 use Rattle.drive_sets.specs.Bools.Laws.{clash}
 use Rattle.drive_sets.specs.Filled.{Filled}
 use Rattle.drive_sets.specs.Filled.Laws.{filled-over}
-use Rattle.hitting_sets.specs.Hitting.{minimals}
+use Rattle.survivor_tables.specs.Hitting.{minimals}
 use Rattle.hitting_sets.specs.Fuel.{Searched}
 use Rattle.core_search.specs.Found.{roomIn, Found, Attempted}
-use Rattle.set_orders.specs.Order.{sort, sortFirst}
-use Rattle.set_orders.specs.Order.Sort.{length-sort, sortFirst-fits}
-use Rattle.set_orders.specs.LentLists.Laws.{after-copy, after-none}
+use Rattle.survivor_tables.specs.Order.{sort}
+use Rattle.set_orders.specs.Sorting.{sortFirst}
+use Rattle.survivor_tables.specs.Order.Sort.{length-sort}
+use Rattle.set_orders.specs.Sorting.Laws.{sortFirst-fits}
+use Rattle.drive_sets.specs.Lent.Laws.{after-copy, after-none}
 
 -- ---- one search
 

@@ -8,15 +8,15 @@ use lib.ListN.{length, take, drop}
 use lib.Seq.{take-all, take-at}
 use Rattle.drive_sets.specs.Lists.{elem}
 use Rattle.drive_sets.specs.Lists.Times.{elem-same-times}
-use Rattle.hitting_sets.specs.Hitting.{minimals}
-use Rattle.hitting_sets.specs.Hitting.Laws.{hits-same-elements}
+use Rattle.survivor_tables.specs.Hitting.{minimals}
+use Rattle.survivor_tables.specs.Hitting.Laws.{hits-same-elements}
 use Rattle.drive_sets.specs.Masks.{Below}
 use Rattle.core_search.specs.Found.{Attempted}
 use Rattle.search_orders.specs.Rearranged.{Permuted}
-use Rattle.set_orders.specs.Order.{sort}
-use Rattle.set_orders.specs.Order.Strict.{Strict}
-use Rattle.hitting_sets.specs.Hitting.Listed.{listed-same}
-use Rattle.set_orders.specs.Order.Sort.{length-sort}
+use Rattle.survivor_tables.specs.Order.{sort}
+use Rattle.survivor_tables.specs.Order.Strict.{Strict}
+use Rattle.survivor_tables.specs.Hitting.Listed.{listed-same}
+use Rattle.survivor_tables.specs.Order.Sort.{length-sort}
 
 -- the same sets in another order
 module _ (before : ℕ → ℕ → Bool) (strict : Strict before) (sets other : List ℕ) (below : Below 64 sets) (same : Permuted sets other) where

@@ -5,9 +5,9 @@ use mathlib.Core.Bool.{Bool, true}
 use mathlib.Core.List.{List}
 use Prim.Native.Nat.{ℕ, suc, _≤_, min}
 use lib.ListN.{length, take}
-use Rattle.hitting_sets.specs.Hitting.{minimals}
-use Rattle.set_orders.specs.Order.{sort}
-use Rattle.set_orders.specs.LentLists.{inRoom, listAfter}
+use Rattle.survivor_tables.specs.Hitting.{minimals}
+use Rattle.survivor_tables.specs.Order.{sort}
+use Rattle.drive_sets.specs.Lent.{fitting, bufferAfter}
 use Rattle.drive_sets.specs.Limits.{maxCores}
 pub mod Laws
 
@@ -19,7 +19,7 @@ roomIn out = min maxCores (length out)
 -- places, in order, and behind them nothing has changed; where they have not, nothing has.
 pub record Found (before : ℕ → ℕ → Bool) (sets out out' : List ℕ) (r : ℕ) : Type 0 where
   pub total : r ≡ min (suc (roomIn out)) (length (minimals sets))
-  pub list : out' ≡ listAfter out (inRoom (roomIn out) (sort before (minimals sets)))
+  pub list : out' ≡ bufferAfter (fitting 0 (roomIn out) (sort before (minimals sets))) 0 out
 
 -- A search that may give up, in a list with so much room: where it is done r is their number, and one more than the
 -- room says that there are more; those that have room stand in the first places, at most 1024 in order. All else in the

@@ -1,5 +1,6 @@
-// All minimal hitting sets, each once, in an order. Against each order of the sets and each rule that was tried there is a table made, so that a
-// search with little fuel is followed by others, in other orders and by other rules, with more and more fuel.
+// All minimal hitting sets, each once, in an order. Against each order of the sets and each rule that was tried there
+// is a table made, so that a search with little fuel is followed by others, in other orders and by other rules, with
+// more and more fuel.
 ghost use mathlib.Core.Path.{_≡_};
 ghost use mathlib.Core.Bool.{true, false};
 ghost use Prim.Native.Nat.{_≤_, _<_, min};
@@ -7,18 +8,18 @@ ghost use lib.ListN.{length};
 ghost use Rattle.drive_sets.specs.Limits.{maxCores};
 ghost use Rattle.core_search.specs.Found.{roomIn, Found, Attempted};
 ghost use Rattle.search_orders.specs.Rearranged.{Permuted};
-ghost use Rattle.set_orders.specs.Order.{precedes};
+ghost use Rattle.set_orders.specs.Sorting.{precedes};
 use hitting_sets::search;
 use hitting_sets::search::Mode;
 use search_orders::dead_ends;
 use search_orders::levels;
-use set_orders::MAX_CORES;
 use set_orders::slices;
 use set_orders::sorting;
 use set_orders::sorting::Order;
+use survivor_tables::MAX_CORES;
 
-// A search that may give up: whether it is done and how many are found; and, for measuring, its turn, 0 for the first search, and the fuel
-// that it left.
+// A search that may give up: whether it is done and how many are found; and, for measuring, its turn, 0 for the first
+// search, and the fuel that it left.
 pub struct Attempt {
     pub done: bool,
     pub found: usize,
@@ -84,7 +85,8 @@ fn search_once(
     }
 }
 
-// The turns of a round: level order; twice the dead ends first; by size; the dead ends first, twice and then once with look-ahead; by mask.
+// The turns of a round: level order; twice the dead ends first; by size; the dead ends first, twice and then once with
+// look-ahead; by mask.
 const ROUND: usize = 8;
 
 const BY_LEVEL: usize = 0;
@@ -120,7 +122,8 @@ const OTHER_WORK: usize = 16;
 // Fuel does not grow above this, so that its multiples are numbers.
 const MOST_FUEL: usize = 0x1_0000_0000;
 
-// The fuel for so much work on n sets, and for one branching at each of them; hardly any where they are too many to be copied.
+// The fuel for so much work on n sets, and for one branching at each of them; hardly any where they are too many to be
+// copied.
 fn fuel_for(work: usize, n: usize) -> usize
     requires { ⌜ work ≤ 250000 ⌝ }
 {

@@ -1,4 +1,5 @@
--- The definitions of sets of drives, of lists and of refusals, the laws of tests and of optional values, and the laws of loops.
+-- The definitions of sets of drives, of lists and of refusals, the laws of tests and of optional values, and the laws
+-- of loops.
 pub mod Bools
 pub mod Filled
 pub mod Limits
@@ -8,3 +9,4 @@ pub mod Loops
 pub mod Masks
 pub mod Counts
 pub mod Refusals
+pub mod Lent

@@ -1,5 +1,5 @@
--- The limits of document 01, each named once: how many drives, sets and cores there are at most, how wide a pattern number is, and how much of an
--- input and of a text there is.
+-- The limits of document 01, each named once: how many drives, sets and cores there are at most, how wide a pattern
+-- number is, and how much of an input and of a text there is.
 use Prim.Native.Nat.{ℕ}
 
 abbrev pub maxDrives : ℕ

@@ -1,5 +1,5 @@
--- Lists of numbers: a range, those that pass a test, tests of all and of some, the smallest value on a list and the first.
--- All of it computes on numerals.
+-- Lists of numbers: a range, those that pass a test, tests of all and of some, the smallest value on a list and the
+-- first. All of it computes on numerals.
 use mathlib.Core.Bool.{Bool, true, false, not, _&&_, _||_, cond}
 use mathlib.Core.List.{List, [], _∷_}
 use mathlib.Core.Option.{Option, none, some, orElse}

@@ -1,4 +1,5 @@
 -- The refusals of document 01 by number, and what a call gives: a result or a refusal.
+use mathlib.Core.Path.{_≡_}
 use mathlib.Core.Bool.{Bool, cond}
 use Prim.Native.Nat.{ℕ}
 use Rattle.drive_sets.specs.declared.Refusal.{Refusal}
@@ -6,6 +7,7 @@ use Rattle.drive_sets.specs.declared.Refusal.the-variants.{EndsTooSoon, 
 use Rattle.drive_sets.specs.declared.Answer.{Answer}
 use Rattle.drive_sets.specs.declared.Answer.the-variants.{Accepted, Refused}
 pub mod Laws
+pub mod Numbered
 
 -- the number of a refusal
 abbrev pub number : Refusal → ℕ
@@ -54,3 +56,7 @@ module _ {A : Type 0} where
   abbrev pub outcomeOf : Answer → A → Outcome A
   outcomeOf Accepted a = result a
   outcomeOf (Refused r) a = refused (number r)
+
+  -- a refusal is its number alone: all else is what it is beside each such refusal
+  abbrev pub Alone : (A → Answer) → (Refusal → A) → A → Type 0
+  Alone answer refusedAs a = (r : Refusal) → answer a ≡ Refused r → a ≡ refusedAs r

@@ -6,13 +6,16 @@ ghost use Rattle.drive_sets.specs.Counts.{isDrive, isRound};
 ghost use Rattle.drive_sets.specs.Masks.{has, single, full, union, minus, outside, meets, subset, size, lowest};
 ghost use Rattle.drive_sets.specs.Refusals.{number};
 
-// A drive's number, from 1: a process.
+// A drive's number, from 1: a process. The three counts cross to C as the numbers that they are.
+#[repr(C)]
 pub struct Drive(pub u8);
 
 // A round's number, from 1.
+#[repr(C)]
 pub struct Round(pub u8);
 
 // A pattern number: the value that is proposed and decided. Each of 0 to 65535 is one.
+#[repr(C)]
 pub struct Pattern(pub u16);
 
 pub const MAX_DRIVES: u8 = 64;

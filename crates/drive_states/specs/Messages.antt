@@ -1,5 +1,5 @@
--- Messages: what they say, their bytes, and how a reader takes them. KN (Known) is the vector of known numbers, DC (Decide) the decide message.
--- The rules of the exchange speak of messages and not of bytes.
+-- Messages: what they say, their bytes, and how a reader takes them. KN (Known) is the vector of known numbers, DC
+-- (Decide) the decide message. The rules of the exchange speak of messages and not of bytes.
 use mathlib.Core.Bool.{Bool, false, not, _&&_, cond}
 use mathlib.Core.List.{List, [], _∷_, _++_, map}
 use Prim.Native.Nat.{ℕ, _+_, _*_}

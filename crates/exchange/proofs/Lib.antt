@@ -1,4 +1,3 @@
 -- What the functions' proofs share.
 pub mod Least
-pub mod Opens
 pub mod Rules

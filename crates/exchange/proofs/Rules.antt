@@ -1,4 +1,5 @@
--- The rules of 28 as the code asks them: four sets as one, and what an unbroken state says of its round; and a reply to what equals it.
+-- The rules of 28 as the code asks them: four sets as one, and what an unbroken state says of its round; and a reply to
+-- what equals it.
 use mathlib.Core.Path.{_≡_, sym, ap, _∙_}
 use mathlib.Core.Bool.{Bool, false, not, _&&_, _||_}
 use mathlib.Core.Logic.{⊎-elim}
@@ -10,7 +11,7 @@ use Rattle.drive_sets.specs.Masks.{has, union, subset}
 use Rattle.drive_sets.specs.Masks.Laws.{has-union, union-lt, subset-has, has-subset, subset-trans, subset-union}
 use Rattle.drive_sets.specs.Masks.Sizes.{size-le}
 use Rattle.drive_sets.specs.Refusals.{Outcome}
-use Rattle.tables.specs.Tables.{isFrame, isSet}
+use Rattle.survivor_tables.specs.Tables.{isFrame, isSet}
 use Rattle.drive_states.specs.declared.Exchange.{Exchange}
 use Rattle.drive_sets.specs.Counts.{isDrive, isRound}
 use Rattle.drive_sets.specs.Counts.Laws.{round-bounds}

@@ -1,5 +1,6 @@
 -- A controller that makes the four calls of several drives: it keeps for each drive the state that its last call left,
--- and hands it to the next. What one call does so, and a list of them, is what the worlds of a run have; the laws say so.
+-- and hands it to the next. What one call does so, and a list of them, is what the worlds of a run have; the laws say
+-- so.
 use mathlib.Core.Path.{_≡_}
 use mathlib.Core.Bool.{Bool, true, false, cond}
 use mathlib.Core.List.{List, [], _∷_}
@@ -16,6 +17,7 @@ use Rattle.agreement.specs.Document01.{apply, refusedIn, sendingOf}
 use Rattle.exchange.specs.declared.Reply.{Reply}
 use Rattle.exchange.specs.Replies.{replyOf, stateAfter, notOpened}
 pub mod Laws
+pub mod Kept
 
 -- ---- one call
 
@@ -55,17 +57,12 @@ leaves x (sends d room start) = x
 leaves x (delivers d bytes) = stateAfter x (receiving x bytes)
 leaves x (closes d) = stateAfter x (closing x)
 
--- what is kept for each drive; first each was never opened
-abbrev pub Store : Type 0
-Store = ℕ → Exchange
+-- what is kept for each drive, where a call that is handed s leaves `left s c`
+module _ {S : Type 0} (left : S → Call → S) where
+  -- the call is handed what is kept for its drive, and what it leaves is kept
+  unfoldable pub keep : (ℕ → S) → Call → ℕ → S
+  keep store c d = cond (eqb d (driveOf c)) (left (store d) c) (store d)
 
-unfoldable pub neverOpened : Store
-neverOpened d = notOpened
-
--- the call is handed what is kept for its drive, and what it leaves is kept
-unfoldable pub keep : Store → Call → Store
-keep store c d = cond (eqb d (driveOf c)) (leaves (store d) c) (store d)
-
-unfoldable pub keepAll : Store → List Call → Store
-keepAll store [] = store
-keepAll store (c ∷ cs) = keepAll (keep store c) cs
+  unfoldable pub keepAll : (ℕ → S) → List Call → ℕ → S
+  keepAll store [] = store
+  keepAll store (c ∷ cs) = keepAll (keep store c) cs

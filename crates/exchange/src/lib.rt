@@ -1,6 +1,6 @@
 // One drive's part in an exchange, which is one instance of consensus by SyncCrash: the rules that its state keeps, its
-// opening and the close of a round. The send and the message call are the crates `sending` and `receiving`. What each
-// call gives is defined, and shown to reach agreement, in the crate `agreement`.
+// first state and the close of a round. The opening, the send and the message call are the crates `opening`, `sending`
+// and `receiving`. What each call gives is defined, and shown to reach agreement, in the crate `agreement`.
 ghost use mathlib.Core.Path.{_≡_};
 ghost use mathlib.Core.Bool.{not, _&&_};
 ghost use Rattle.drive_sets.specs.Masks.{has, subset};
@@ -13,9 +13,10 @@ use drive_sets::Refusal;
 use drive_states::Exchange;
 
 pub mod closing;
-pub mod opening;
+pub mod starting;
 
-// What a call that is handed a state gives: the new state where it is accepted, and where it is refused the state as it was handed.
+// What a call that is handed a state gives: the new state where it is accepted, and where it is refused the state as it
+// was handed.
 pub struct Reply {
     pub answer: Answer,
     pub state: Exchange,
@@ -53,10 +54,10 @@ pub fn is_broken(x: Exchange) -> bool
     let own = x.own;
     let core = x.core;
     let round = x.round;
-    if !tables::frames::is_frame(n) {
+    if !survivor_tables::frames::is_frame(n) {
         return true;
     }
-    if !tables::frames::is_set(n, core) {
+    if !survivor_tables::frames::is_set(n, core) {
         return true;
     }
     if forgets_own(own, core, x.known, x.start) {

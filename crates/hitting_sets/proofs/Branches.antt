@@ -1,4 +1,5 @@
--- Where a set is missed, the drives with which the search goes on: those that are not forbidden, and none where m cannot be extended.
+-- Where a set is missed, the drives with which the search goes on: those that are not forbidden, and none where m
+-- cannot be extended.
 use mathlib.Core.Path.{_≡_, sym, ap, ap₂, _∙_, subst}
 use mathlib.Core.Bool.{true, false, not}
 use mathlib.Core.List.{List, [], _∷_, _++_}
@@ -12,11 +13,11 @@ use Rattle.drive_sets.specs.Bools.Laws.{clash, and-left, and-right}
 use Rattle.drive_sets.specs.Masks.{has, single, union, minus, meets, drives, Below}
 use Rattle.drive_sets.specs.Masks.Laws.{has-none, has-minus}
 use Rattle.drive_sets.specs.Masks.Sizes.{drives-none}
-use Rattle.hitting_sets.specs.Hitting.{Minimal, forEach, search}
+use Rattle.survivor_tables.specs.Hitting.{Minimal, forEach, search}
 use Rattle.drive_sets.specs.Masks.Frames.{below-places}
-use Rattle.hitting_sets.specs.Hitting.SearchLaws.{below-now}
-use Rattle.hitting_sets.specs.Hitting.Forbidden.{free-minimal, search-free}
-use Rattle.hitting_sets.specs.Hitting.CannotExtend.{cannot-extend-search}
+use Rattle.survivor_tables.specs.Hitting.SearchLaws.{below-now}
+use Rattle.hitting_sets.specs.LookAhead.Forbidden.{free-minimal, search-free}
+use Rattle.hitting_sets.specs.LookAhead.CannotExtend.{cannot-extend-search}
 use Rattle.hitting_sets.specs.LookAhead.{forbidden, cannotExtend}
 use Rattle.hitting_sets.specs.Missed.{Candidates}
 

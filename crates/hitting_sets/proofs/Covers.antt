@@ -13,8 +13,8 @@ use Rattle.drive_sets.specs.Lists.{filter}
 use Rattle.drive_sets.specs.Lists.Laws.{any-append, any-elem, filter-same}
 use Rattle.drive_sets.specs.Masks.{has, union, minus, subset, drives}
 use Rattle.drive_sets.specs.Masks.Laws.{has-minus, subset-has, meets-has, meets-sym}
-use Rattle.hitting_sets.specs.Hitting.{hits, critical}
-use Rattle.hitting_sets.specs.Hitting.Laws.{hits-meets}
+use Rattle.survivor_tables.specs.Hitting.{hits, critical}
+use Rattle.survivor_tables.specs.Hitting.Laws.{hits-meets}
 use Rattle.hitting_sets.specs.LookAhead.{forbidden, covered, cannotExtend}
 
 none-covers : (sets : List ℕ) (m bar p : ℕ) → m < 2 ^ 64 → hits sets m ≡ true → covered sets m bar p ≡ false

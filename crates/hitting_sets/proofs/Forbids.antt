@@ -1,4 +1,5 @@
--- The forbidden drives, collected drive by drive of m: what those passed forbid, with what the rest forbids, is the whole.
+-- The forbidden drives, collected drive by drive of m: what those passed forbid, with what the rest forbids, is the
+-- whole.
 use mathlib.Core.Path.{_≡_, sym, ap, _∙_}
 use mathlib.Core.List.{List}
 use Prim.Native.Nat.{ℕ, _-_, _^_, _≤_, _<_}

@@ -1,5 +1,5 @@
--- What one set more in front of a list adds to what is made of it: to its critical drives, to the drives that are in all, to what is made of
--- the sets that pass a test.
+-- What one set more in front of a list adds to what is made of it: to its critical drives, to the drives that are in
+-- all, to what is made of the sets that pass a test.
 use mathlib.Core.Path.{_≡_, sym, ap, _∙_}
 use mathlib.Core.Bool.{Bool, true, false}
 use mathlib.Core.List.{List, _∷_}
@@ -11,7 +11,7 @@ use Rattle.drive_sets.specs.Lists.{filter}
 use Rattle.drive_sets.specs.Lists.Laws.{filter-true, filter-false}
 use Rattle.drive_sets.specs.Masks.{union, common, subset, size}
 use Rattle.drive_sets.specs.Masks.Laws.{union-subset}
-use Rattle.hitting_sets.specs.Hitting.{critical}
+use Rattle.survivor_tables.specs.Hitting.{critical}
 
 module _ (s m x : ℕ) where
   pub critical-more : size (common s m) ≡ 1 → (l : List ℕ) → x ≡ critical l m → union (common s m) x ≡ critical (s ∷ l) m

@@ -12,17 +12,17 @@ use Rattle.drive_sets.specs.Bools.Laws.{by-test}
 use Rattle.drive_sets.specs.Lists.{firstFailing}
 use Rattle.drive_sets.specs.Lists.FirstFailing.{failing-within, failing-before, failing-there}
 use Rattle.drive_sets.specs.Masks.{meets}
-use Rattle.hitting_sets.specs.Hitting.{Minimal, forEach, search}
-use Rattle.hitting_sets.specs.Hitting.Laws.{hits-one, minimal-more}
-use Rattle.hitting_sets.specs.Hitting.SearchLaws.{search-met}
-use Rattle.hitting_sets.specs.Missed.{FirstMissed}
+use Rattle.survivor_tables.specs.Hitting.{firstMissed, Minimal, forEach, search}
+use Rattle.survivor_tables.specs.Hitting.Laws.{hits-one, minimal-more}
+use Rattle.survivor_tables.specs.Hitting.SearchLaws.{search-met}
+use Rattle.hitting_sets.specs.Missed.{NextMissed}
 
 -- what is listed from m, one place behind i, with each of the drives ds
 abbrev pub Each : List ℕ → ℕ → ℕ → List ℕ → List ℕ
 Each sets i m ds = forEach (search (take (i + 1) sets) (drop (i + 1) sets)) m ds
 
 -- the first set that is missed among those from a place on
-pub missed-from : (sets : List ℕ) (pos m r : ℕ) → pos ≤ length sets → r ≡ firstFailing (λ s. meets s m) (take (length sets - pos) (drop pos sets)) → FirstMissed sets pos m (pos + r)
+pub missed-from : (sets : List ℕ) (pos m r : ℕ) → pos ≤ length sets → r ≡ firstMissed (take (length sets - pos) (drop pos sets)) m → NextMissed sets pos m (pos + r)
 missed-from sets pos m r h e =
     let rest = drop pos sets in
     let is : r ≡ firstFailing (λ s. meets s m) rest = e ∙ ap (firstFailing (λ s. meets s m)) (take-all (length sets - pos) rest (omega (arith, length-drop pos sets))) in
@@ -81,7 +81,7 @@ module _ (sets : List ℕ) (m : ℕ) where
         let hit = f i (omega arith) (omega arith) in
         (w .0 ∙ from-met i h hit, λ min. minimal-met i h hit (w .1 min)))
 
-    module _ (next : ℕ) (f : FirstMissed sets pos m next) where
+    module _ (next : ℕ) (f : NextMissed sets pos m next) where
       pub passed-search : From pos ≡ From next
       unfolding Passed
       passed-search = passed next (f .from) (f .within) (f .met) .0

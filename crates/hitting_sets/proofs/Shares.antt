@@ -1,4 +1,5 @@
--- For each drive, what its private sets share: the sets from the last to the first, of which one with one drive of m counts for that drive.
+-- For each drive, what its private sets share: the sets from the last to the first, of which one with one drive of m
+-- counts for that drive.
 use mathlib.Core.Path.{_≡_, refl, sym, ap, _∙_, subst}
 use mathlib.Core.List.{List}
 use Prim.Native.Nat.{ℕ, _-_, _^_, _≤_, _<_}

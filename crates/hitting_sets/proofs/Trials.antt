@@ -1,5 +1,5 @@
--- The search's returns. In the loop over the drives with which it goes on, what is still to be listed, put behind what is there, is the
--- whole, as long as fuel is left.
+-- The search's returns. In the loop over the drives with which it goes on, what is still to be listed, put behind what
+-- is there, is the whole, as long as fuel is left.
 use mathlib.Core.Path.{_≡_, refl, sym, ap, _∙_, subst}
 use mathlib.Core.Bool.{Bool, true, false, _&&_}
 use mathlib.Core.List.{List, [], _∷_, _++_}
@@ -13,15 +13,15 @@ use Rattle.drive_sets.specs.Masks.{has, single, union, drives}
 use Rattle.drive_sets.specs.Masks.Sizes.{drives-none}
 use Rattle.drive_sets.specs.Filled.{Filled}
 use Rattle.drive_sets.specs.Filled.Laws.{filled-none, filled-one, filled-over, filled-then, filled-same}
-use Rattle.hitting_sets.specs.Hitting.{Minimal, forEach}
-use Rattle.hitting_sets.specs.Missed.{FirstMissed, Candidates}
+use Rattle.survivor_tables.specs.Hitting.{Minimal, forEach}
+use Rattle.hitting_sets.specs.Missed.{NextMissed, Candidates}
 use Rattle.hitting_sets.specs.Fuel.{Searched}
 use Rattle.drive_sets.specs.Loops.Drives.{Taken, taken-has, taken-drives, taken-lt, taken-left}
 use Rattle.hitting_sets.proofs.Places.{From, Each, from-end, passed-search}
 
 -- ---- no set is missed: m alone is listed, if there is room
 
-module _ (sets : List ℕ) (m pos i : ℕ) (f : FirstMissed sets pos m i) (e : i ≡ length sets) (out : List ℕ) (count : ℕ) (le : count ≤ length out) where
+module _ (sets : List ℕ) (m pos i : ℕ) (f : NextMissed sets pos m i) (e : i ≡ length sets) (out : List ℕ) (count : ℕ) (le : count ≤ length out) where
   only : From sets m pos ≡ m ∷ []
   only = passed-search sets m pos i f ∙ from-end sets m i (omega arith)
 
@@ -52,7 +52,7 @@ pub record Trying (limited : Bool) (fuel : ℕ) (sets : List ℕ) (m pos i : ℕ
   pub whole : 0 < left → (o' : List ℕ) (r : ℕ) → Filled out o' found r (Each sets i m (drives rest)) → Filled out₀ o' count r (From sets m pos)
   pub unspent : limited ≡ false → left ≡ fuel
 
-pub try-start : {limited : Bool} {sets : List ℕ} {m pos i : ℕ} (out : List ℕ) {count left rest : ℕ} → FirstMissed sets pos m i → Candidates sets i m rest → rest < 2 ^ 64
+pub try-start : {limited : Bool} {sets : List ℕ} {m pos i : ℕ} (out : List ℕ) {count left rest : ℕ} → NextMissed sets pos m i → Candidates sets i m rest → rest < 2 ^ 64
     → count ≤ length out → Trying limited left sets m pos i out out count count left rest
 try-start {sets = sets} {m = m} {pos = pos} {i = i} out f c w le =
     let same = passed-search sets m pos i f ∙ c .listed in

@@ -1,6 +1,4 @@
--- Hitting sets, the search for the minimal ones, its fuel and look-ahead, the first set missed, and cores from executions.
-pub mod Hitting
+-- The search for minimal hitting sets: its fuel, its look-ahead, and the first set missed.
 pub mod Fuel
 pub mod LookAhead
 pub mod Missed
-pub mod Executions

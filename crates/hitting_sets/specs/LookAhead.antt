@@ -1,11 +1,14 @@
--- What m rules out: the drives that no minimal hitting set that holds m takes (forbidden), and the look-ahead, a test that none holds m.
+-- What m rules out: the drives that no minimal hitting set that holds m takes (forbidden), and the look-ahead, a test
+-- that none holds m.
 use mathlib.Core.Bool.{Bool, not}
 use mathlib.Core.List.{List, [], _∷_}
 use Prim.Native.Nat.{ℕ}
 use lib.Dec.{eqb}
 use Rattle.drive_sets.specs.Lists.{filter, any}
 use Rattle.drive_sets.specs.Masks.{single, full, union, common, minus, subset, drives}
-use Rattle.hitting_sets.specs.Hitting.{critical}
+use Rattle.survivor_tables.specs.Hitting.{critical}
+pub mod Forbidden
+pub mod CannotExtend
 
 -- the drives that are in every one of the sets
 unfoldable pub inAll : List ℕ → ℕ

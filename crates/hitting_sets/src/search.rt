@@ -1,5 +1,5 @@
-// The search for the minimal hitting sets: Berge's method, depth first, with fuel and, where asked, with look-ahead. Each is found once; a
-// call goes one drive deeper, so the calls are at most 65 deep, and no list of candidates grows.
+// The search for the minimal hitting sets: Berge's method, depth first, with fuel and, where asked, with look-ahead.
+// Each is found once; a call goes one drive deeper, so the calls are at most 65 deep, and no list of candidates grows.
 ghost use mathlib.Core.Path.{_≡_};
 ghost use mathlib.Core.Bool.{true, false, not, _&&_};
 ghost use Prim.Native.Nat.{ℕ, _+_, _-_, _≤_, _<_};
@@ -7,9 +7,9 @@ ghost use lib.Dec.{leb, ltb};
 ghost use lib.ListN.{length, getD, take, drop, set};
 ghost use Rattle.drive_sets.specs.Lists.{filter};
 ghost use Rattle.drive_sets.specs.Masks.{meets, drives};
-ghost use Rattle.hitting_sets.specs.Hitting.{hits, Minimal, critical, search, minimals};
+ghost use Rattle.survivor_tables.specs.Hitting.{hits, Minimal, critical, search, minimals};
 ghost use Rattle.hitting_sets.specs.LookAhead.{inAll, privates, forbidden, covered, cannotExtend};
-ghost use Rattle.hitting_sets.specs.Missed.{FirstMissed, Candidates};
+ghost use Rattle.hitting_sets.specs.Missed.{NextMissed, Candidates};
 ghost use Rattle.hitting_sets.specs.Fuel.{Searched};
 use crate::missed::first_missed;
 use drive_sets::Drive;
@@ -82,8 +82,8 @@ fn covered(sets: &[u64], m: u64, bar: u64, p: u64) -> bool
     false
 }
 
-// The drives of m that are critical among the sets that the sets ahead do not cover. That a set is covered is asked last, and only
-// of one that would add a drive: it is the dearest of the tests.
+// The drives of m that are critical among the sets that the sets ahead do not cover. That a set is covered is asked
+// last, and only of one that would add a drive: it is the dearest of the tests.
 fn critical_uncovered(sets: &[u64], ahead: &[u64], m: u64, bar: u64) -> u64
     ensures { λ r. ⌜ r ≡ critical (filter (λ s. not (covered (now (ahead .entry)) m bar s)) (now (sets .entry))) m ⌝ }
 {
@@ -103,8 +103,8 @@ fn critical_uncovered(sets: &[u64], ahead: &[u64], m: u64, bar: u64) -> u64
     found
 }
 
-// Some drive of m, which meets the first `seen` sets, has no private set that can stay private: no minimal hitting set holds m. Only a set
-// that is missed covers, so only those ahead are asked.
+// Some drive of m, which meets the first `seen` sets, has no private set that can stay private: no minimal hitting set
+// holds m. Only a set that is missed covers, so only those ahead are asked.
 fn cannot_extend(sets: &[u64], seen: usize, m: u64) -> bool
     requires { ⌜ (seen ≤ length (now sets)) × (hits (take seen (now sets)) m ≡ true) ⌝ }
     ensures { λ r. ⌜ r ≡ cannotExtend (now (sets .entry)) m ⌝ }
@@ -118,13 +118,14 @@ fn cannot_extend(sets: &[u64], seen: usize, m: u64) -> bool
 // The place of the first set from `pos` on that m misses, or the number of sets.
 fn next_missed(sets: &[u64], pos: usize, m: u64) -> usize
     requires { ⌜ pos ≤ length (now sets) ⌝ }
-    ensures { λ r. ⌜ FirstMissed (now (sets .entry)) pos m r ⌝ }
+    ensures { λ r. ⌜ NextMissed (now (sets .entry)) pos m r ⌝ }
 {
     pos + first_missed(&sets[pos..], m)
 }
 
-// The drives of the set at `next`, which m misses, with which the search goes on from m, a minimal hitting set of the sets before it: those
-// that these sets do not forbid; none where the look-ahead is asked for and finds that m cannot be extended.
+// The drives of the set at `next`, which m misses, with which the search goes on from m, a minimal hitting set of the
+// sets before it: those that these sets do not forbid; none where the look-ahead is asked for and finds that m cannot
+// be extended.
 fn candidates(look_ahead: bool, sets: &[u64], next: usize, m: u64) -> u64
     requires { ⌜ (next < length (now sets)) × Minimal (take next (now sets)) m × (meets (getD (now sets) next 0) m ≡ false) ⌝ }
     ensures { λ r. ⌜ Candidates (now (sets .entry)) next m r ⌝ }
@@ -183,8 +184,9 @@ fn put(out: &mut [u64], m: u64, tally: Tally) -> Tally
     }
 }
 
-// A dead end is a place at which no branch goes on. They are counted, up to a bound, so that a later search can begin with the sets that stand
-// there: one more at this place if no drive is left. The counts decide only an order of the sets, so the contracts leave them free.
+// A dead end is a place at which no branch goes on. They are counted, up to a bound, so that a later search can begin
+// with the sets that stand there: one more at this place if no drive is left. The counts decide only an order of the
+// sets, so the contracts leave them free.
 fn note(ends: &mut [u64], i: usize, drives: u64) {
     if drives == 0 && i < ends.len() {
         let count = ends[i];
@@ -194,9 +196,10 @@ fn note(ends: &mut [u64], i: usize, drives: u64) {
     }
 }
 
-// The minimal hitting sets that the search lists from m on, a minimal hitting set of the sets before `pos`, put into `out` behind those found;
-// one more than the room says that there are more. Where no fuel is left some may be missing. A set at which no branch goes on is a dead
-// end, and counted as one. A call goes one drive deeper, so the calls are at most 65 deep.
+// The minimal hitting sets that the search lists from m on, a minimal hitting set of the sets before `pos`, put into
+// `out` behind those found; one more than the room says that there are more. Where no fuel is left some may be missing.
+// A set at which no branch goes on is a dead end, and counted as one. A call goes one drive deeper, so the calls are at
+// most 65 deep.
 fn search_from(
     mode: Mode,
     sets: &[u64],
@@ -227,8 +230,8 @@ fn search_from(
     so_far
 }
 
-// The minimal hitting sets of the sets, each once, in the search's order: into `out`, as long as there is room, and their number; one
-// more than the room says that there are more. Where no fuel is left some may be missing.
+// The minimal hitting sets of the sets, each once, in the search's order: into `out`, as long as there is room, and
+// their number; one more than the room says that there are more. Where no fuel is left some may be missing.
 pub fn search_all(mode: Mode, sets: &[u64], out: &mut [u64], fuel: usize, ends: &mut [u64]) -> Tally
     ensures { λ r. ⌜ Searched (mode .limited) fuel (now (out .entry)) (now (out .exit)) 0 (r .found) (r .left) (minimals (now (sets .entry))) ⌝ }
 {

@@ -10,8 +10,10 @@ use Rattle.drive_sets.specs.Masks.Laws.{minus-lt}
 use Rattle.drive_sets.specs.Masks.Sizes.{drives-none, length-drives}
 use Rattle.drive_sets.specs.Loops.Drives.{removed, taken-drives}
 use Rattle.records.specs.declared.Kind.the-variants.{Known, Decide}
-use Rattle.records.specs.Fields.{toBytes, written, writtenAt}
-use Rattle.records.specs.Fields.Laws.{length-toBytes, length-writtenAt, written-fits, written-none, writtenAt-start, writtenAt-then}
+use Rattle.records.specs.Fields.{toBytes}
+use Rattle.drive_sets.specs.Lent.{written, writtenAt}
+use Rattle.records.specs.Fields.Laws.{length-toBytes}
+use Rattle.drive_sets.specs.Lent.Laws.{length-writtenAt, written-fits, written-none, writtenAt-start, writtenAt-then}
 use Rattle.records.specs.Marks.{mark, recordBytes}
 use Rattle.records.specs.Marks.Laws.{length-record}
 use Rattle.records.proofs.Parts.{part-written, part-then}

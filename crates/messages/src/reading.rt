@@ -1,5 +1,5 @@
-// The fields of a message as they are read. A byte that is not there counts as none: the message call refuses a cut message before it reads
-// what is cut.
+// The fields of a message as they are read. A byte that is not there counts as none: the message call refuses a cut
+// message before it reads what is cut.
 ghost use mathlib.Core.Path.{_≡_};
 ghost use Rattle.drive_sets.specs.Limits.{patternWidth};
 ghost use Rattle.records.specs.Fields.{fieldAt};
@@ -38,7 +38,7 @@ pub fn round_of(s: &[u8]) -> Round
 }
 
 // Of a KN.
-pub fn mask_of(s: &[u8]) -> u64
+pub(crate) fn mask_of(s: &[u8]) -> u64
     ensures { λ r. ⌜ r ≡ maskOf (now (s .entry)) ⌝ }
 {
     records::field(s, 4, 8)

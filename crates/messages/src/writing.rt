@@ -2,7 +2,8 @@
 ghost use mathlib.Core.Path.{_≡_};
 ghost use mathlib.Core.List.{_++_, map};
 ghost use Rattle.drive_sets.specs.Masks.{drives};
-ghost use Rattle.records.specs.Fields.{toBytes, written};
+ghost use Rattle.records.specs.Fields.{toBytes};
+ghost use Rattle.drive_sets.specs.Lent.{written};
 ghost use Rattle.records.specs.Marks.{recordBytes};
 ghost use Rattle.drive_states.specs.State.{numberIn};
 ghost use Rattle.drive_states.specs.Messages.{decided, message, entryOf, knownOf, entryBytes, messageBytes};
@@ -14,8 +15,8 @@ use drive_sets::Round;
 use records::DECIDE;
 use records::KNOWN;
 
-// The pattern numbers of the mask's drives, from the lowest, over the first bytes of the part; every other byte stays. Nothing where
-// they do not fit.
+// The pattern numbers of the mask's drives, from the lowest, over the first bytes of the part; every other byte stays.
+// Nothing where they do not fit.
 fn put_numbers(part: &mut [u8], mask: u64, numbers: [Pattern; 64])
     ensures { λ _. ⌜ now (part .exit) ≡ written (entryBytes (map (entryOf (numberIn numbers)) (drives mask))) (now (part .entry)) ⌝ }
 {

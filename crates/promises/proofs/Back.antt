@@ -12,10 +12,10 @@ use Rattle.drive_sets.specs.Lists.Laws.{some-elem, all-intro}
 use Rattle.drive_sets.specs.Masks.{has}
 use Rattle.drive_sets.specs.Masks.Laws.{has-none, subset-full, meets-has}
 use Rattle.drive_sets.specs.Limits.{maxSets, maxCores}
-use Rattle.hitting_sets.specs.Hitting.Laws.{hits-meets, minimal-lt}
-use Rattle.set_orders.specs.Order.{normal}
-use Rattle.tables.specs.Tables.{isSet, cores, survivorSets, Accepted}
-use Rattle.tables.specs.Tables.Laws.{accepted-frame, sets-below, sets-word, accepted-normal, core-minimal, dual-cores, some-core}
+use Rattle.survivor_tables.specs.Hitting.Laws.{hits-meets, minimal-lt}
+use Rattle.survivor_tables.specs.Order.{normal}
+use Rattle.survivor_tables.specs.Tables.{isSet, cores, survivorSets, Accepted}
+use Rattle.survivor_tables.specs.Tables.Laws.{accepted-frame, sets-below, sets-word, accepted-normal, core-minimal, dual-cores, some-core}
 use Rattle.tables.specs.Complete.{Complete, withCores}
 use Rattle.tables.proofs.Completes.{some-elements}
 use Rattle.promises.specs.Back.{BackFromCores, BackOf, BackFromCall, BackFromRead, BackFromWhole}

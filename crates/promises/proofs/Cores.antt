@@ -16,14 +16,14 @@ use Rattle.drive_sets.specs.Lists.Distinct.{ordered-distinct}
 use Rattle.drive_sets.specs.Lists.Places.{getD-elem}
 use Rattle.drive_sets.specs.Masks.{subset, size}
 use Rattle.drive_sets.specs.Masks.Laws.{subset-trans}
-use Rattle.hitting_sets.specs.Executions.{Core, Survivor, Describes}
-use Rattle.hitting_sets.specs.Executions.Laws.{core-hitting, hitting-core, survivor-set, set-survivor, survivors-describe}
-use Rattle.hitting_sets.specs.Hitting.Laws.{minimal-lt}
-use Rattle.set_orders.specs.Order.{bySize, normal}
-use Rattle.set_orders.specs.Order.Strict.{bySize-strict, strict-irr}
-use Rattle.set_orders.specs.Order.Normal.{normal-elem, antichain-normal, holds-normal}
-use Rattle.tables.specs.Tables.{coreOrder, cores, chosen, Accepted}
-use Rattle.tables.specs.Tables.Laws.{core-given, sets-below, sets-word, accepted-normal, core-minimal, minimal-core, cores-ordered, some-core}
+use Rattle.survivor_tables.specs.Executions.{Core, Survivor, Describes}
+use Rattle.survivor_tables.specs.Executions.Laws.{core-hitting, hitting-core, survivor-set, set-survivor, survivors-describe}
+use Rattle.survivor_tables.specs.Hitting.Laws.{minimal-lt}
+use Rattle.survivor_tables.specs.Order.{bySize, normal}
+use Rattle.survivor_tables.specs.Order.Strict.{bySize-strict, strict-irr}
+use Rattle.survivor_tables.specs.Order.Normal.{normal-elem, antichain-normal, holds-normal}
+use Rattle.survivor_tables.specs.Tables.{coreOrder, cores, chosen, Accepted}
+use Rattle.survivor_tables.specs.Tables.Laws.{core-given, sets-below, sets-word, accepted-normal, core-minimal, minimal-core, cores-ordered, some-core}
 use Rattle.tables.specs.Complete.{Complete, withCores}
 use Rattle.promises.specs.Cores.{TableSays, FirstCore, ListingDescribes, CoresOfCall, ChosenOfCall, CoresOfRead, CoresOfWhole, CoresOfSurvivors}
 use Rattle.promises.proofs.Tables.{call-table, read-table, whole-read}

@@ -17,7 +17,7 @@ use Rattle.runs.specs.Scenario.{Crash, stays, crashes, Scenario, frame, hasCras
 use Rattle.runs.specs.CrashRecords.{scenario}
 use Rattle.runs.specs.Statement.{Valid, Decides, RunsExist}
 use Rattle.agreement.specs.Document01.{Run}
-use Rattle.agreement.specs.Simulated.{Ending, decides, stopped, endingOf, endings, EndsAgreed, EveryRunGives}
+use Rattle.agreement.specs.RoundEndings.{Ending, decides, stopped, endingOf, endings, EndsAgreed, EveryRunGives}
 use Rattle.agreement.proofs.SimulatedRuns.{every-run-gives}
 use Rattle.agreement.proofs.Theorems.{runs-exist}
 use Rattle.simulation.specs.Simulation.{simulatedOf}

@@ -1,10 +1,9 @@
--- The proofs of the promises, a file for each file of specs/. Before them what tables the calls and the readers give
--- (Tables), and that what a reader hands back is the end of its bytes (Rest).
+-- The proofs of the promises, a file for each file of specs/, and before them what tables the calls and the readers
+-- give (Tables).
 pub mod Tables
 pub mod Cores
 pub mod Back
 pub mod RoundTrip
 pub mod Verdict
 pub mod Exchange
-pub mod Rest
 pub mod RunText

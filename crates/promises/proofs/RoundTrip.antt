@@ -13,14 +13,15 @@ use Rattle.drive_sets.specs.declared.Refusal.the-variants.{NoRoom}
 use Rattle.drive_sets.specs.Refusals.{Outcome, result, andThen}
 use Rattle.drive_sets.specs.Refusals.Laws.{passed, first-result, same-result}
 use Rattle.records.specs.declared.Writing.{Writing}
-use Rattle.records.specs.Fields.{writtenAt}
-use Rattle.records.specs.Fields.Laws.{written-fits}
-use Rattle.records.specs.LentBuffers.{fitting, bufferAfter, writingOutcome, WrittenIfRoom}
-use Rattle.set_orders.specs.Order.{normal}
-use Rattle.set_orders.specs.Order.Normal.{normal-idempotent}
-use Rattle.tables.specs.Tables.{normalTable, Accepted}
-use Rattle.tables.specs.Tables.Laws.{table-accepted, accepted-table, accepted-normal}
-use Rattle.table_files.specs.Files.{ReadTable, readTable, tableBytes, writeTable}
+use Rattle.drive_sets.specs.Lent.{writtenAt, fitting, bufferAfter}
+use Rattle.drive_sets.specs.Lent.Laws.{written-fits}
+use Rattle.records.specs.LentBuffers.{writingOutcome, WrittenIfRoom}
+use Rattle.survivor_tables.specs.Order.{normal}
+use Rattle.survivor_tables.specs.Order.Normal.{normal-idempotent}
+use Rattle.survivor_tables.specs.Tables.{normalTable, Accepted}
+use Rattle.survivor_tables.specs.Tables.Laws.{table-accepted, accepted-table, accepted-normal}
+use Rattle.table_files.specs.Files.{ReadTable, readTable, tableBytes}
+use Rattle.table_writing.specs.Writing.{writeTable}
 use Rattle.table_files.specs.Files.Laws.{read-written, table-whole}
 use Rattle.tables.specs.Complete.{Complete, withCores}
 use Rattle.table_files.specs.WithCores.{readWithCores, readComplete, readWholeComplete}

@@ -18,7 +18,7 @@ use Rattle.runs.specs.Scenario.{crashes, hasCrash}
 use Rattle.runs.specs.Statement.{lastRound}
 use Rattle.runs.specs.Scenario.Laws.{no-crash-stays}
 use Rattle.runs.specs.CrashRecords.{CrashRecord, crashIn, scenario, drivesOf}
-use Rattle.agreement.specs.Simulated.{Ending, stopped}
+use Rattle.agreement.specs.RoundEndings.{Ending, stopped}
 use Rattle.run_files.specs.RunFiles.{readRunFile}
 use Rattle.run_files.specs.RunFiles.Accepted.{not-refused}
 use Rattle.simulation.specs.Simulation.{Simulated}
@@ -26,7 +26,7 @@ use Rattle.run_listing.specs.RunListing.{runText, simulatedWith, simulatedFile,
 use Rattle.promises.specs.Exchange.{endingIn, DecidesBy, ExchangeGives, ExchangeOfCall}
 use Rattle.promises.specs.RunText.{RunTextOfFile}
 use Rattle.promises.proofs.Exchange.{exchange-of-call}
-use Rattle.promises.proofs.Rest.{rest-bytes}
+use Rattle.table_files.specs.Files.Rest.{rest-bytes}
 
 -- a drive has a CR exactly if one of the records names it
 crash-named : (cs : List CrashRecord) (d : ℕ) → hasCrash (crashIn cs d) ≡ elem d (drivesOf cs)

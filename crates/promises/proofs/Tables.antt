@@ -4,9 +4,9 @@ use mathlib.Core.List.{List, []}
 use Prim.Native.Nat.{ℕ}
 use Rattle.drive_sets.specs.Refusals.{Outcome, result, andThen}
 use Rattle.drive_sets.specs.Refusals.Laws.{first-result, same-result}
-use Rattle.set_orders.specs.Order.{normal}
-use Rattle.tables.specs.Tables.{normalTable, Accepted}
-use Rattle.tables.specs.Tables.Laws.{table-accepted}
+use Rattle.survivor_tables.specs.Order.{normal}
+use Rattle.survivor_tables.specs.Tables.{normalTable, Accepted}
+use Rattle.survivor_tables.specs.Tables.Laws.{table-accepted}
 use Rattle.table_files.specs.Files.{ReadTable, readTable, readWhole}
 use Rattle.table_files.specs.Files.Laws.{table-read, whole-table}
 use Rattle.tables.specs.Complete.{Complete, withCores, completeTable}

@@ -1,6 +1,6 @@
 -- The verdict of the call is the one on the normal table, of which the theorems on accepted tables speak.
 use mathlib.Core.Path.{sym, subst}
-use Rattle.set_orders.specs.Order.{normal}
+use Rattle.survivor_tables.specs.Order.{normal}
 use Rattle.verdicts.specs.Verdicts.Call.{verdict-answered}
 use Rattle.verdicts.specs.Verdicts.Intersection.{yes-intersection}
 use Rattle.verdicts.specs.Verdicts.Partition.{yes-partition}

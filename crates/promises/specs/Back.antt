@@ -4,8 +4,8 @@ use mathlib.Core.Path.{_≡_}
 use mathlib.Core.List.{List}
 use Prim.Native.Nat.{ℕ}
 use Rattle.drive_sets.specs.Refusals.{result}
-use Rattle.set_orders.specs.Order.{normal}
-use Rattle.tables.specs.Tables.{cores, survivorSets, Accepted}
+use Rattle.survivor_tables.specs.Order.{normal}
+use Rattle.survivor_tables.specs.Tables.{cores, survivorSets, Accepted}
 use Rattle.tables.specs.Complete.{Complete, completeTable}
 use Rattle.table_files.specs.WithCores.{ReadComplete, readComplete, readWholeComplete}
 

@@ -9,9 +9,9 @@ use Prim.Native.Nat.{ℕ, _^_, _≤_, _<_}
 use Rattle.drive_sets.specs.Lists.{elem, ordered, distinct}
 use Rattle.drive_sets.specs.Masks.{size}
 use Rattle.drive_sets.specs.Refusals.{result}
-use Rattle.hitting_sets.specs.Executions.{Core, Survivor, Describes}
-use Rattle.set_orders.specs.Order.{normal}
-use Rattle.tables.specs.Tables.{coreOrder, Accepted, chosenCore}
+use Rattle.survivor_tables.specs.Executions.{Core, Survivor, Describes}
+use Rattle.survivor_tables.specs.Order.{normal}
+use Rattle.survivor_tables.specs.Tables.{coreOrder, Accepted, chosenCore}
 use Rattle.tables.specs.Complete.{Complete, completeTable}
 use Rattle.table_files.specs.WithCores.{ReadComplete, readComplete, readWholeComplete}
 
@@ -37,7 +37,8 @@ pub record FirstCore {Φ : Type 0} (n : ℕ) (correct : Φ → ℕ) (core : ℕ)
 abbrev pub SaysIfDescribed : ℕ → List ℕ → Complete → Type 1
 SaysIfDescribed n sets t = (Φ : Type 0) (correct : Φ → ℕ) → Describes n sets correct → TableSays n correct t
 
--- where the listed sets describe the executions, the normal table does, which asks for less: a set that it drops need not occur
+-- where the listed sets describe the executions, the normal table does, which asks for less: a set that it drops need
+-- not occur
 unfoldable pub ListingDescribes : Type 1
 ListingDescribes = (n : ℕ) (sets : List ℕ) → Accepted n sets → (Φ : Type 0) (correct : Φ → ℕ) → Describes n sets correct → Describes n (normal sets) correct
 

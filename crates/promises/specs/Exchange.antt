@@ -15,7 +15,7 @@ use Rattle.runs.specs.Scenario.{Scenario, coreOf, hasCrash}
 use Rattle.runs.specs.CrashRecords.{CrashRecord, scenario}
 use Rattle.runs.specs.Statement.{Up, Proposed, coreCrashes, lastRound, Decides}
 use Rattle.agreement.specs.Document01.{Run}
-use Rattle.agreement.specs.Simulated.{Ending, decides, undecided, stopped}
+use Rattle.agreement.specs.RoundEndings.{Ending, decides, undecided, stopped}
 use Rattle.simulation.specs.Simulation.{Simulated, simulated}
 
 -- how drive d ends: the endings stand in the order of the drives, drive 1's first

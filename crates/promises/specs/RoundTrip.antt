@@ -7,8 +7,9 @@ use lib.ListN.{take, drop}
 use Rattle.drive_sets.specs.Refusals.{result}
 use Rattle.records.specs.declared.Writing.{Writing}
 use Rattle.records.specs.LentBuffers.{writingOutcome, WrittenIfRoom}
-use Rattle.set_orders.specs.Order.{normal}
-use Rattle.table_files.specs.Files.{tableBytes, writeTable}
+use Rattle.survivor_tables.specs.Order.{normal}
+use Rattle.table_files.specs.Files.{tableBytes}
+use Rattle.table_writing.specs.Writing.{writeTable}
 use Rattle.tables.specs.Complete.{Complete, withCores}
 use Rattle.table_files.specs.WithCores.{ReadComplete, readComplete, readWholeComplete}
 

@@ -13,7 +13,7 @@ use Rattle.drive_sets.specs.Refusals.{result}
 use Rattle.table_files.specs.Files.{ReadTable, readTable}
 use Rattle.runs.specs.Statement.{lastRound}
 use Rattle.runs.specs.CrashRecords.{scenario, drivesOf}
-use Rattle.agreement.specs.Simulated.{stopped}
+use Rattle.agreement.specs.RoundEndings.{stopped}
 use Rattle.run_files.specs.RunFiles.{RunFile, readRunFile}
 use Rattle.records.specs.Fields.{Bytes}
 use Rattle.simulation.specs.Simulation.{Simulated}

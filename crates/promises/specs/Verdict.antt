@@ -6,7 +6,7 @@ use mathlib.Core.List.{List}
 use mathlib.Core.Logic.{_↔_}
 use Prim.Native.Nat.{ℕ}
 use Rattle.drive_sets.specs.Refusals.{result}
-use Rattle.set_orders.specs.Order.{normal}
+use Rattle.survivor_tables.specs.Order.{normal}
 use Rattle.verdicts.specs.Verdicts.{Verdict, yes, no, verdict}
 use Rattle.verdicts.specs.Meaning.{Intersection, Partition, NoWitness}
 

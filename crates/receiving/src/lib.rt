@@ -67,7 +67,8 @@ fn announcing(announced: Announcement, kind: Kind, s: &[u8]) -> Announcement
     lower(announced, reading::sender_of(s), reading::pattern_of(s))
 }
 
-// The state after an accepted message: every accepted sender counts as heard, a KN adds its drives' numbers, a DC announces a decision.
+// The state after an accepted message: every accepted sender counts as heard, a KN adds its drives' numbers, a DC
+// announces a decision.
 fn accept(kind: Kind, x: Exchange, s: &[u8]) -> Exchange
     ensures { λ r. ⌜ r ≡ accept x (messageOf kind (now (s .entry))) ⌝ }
 {

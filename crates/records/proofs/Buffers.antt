@@ -14,8 +14,8 @@ use Rattle.drive_sets.specs.declared.Refusal.the-variants.{NoRoom}
 use Rattle.drive_sets.specs.Refusals.{Outcome, refused, result, number}
 use Rattle.records.specs.declared.Writing.{Writing}
 use Rattle.records.specs.declared.Writing.the-variants as writings
-use Rattle.records.specs.Fields.{written}
-use Rattle.records.specs.LentBuffers.{fitting, Written}
+use Rattle.drive_sets.specs.Lent.{written, fitting}
+use Rattle.records.specs.LentBuffers.{Written}
 use Rattle.records.proofs.Parts.{part-written}
 
 -- the room is what stands from the starting place on

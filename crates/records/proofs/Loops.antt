@@ -7,8 +7,10 @@ use lib.ListN.{length, getD, take, drop, length-take, length-drop}
 use lib.Seq.{getD-drop, getD-take}
 use Rattle.drive_sets.specs.Loops.Back.{Back, back-start, back-turn}
 use Rattle.drive_sets.specs.Loops.Filling.{Filling, filling-end}
-use Rattle.records.specs.Fields.{fromBytes, toBytes, written}
-use Rattle.records.specs.Fields.Laws.{fromBytes-lt, length-toBytes, written-fits, written-none}
+use Rattle.records.specs.Fields.{fromBytes, toBytes}
+use Rattle.drive_sets.specs.Lent.{written}
+use Rattle.records.specs.Fields.Laws.{fromBytes-lt, length-toBytes}
+use Rattle.drive_sets.specs.Lent.Laws.{written-fits, written-none}
 
 -- ---- reading
 

@@ -1,4 +1,5 @@
--- The part of a buffer from a place on, lent to a writer and come back: the bytes are written from that place on, and no other changes.
+-- The part of a buffer from a place on, lent to a writer and come back: the bytes are written from that place on, and
+-- no other changes.
 use mathlib.Core.Path.{_≡_, sym, ap, _∙_}
 use mathlib.Core.List.{List, _++_, append-nil}
 use Prim.Native.Nat.{ℕ, _+_, _-_, _≤_, _<_, min}
@@ -10,8 +11,10 @@ use Rattle.drive_sets.specs.Bools.Laws.{by-test}
 use lib.Seq.{take-all, take-nil, take-take, drop-length}
 use borrow.Rule.Slice.PartMut.{putMid}
 use native.Mathlib.Omega.{arith}
-use Rattle.records.specs.Fields.{fromBytes, toBytes, written, writtenAt}
-use Rattle.records.specs.Fields.Laws.{length-toBytes, written-none, written-then}
+use Rattle.records.specs.Fields.{fromBytes, toBytes}
+use Rattle.drive_sets.specs.Lent.{written, writtenAt}
+use Rattle.records.specs.Fields.Laws.{length-toBytes}
+use Rattle.drive_sets.specs.Lent.Laws.{written-none, written-then}
 use Rattle.records.specs.Marks.{recordBytes}
 use Rattle.records.specs.Marks.Laws.{length-record}
 

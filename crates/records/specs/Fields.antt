@@ -1,9 +1,7 @@
--- Byte fields: numbers of any width, lowest byte first, and bytes written into a lent buffer.
-use mathlib.Core.Bool.{cond}
-use mathlib.Core.List.{List, [], _∷_, _++_}
+-- Byte fields: numbers of any width, lowest byte first.
+use mathlib.Core.List.{List, [], _∷_}
 use Prim.Native.Nat.{ℕ, zero, suc, _+_, _*_, _/_, _%_, _<_}
-use lib.Dec.{leb}
-use lib.ListN.{length, take, drop, getD}
+use lib.ListN.{take, drop, getD}
 pub mod Laws
 
 -- each of the numbers is a byte
@@ -23,11 +21,3 @@ fieldAt place width s = fromBytes (take width (drop place s))
 unfoldable pub toBytes : ℕ → ℕ → List ℕ
 toBytes zero x = []
 toBytes (suc width) x = x % 256 ∷ toBytes width (x / 256)
-
--- a buffer with new bytes over its first ones; as it was where they do not fit
-unfoldable pub written : List ℕ → List ℕ → List ℕ
-written new old = cond (leb (length new) (length old)) (new ++ drop (length new) old) old
-
--- a buffer with new bytes from a starting place on
-unfoldable pub writtenAt : ℕ → List ℕ → List ℕ → List ℕ
-writtenAt start new old = take start old ++ written new (drop start old)

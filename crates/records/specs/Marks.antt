@@ -1,4 +1,5 @@
--- Marks: two letters in ASCII at the start of each record, as a number; the kind of record that a mark starts; and what is due where.
+-- Marks: two letters in ASCII at the start of each record, as a number; the kind of record that a mark starts; and what
+-- is due where.
 use mathlib.Core.Bool.{Bool, not, _||_, cond}
 use mathlib.Core.List.{List, [], _∷_, _++_}
 use Prim.Native.Nat.{ℕ, _+_}
@@ -71,7 +72,8 @@ isDue AtProposal k = isKind Proposal k
 isDue AtCrashOrEnd k = isKind Crash k || isKind End k
 isDue AtMessage k = isKind Known k || isKind Decide k
 
--- what stands at the start of the bytes: mark cut (1), unknown or in the wrong place (2), rest cut (1), or a record of some kind
+-- what stands at the start of the bytes: mark cut (1), unknown or in the wrong place (2), rest cut (1), or a record of
+-- some kind
 unfoldable pub headOf : Due → List ℕ → Head
 headOf due s =
     let k = kindOf (fromBytes (take 2 s)) in

@@ -1,4 +1,5 @@
--- Lists of records of one kind, read from left to right: a list ends by itself, or with EN and the count of its records.
+-- Lists of records of one kind, read from left to right: a list ends by itself, or with EN and the count of its
+-- records.
 use mathlib.Core.Bool.{Bool, cond}
 use mathlib.Core.List.{List, [], _∷_, _++_}
 use mathlib.Core.Option.{Option, none, some}
@@ -17,6 +18,7 @@ use Rattle.records.specs.declared.Next.the-variants.{One, End, Stop}
 use Rattle.records.specs.Fields.{fieldAt}
 use Rattle.records.specs.Marks.{mark, bodyWidth, isKind, headOf, recordBytes}
 pub mod Laws
+pub mod Numbered
 pub mod Prefixes
 
 -- what the function makes of the kind of record that is there
@@ -25,8 +27,8 @@ module _ {A : Type 0} where
   atRecord (heads.Refused r) f = refused (number r)
   atRecord (heads.Record k) f = f k
 
--- where a record of a list or its end is due, behind so many records: a refusal of the mark or of a cut record, EN, whose count must be
--- theirs (6), or one record more
+-- where a record of a list or its end is due, behind so many records: a refusal of the mark or of a cut record, EN,
+-- whose count must be theirs (6), or one record more
 abbrev pub nextAt : Head → ℕ → List ℕ → Next
 nextAt (heads.Refused r) count s = Stop r
 nextAt (heads.Record k) count s = cond (isKind kinds.End k) (cond (eqb (fieldAt 2 1 s) count) End (Stop CountDiffers)) One
@@ -34,8 +36,8 @@ nextAt (heads.Record k) count s = cond (isKind kinds.End k) (cond (eqb (fieldAt 
 unfoldable pub nextOf : Due → ℕ → List ℕ → Next
 nextOf due count s = nextAt (headOf due s) count s
 
--- how a list of records of one kind is read. A state is what was read so far: what is due in it, how many records are listed, whether
--- the list ends by itself, and what the record at the start of the bytes makes of it
+-- how a list of records of one kind is read. A state is what was read so far: what is due in it, how many records are
+-- listed, whether the list ends by itself, and what the record at the start of the bytes makes of it
 pub record ListFormat (S : Type 0) : Type 0 where
   pub kind : Kind
   pub due : S → Due

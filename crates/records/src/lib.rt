@@ -1,10 +1,12 @@
-// Records: a two-letter mark and byte fields, lowest byte first, read from a slice and written into the part of a lent buffer that
-// starts at the cursor; lists of records. A mark is a number, matched to a record kind and tested against what is due.
+// Records: a two-letter mark and byte fields, lowest byte first, read from a slice and written into the part of a lent
+// buffer that starts at the cursor; lists of records. A mark is a number, matched to a record kind and tested against
+// what is due.
 ghost use mathlib.Core.Path.{_≡_};
 ghost use Prim.Native.Nat.{_+_, min};
 ghost use lib.Dec.{leb};
 ghost use lib.ListN.{take, drop};
-ghost use Rattle.records.specs.Fields.{fromBytes, toBytes, written};
+ghost use Rattle.records.specs.Fields.{fromBytes, toBytes};
+ghost use Rattle.drive_sets.specs.Lent.{written};
 ghost use Rattle.records.specs.Marks.{mark, kindOf, bodyWidth, isKind, isDue, headOf, recordBytes};
 ghost use Rattle.records.specs.RecordLists.{nextOf};
 use drive_sets::Refusal;
@@ -66,6 +68,8 @@ pub const KNOWN: u64 = 0x4e4b;
 pub const DECIDE: u64 = 0x4344;
 
 // How many bytes a record of a list has, with its mark.
+pub const FRAME_WIDTH: usize = 3;
+
 pub const SURVIVOR_WIDTH: usize = 10;
 
 pub const PROPOSAL_WIDTH: usize = 5;
@@ -87,7 +91,7 @@ fn at_most_8(n: usize) -> usize
 }
 
 // The number of the bytes, of the first 8 where there are more.
-pub fn from_bytes(s: &[u8]) -> u64
+pub(crate) fn from_bytes(s: &[u8]) -> u64
     ensures { λ r. ⌜ r ≡ fromBytes (take 8 (now (s .entry))) ⌝ }
 {
     let mut i = at_most_8(s.len());
@@ -175,7 +179,7 @@ pub fn put_record(part: &mut [u8], m: u64, width: usize, x: u64)
 }
 
 // The kind of record that a mark starts.
-pub fn kind_of(m: u64) -> Kind
+pub(crate) fn kind_of(m: u64) -> Kind
     ensures { λ r. ⌜ r ≡ kindOf m ⌝ }
 {
     match m {
@@ -191,7 +195,7 @@ pub fn kind_of(m: u64) -> Kind
 }
 
 // How many bytes follow the mark; of a Known record up to its mask.
-pub fn body_width(k: Kind) -> usize
+pub(crate) fn body_width(k: Kind) -> usize
     ensures { λ r. ⌜ r ≡ bodyWidth k ⌝ }
 {
     match k {
@@ -230,7 +234,7 @@ pub fn is_kind(k: Kind, this: Kind) -> bool
 }
 
 // A record of this kind may stand here.
-pub fn is_due(due: Due, k: Kind) -> bool
+pub(crate) fn is_due(due: Due, k: Kind) -> bool
     ensures { λ r. ⌜ r ≡ isDue due k ⌝ }
 {
     let m = mark_of(k);

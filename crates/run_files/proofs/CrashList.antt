@@ -24,14 +24,15 @@ use Rattle.records.specs.RecordLists.{nextOf, ReadList, widthOf, stepOf, readLi
 use Rattle.records.specs.RecordLists.Laws.{OwnKind, other-kind, one-whole}
 use Rattle.records.proofs.Lists.{first-byte, Reading, reading-start, reading-stop, reading-end, end-within, step-taken, reading-turn}
 use Rattle.drive_sets.specs.Limits.{maxDrives}
-use Rattle.run_files.specs.declared.crashes.Crashes.{Crashes}
+use Rattle.drive_crashes.specs.declared.Crashes.{Crashes}
 use Rattle.run_files.specs.declared.crash_records.Step.{Step}
 use Rattle.run_files.specs.declared.crash_records.Step.the-variants.{Crash, End, Stop}
 use Rattle.runs.specs.CrashRecords.{CrashRecord, isNext, checkedCrash}
 use Rattle.run_files.specs.RunFiles.{crashFields, CrashList, noCrash, takenCrash, crashList}
 use Rattle.run_files.specs.RunFiles.Laws.{next-bounds, checked-passes}
-use Rattle.run_files.specs.Reading.{noCrashes, crashRecord, stepOutcome, crashesIn, withCrash}
-use Rattle.run_files.specs.Reading.Laws.{none-listed, with-crash-listed}
+use Rattle.drive_crashes.specs.Crashes.{noCrashes, crashRecord, crashesIn, withCrash}
+use Rattle.run_files.specs.Reading.{stepOutcome}
+use Rattle.drive_crashes.specs.Crashes.Laws.{none-listed, with-crash-listed}
 
 -- ---- one record
 

@@ -26,7 +26,8 @@ use Rattle.drive_sets.specs.Limits.{maxDrives}
 use Rattle.run_files.specs.declared.proposals.Proposal.{Proposal}
 use Rattle.run_files.specs.declared.proposals.Proposal.the-variants.{Number, Stop}
 use Rattle.run_files.specs.RunFiles.{proposalList}
-use Rattle.run_files.specs.Reading.{values, proposalOutcome}
+use Rattle.drive_states.specs.State.{values}
+use Rattle.run_files.specs.Reading.{proposalOutcome}
 
 -- ---- one record
 

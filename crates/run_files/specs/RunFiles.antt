@@ -1,18 +1,18 @@
--- Run files as bytes: PR for each drive in order, CR (none is fine), EN with the count of CR. Reading finds the refusals from left to right.
-use mathlib.Core.Bool.{false, not, cond}
+-- Run files as bytes: PR for each drive in order, CR (none is fine), EN with the count of CR. Reading finds the
+-- refusals from left to right.
+use mathlib.Core.Bool.{false, not}
 use mathlib.Core.List.{List, [], _∷_, _++_}
-use mathlib.Core.Option.{Option, none, some}
 use Prim.Native.Nat.{ℕ, suc}
 use lib.Dec.{eqb, leb}
 use lib.ListN.{length}
 use Rattle.drive_sets.specs.declared.Refusal.the-variants.{TrailingBytes, DriveNumber, NoneUntouched}
 use Rattle.drive_sets.specs.Refusals.{Outcome, result, refuseIf, andThen}
-use Rattle.hitting_sets.specs.Hitting.{hits}
+use Rattle.survivor_tables.specs.Hitting.{hits}
 use Rattle.records.specs.declared.Kind.the-variants.{Proposal, Crash}
 use Rattle.records.specs.declared.Due.the-variants.{AtProposal, AtCrashOrEnd}
 use Rattle.records.specs.Fields.{fieldAt}
 use Rattle.records.specs.RecordLists.{ListFormat, readList}
-use Rattle.tables.specs.Tables.{isEmpty, chosenCore}
+use Rattle.survivor_tables.specs.Tables.{isEmpty, chosenCore}
 use Rattle.runs.specs.CrashRecords.{CrashRecord, crashed, checkedCrash}
 use Rattle.drive_sets.specs.Limits.{patternWidth}
 pub mod Laws
@@ -22,11 +22,6 @@ pub mod Accepted
 pub record RunFile : Type 0 where
   pub numbers : List ℕ
   pub crashes : List CrashRecord
-
--- the CR of a drive, or none
-unfoldable pub crashOf : List CrashRecord → ℕ → Option CrashRecord
-crashOf [] d = none
-crashOf (c ∷ cs) d = cond (eqb (c .drive) d) (some c) (crashOf cs d)
 
 -- ---- PR: drive, 1 byte; pattern number, 2 bytes; drives 1 to n in order
 

@@ -1,5 +1,4 @@
 // Run files: the pattern numbers that the drives propose and their crashes, read from the bytes after a table.
 mod crash_records;
-pub mod crashes;
 mod proposals;
 pub mod reading;

@@ -1,13 +1,15 @@
-// The run file reader: PR for each drive, CR, EN with their count, nothing after it, and a survivor set that no crash touches.
+// The run file reader: PR for each drive, CR, EN with their count, nothing after it, and a survivor set that no crash
+// touches.
 ghost use mathlib.Core.Path.{_≡_};
 ghost use Prim.Native.Nat.{_≤_};
 ghost use lib.ListN.{length};
 ghost use Rattle.run_files.specs.RunFiles.{readRecords, readBehind, readRunFile};
 ghost use Rattle.run_files.specs.Reading.{recordsOutcome, runFileOutcome, refusedFile};
 ghost use Rattle.drive_sets.specs.Limits.{maxDrives};
+ghost use Rattle.drive_sets.specs.Refusals.{Alone};
 use crate::crash_records;
-use crate::crashes::Crashes;
 use crate::proposals;
+use drive_crashes::Crashes;
 use drive_sets::Answer;
 use drive_sets::Pattern;
 use drive_sets::Refusal;
@@ -76,11 +78,12 @@ fn read_records(s: &[u8], n: u8, core: u64) -> RunRecords
     }
 }
 
-// The run file behind an accepted table with this chosen core. 7, bytes after the end; 11, every survivor set has a drive with a CR.
+// The run file behind an accepted table with this chosen core. 7, bytes after the end; 11, every survivor set has a
+// drive with a CR.
 fn read_behind(n: u8, core: u64, sets: &[u64], s: &[u8]) -> RunFile
     requires { ⌜ n ≤ maxDrives ⌝ }
     ensures { λ t. ⌜ runFileOutcome n t ≡ readBehind n core (now (sets .entry)) (now (s .entry)) ⌝ }
-    ensures alone { λ t. ⌜ ((r : Refusal) → t .answer ≡ Answer.Refused r → t ≡ refusedFile r) ⌝ }
+    ensures alone { λ t. ⌜ Alone (λ (u : RunFile). u .answer) refusedFile t ⌝ }
 {
     let read = read_records(s, n, core);
     let answer = read.answer;
@@ -105,11 +108,11 @@ fn read_behind(n: u8, core: u64, sets: &[u64], s: &[u8]) -> RunFile
     }
 }
 
-// The run file reader, given n and sets and the bytes behind their table: the table's refusals, then those of the file. Beside a refusal
-// nothing is told.
+// The run file reader, given n and sets and the bytes behind their table: the table's refusals, then those of the file.
+// Beside a refusal nothing is told.
 pub fn read_run_file(n: u8, sets: &[u64], s: &[u8]) -> RunFile
     ensures { λ t. ⌜ runFileOutcome n t ≡ readRunFile n (now (sets .entry)) (now (s .entry)) ⌝ }
-    ensures alone { λ t. ⌜ ((r : Refusal) → t .answer ≡ Answer.Refused r → t ≡ refusedFile r) ⌝ }
+    ensures alone { λ t. ⌜ Alone (λ (u : RunFile). u .answer) refusedFile t ⌝ }
 {
     let chosen = tables::calls::chosen_core(n, sets);
     match chosen {

@@ -12,7 +12,7 @@ use Rattle.table_files.specs.Files.{readTable}
 use Rattle.table_files.specs.Files.Laws.{table-read}
 use Rattle.runs.specs.Scenario.{Scenario, frame}
 use Rattle.runs.specs.CrashRecords.{scenario}
-use Rattle.agreement.specs.Simulated.{Ending, decides, undecided, stopped, endingOf, endings}
+use Rattle.agreement.specs.RoundEndings.{Ending, decides, undecided, stopped, endingOf, endings}
 use Rattle.run_files.specs.RunFiles.{readRunFile}
 use Rattle.simulation.specs.Simulation.{Simulated}
 use Rattle.simulation.specs.Simulation.Laws.{simulated-gives}

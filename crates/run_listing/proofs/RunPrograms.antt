@@ -6,7 +6,7 @@ use native.Mathlib.Omega.{arith}
 use lib.ListN.{getD, take}
 use Rattle.drive_sets.specs.Lists.{range}
 use Rattle.simulation.specs.Endings.{endingBy, endingsIn, foundOf, simulatedOutcome}
-use Rattle.agreement.specs.Simulated.{Ending}
+use Rattle.agreement.specs.RoundEndings.{Ending}
 use Rattle.text.specs.Text.{joined, refusalLine}
 use Rattle.run_listing.specs.RunListing.{driveLine, endingLines, coreLine, runText, simulatedWith}
 use Rattle.run_listing.specs.RunParts.{endingFor, driveLines, endingAt}
@@ -16,7 +16,9 @@ use Rattle.table_files.specs.Files.{ReadTable}
 use Rattle.drive_sets.specs.declared.Answer.{Answer}
 use Rattle.drive_sets.specs.declared.Answer.the-variants as answers
 use Rattle.run_files.specs.RunFiles.{RunFile, readRunFile}
-use Rattle.run_files.specs.Reading.{values, crashesIn, runFileOutcome}
+use Rattle.drive_crashes.specs.Crashes.{crashesIn}
+use Rattle.drive_states.specs.State.{values}
+use Rattle.run_files.specs.Reading.{runFileOutcome}
 use Rattle.run_files.specs.declared.reading.RunFile as files
 use Rattle.simulation.specs.Simulation.{Simulated, simulated}
 use Rattle.simulation.specs.declared.simulating.Simulated as simulations

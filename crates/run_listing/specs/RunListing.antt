@@ -4,14 +4,15 @@ use Prim.Native.Nat.{ℕ, suc}
 use Rattle.drive_sets.specs.Refusals.{Outcome, refused, result, andThen}
 use Rattle.records.specs.Marks.{ascii}
 use Rattle.table_files.specs.Files.{ReadTable, readTable}
-use Rattle.agreement.specs.Simulated.{Ending, decides, undecided, stopped}
+use Rattle.agreement.specs.RoundEndings.{Ending, decides, undecided, stopped}
 use Rattle.run_files.specs.RunFiles.{RunFile, readRunFile}
 use Rattle.simulation.specs.Simulation.{Simulated, simulated}
 use Rattle.text.specs.declared.Base.the-variants.{Decimal, Hexadecimal}
 use Rattle.text.specs.Text.{named, line, refusalLine}
 pub mod Prefixes
 
--- how a drive ends; a drive with a CR is stopped, even if it decided before, and no other stays undecided (`simulated-agrees`)
+-- how a drive ends; a drive with a CR is stopped, even if it decided before, and no other stays undecided
+-- (`simulated-agrees`)
 unfoldable pub endingText : Ending → List ℕ
 endingText (decides v r) = named (ascii " decides") Decimal v ++ named (ascii " round") Decimal r
 endingText undecided = ascii " undecided"

@@ -5,8 +5,8 @@ use Prim.Native.Nat.{ℕ}
 use Rattle.drive_sets.specs.declared.Pattern.{Pattern}
 use Rattle.drive_sets.specs.declared.Round.{Round}
 use Rattle.drive_sets.specs.Masks.{has}
-use Rattle.agreement.specs.Simulated.{Ending, stopped}
-use Rattle.run_files.specs.Reading.{roundAt}
+use Rattle.agreement.specs.RoundEndings.{Ending, stopped}
+use Rattle.drive_crashes.specs.Crashes.{roundAt}
 use Rattle.drive_states.specs.State.{numberIn}
 use Rattle.simulation.specs.Endings.{endingBy}
 use Rattle.text.specs.Text.{joined}

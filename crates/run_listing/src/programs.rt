@@ -12,7 +12,7 @@ use drive_sets::Answer;
 use records::Writing;
 use simulation::simulating::Simulated;
 use simulation::simulating::simulate;
-use tables::frames::Table;
+use survivor_tables::frames::Table;
 use text::lines::put_refused;
 use text::printing::MAX_TEXT;
 use text::printing::print;
@@ -75,7 +75,8 @@ fn put_run(buf: &mut [u8], input: &[u8]) -> usize
     }
 }
 
-// What the run program prints for the bytes on its input: how the drives of the simulated exchange end, or a refusal's line.
+// What the run program prints for the bytes on its input: how the drives of the simulated exchange end, or a refusal's
+// line.
 pub fn run_listing(input: &[u8], out: &mut [u8], start: usize) -> Writing
     ensures { λ r. ⌜ Printed (runProgram (now (input .entry))) start (now (out .entry)) (now (out .exit)) r ⌝ }
 {

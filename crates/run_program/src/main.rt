@@ -1,5 +1,5 @@
-// The run program: reads a table and then a run file on standard input and prints how each drive of the simulated exchange ends, the core and
-// the number of stops, or the line of the refusal, and nothing else.
+// The run program: reads a table and then a run file on standard input and prints how each drive of the simulated
+// exchange ends, the core and the number of stops, or the line of the refusal, and nothing else.
 //
 // Input behind the first 4096 bytes changes nothing (`run-program-prefix` in run_listing), and is left unread.
 use libc::STDIN_FILENO;

@@ -1,5 +1,6 @@
--- The four calls of a drive, and the drives that its message goes to, with a CR as far as that lets it get, as one thing. What is said of worlds and runs is said of any protocol; it is
--- proved of document 01's, and shown to be false of wrong ones.
+-- The four calls of a drive, and the drives that its message goes to, with a CR as far as that lets it get, as one
+-- thing. What is said of worlds and runs is said of any protocol; it is proved of document 01's, and shown to be false
+-- of wrong ones.
 use mathlib.Core.List.{List}
 use Prim.Native.Nat.{ℕ}
 use Rattle.drive_sets.specs.Refusals.{Outcome}

@@ -1,6 +1,7 @@
--- A run: a list of calls that is an opening part and then a part for each of the rounds 1 to the core's size. A part has calls that are due,
--- each once, and between them any calls that are refused. Whether a call is due does not depend on whether it succeeds: a due opening,
--- message or close counts as made whatever its answer, and a due send that is refused sends nothing.
+-- A run: a list of calls that is an opening part and then a part for each of the rounds 1 to the core's size. A part
+-- has calls that are due, each once, and between them any calls that are refused. Whether a call is due does not depend
+-- on whether it succeeds: a due opening, message or close counts as made whatever its answer, and a due send that is
+-- refused sends nothing.
 use mathlib.Core.Path.{_≡_}
 use mathlib.Core.Bool.{Bool, true, false, not, _&&_, _||_, cond}
 use mathlib.Core.List.{List, [], _∷_, _++_}
@@ -12,8 +13,8 @@ use Rattle.drive_sets.specs.Lists.{filter, all, any, elem}
 use Rattle.drive_sets.specs.Masks.{has, size}
 use Rattle.drive_sets.specs.Refusals.{Outcome, refused, result, number}
 use Rattle.drive_sets.specs.Counts.{isDrive}
-use Rattle.set_orders.specs.Order.{normal}
-use Rattle.tables.specs.Tables.{normalTable}
+use Rattle.survivor_tables.specs.Order.{normal}
+use Rattle.survivor_tables.specs.Tables.{normalTable}
 use Rattle.runs.specs.Protocol.{Protocol}
 use Rattle.runs.specs.World.{Call, opens, sends, delivers, closes, driveOf, Slot, unopened, opened, World, nothingOpen, apply, applyAll, refusedIn, active}
 use Rattle.runs.specs.Scenario.{Scenario, frame, coreOf, goneBefore, goneBy, sendsNone}
@@ -112,8 +113,8 @@ unfoldable pub closer : Scenario → ℕ → World → ℕ → Bool
 closer s r w₀ d = isDrive (s .n) d && active (w₀ d) && not (goneBy (s .crash d) r)
 
 module _ (s : Scenario) (r : ℕ) (w₀ : World) where
-  -- in the end every sender was called, unless it has a CR for this round with no sends, and every closer closed; messages to a drive
-  -- that does not close, having halted or having a CR up to this round, may be missing
+  -- in the end every sender was called, unless it has a CR for this round with no sends, and every closer closed;
+  -- messages to a drive that does not close, having halted or having a CR up to this round, may be missing
   unfoldable pub complete : RoundProgress → Bool
   complete b =
       all (λ d. not (sender s r w₀ d) || isCalled (b .sent d) || sendsNone (s .crash d) r) (frame s)
@@ -128,8 +129,8 @@ module _ (P : Protocol) (s : Scenario) (r : ℕ) (w₀ : World) where
   unfoldable pub arrived : RoundProgress → ℕ → ℕ → Bool
   arrived b e d = not (sender s r w₀ d && elem e (P .reach s r d)) || settled (b .sent d) (b .delivered d e)
 
-  -- A send is due once, into a buffer with room; the bytes written, by one message call each, to the drives of the list; a close once,
-  -- after the drive's own send and the messages to it.
+  -- A send is due once, into a buffer with room; the bytes written, by one message call each, to the drives of the
+  -- list; a close once, after the drive's own send and the messages to it.
   unfoldable pub due : RoundProgress → World → Call → Bool
   due b w (opens d n sets own number) = false
   due b w (sends d room start) = sender s r w₀ d && not (isCalled (b .sent d)) && not (lacksRoom (sendingOf P (w d) room start))

@@ -4,12 +4,12 @@ use mathlib.Core.List.{List}
 use Prim.Native.Nat.{ℕ}
 use lib.Dec.{eqb, leb, ltb}
 use Rattle.drive_sets.specs.Lists.{range}
-use Rattle.set_orders.specs.Order.{normal}
-use Rattle.tables.specs.Tables.{chosen}
+use Rattle.survivor_tables.specs.Order.{normal}
+use Rattle.survivor_tables.specs.Tables.{chosen}
 pub mod Laws
 
--- CR, a crash failure: the drive acts normally before that round, makes that many sends of that round's list and is gone before the
--- round closes. A function of the drive, so there is at most one CR to a drive.
+-- CR, a crash failure: the drive acts normally before that round, makes that many sends of that round's list and is
+-- gone before the round closes. A function of the drive, so there is at most one CR to a drive.
 pub data Crash : Type 0 where
   stays : Crash
   crashes : ℕ → ℕ → Crash  -- the round and the sends

@@ -1,4 +1,5 @@
--- Demand 3: what is to be proved of every run, as types, for the drives of any protocol. One statement speaks of the whole list of calls.
+-- Demand 3: what is to be proved of every run, as types, for the drives of any protocol. One statement speaks of the
+-- whole list of calls.
 use mathlib.Core.Path.{_≡_}
 use mathlib.Core.Bool.{Bool, true, false, not, _&&_, _||_}
 use mathlib.Core.List.{List, [], _∷_, _++_}
@@ -8,8 +9,8 @@ use lib.ListN.{length, take, getD}
 use Rattle.drive_sets.specs.Lists.{filter, elem}
 use Rattle.drive_sets.specs.Masks.{has, size, drives}
 use Rattle.drive_sets.specs.Refusals.{result}
-use Rattle.set_orders.specs.Order.{normal}
-use Rattle.tables.specs.Tables.{chosen, normalTable}
+use Rattle.survivor_tables.specs.Order.{normal}
+use Rattle.survivor_tables.specs.Tables.{chosen, normalTable}
 use Rattle.drive_states.specs.declared.Decision.the-variants.{Decided}
 use Rattle.drive_sets.specs.Counts.{isDrive}
 use Rattle.drive_states.specs.State.{isDecided}
@@ -83,8 +84,8 @@ module _ {P : Protocol} {s : Scenario} {calls : List Call} (run : Run P s calls)
   unfoldable pub callsBefore : ℕ → List Call
   callsBefore k = run .first ++ joined (take k (run .rounds))
 
-  -- a drive decides on v in its round k + 1: the close of that round, which is among that round's calls, leaves it decided on v, and the
-  -- closes before left it undecided
+  -- a drive decides on v in its round k + 1: the close of that round, which is among that round's calls, leaves it
+  -- decided on v, and the closes before left it undecided
   pub record DecidesAfter (d v k : ℕ) : Type 0 where
     pub earlier : List Call
     pub later : List Call
@@ -105,8 +106,8 @@ module _ {P : Protocol} {s : Scenario} {calls : List Call} (run : Run P s calls)
     pub upTo : round ≤ lastRound s
     pub decides : Decides d v round
 
-  -- there is one number, proposed by a core drive, on which every drive that stays up decides in a round up to f + 1; none of them decides
-  -- on another; and after the whole list each stands decided on it
+  -- there is one number, proposed by a core drive, on which every drive that stays up decides in a round up to f + 1;
+  -- none of them decides on another; and after the whole list each stands decided on it
   pub record Agreed : Type 0 where
     pub value : ℕ
     pub proposed : Proposed s value
@@ -117,8 +118,8 @@ module _ {P : Protocol} {s : Scenario} {calls : List Call} (run : Run P s calls)
 unfoldable pub Agreement : Protocol → Type 0
 Agreement P = (s : Scenario) → Valid s → Untouched s → (calls : List Call) (run : Run P s calls) → Agreed run
 
--- ---- the bound is reached: for every f below the core's size, in some run with f core drives crashing and some survivor set untouched, a
--- drive that stays up decides in round f + 1, whatever is proposed
+-- ---- the bound is reached: for every f below the core's size, in some run with f core drives crashing and some survivor
+-- set untouched, a drive that stays up decides in round f + 1, whatever is proposed
 
 pub record TightAt (P : Protocol) (n : ℕ) (sets : List ℕ) (proposal : ℕ → ℕ) (f : ℕ) : Type 0 where
   pub scenario : Scenario
@@ -144,7 +145,8 @@ Tight P = (n : ℕ) (sets : List ℕ) → normalTable n sets ≡ result (normal 
 unfoldable pub RunsExist : Protocol → Type 0
 RunsExist P = (s : Scenario) → Valid s → (calls : List Call) × Run P s calls
 
--- ---- so in two runs of one scenario every drive decides on the same numbers in the same rounds, and those that stay up end the same
+-- ---- so in two runs of one scenario every drive decides on the same numbers in the same rounds, and those that stay up
+-- end the same
 
 pub record Same {P : Protocol} {s : Scenario} {calls calls′ : List Call} (run : Run P s calls) (run′ : Run P s calls′) : Type 0 where
   pub decides : (d v r : ℕ) → Decides run d v r → Decides run′ d v r

@@ -1,5 +1,5 @@
--- Calls on the drives of a frame, and the world that a list of calls leaves: each call gets the state that the last call for its drive
--- left, a refused one leaving it as it was.
+-- Calls on the drives of a frame, and the world that a list of calls leaves: each call gets the state that the last
+-- call for its drive left, a refused one leaving it as it was.
 use mathlib.Core.Bool.{Bool, true, false, not, cond}
 use mathlib.Core.List.{List, [], _∷_}
 use Prim.Native.Nat.{ℕ}

@@ -1,8 +1,8 @@
 // The message that a core drive sends in a round: KN or DC into the part of the lent buffer from the cursor on.
 ghost use mathlib.Core.Path.{_≡_};
 ghost use lib.ListN.{length};
-ghost use Rattle.records.specs.Fields.{written};
-ghost use Rattle.records.specs.LentBuffers.{fitting, Written};
+ghost use Rattle.drive_sets.specs.Lent.{written, fitting};
+ghost use Rattle.records.specs.LentBuffers.{Written};
 ghost use Rattle.drive_states.specs.Messages.{messageBytes};
 ghost use Rattle.agreement.specs.Calls.{outgoing, sending};
 use drive_sets::PATTERN_BYTES;
@@ -50,8 +50,8 @@ fn write_message(x: Exchange, buf: &mut [u8], start: usize) -> Writing
     Writing::Wrote(size)
 }
 
-// A send: the message of the round into the lent buffer, from the starting place on, touching only its own bytes. 28, 23, 27, 14; on a
-// refusal the buffer stays as it was.
+// A send: the message of the round into the lent buffer, from the starting place on, touching only its own bytes. 28,
+// 23, 27, 14; on a refusal the buffer stays as it was.
 pub fn send(x: Exchange, buf: &mut [u8], start: usize) -> Writing
     ensures { λ r. ⌜ Written (sending x (length (now (buf .entry))) start) start (now (buf .entry)) (now (buf .exit)) r ⌝ }
 {

@@ -1,3 +1,3 @@
--- Orders of masks, lists put in order, the normal form of a list of sets, and lists of sets in lent slices.
-pub mod Order
-pub mod LentLists
+-- What the code promises of lists of sets: sorted in place, and the normal form.
+pub mod Sorting
+pub mod NormalForms

@@ -15,7 +15,7 @@ use Rattle.runs.specs.World.{Call, opened, closes, active}
 use Rattle.agreement.specs.Document01.{applyAll}
 use Rattle.runs.specs.World as worlds
 use Rattle.runs.specs.Scenario.{goneBy}
-use Rattle.run_files.specs.declared.crashes.Crashes.{Crashes}
+use Rattle.drive_crashes.specs.declared.Crashes.{Crashes}
 use Rattle.simulated_rounds.specs.States.{crashAt, blank, stateAt, worldOf, closers}
 use Rattle.simulated_rounds.proofs.Worlds.{state-place, close-place}
 use Rattle.simulated_rounds.proofs.Walks.{Walking, callsIf, walk-turn, walk-end, calls-kept, calls-single}

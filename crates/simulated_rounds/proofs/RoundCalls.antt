@@ -1,32 +1,28 @@
--- The calls of a round in the canonical order are those that the code makes: its list of a sender, its senders and its closers are the
--- scenario's.
-use mathlib.Core.Path.{_≡_, refl, sym, ap, ap₂, _∙_}
+-- The calls of a round in the canonical order are those that the code makes: its list of a sender, its senders and its
+-- closers are the scenario's.
+use mathlib.Core.Path.{_≡_, refl, ap, ap₂, _∙_}
 use mathlib.Core.Bool.{Bool, true, not, _&&_}
 use mathlib.Core.List.{List, [], _∷_, _++_, map}
 use Prim.Native.Nat.{ℕ, _^_, _≤_, _<_}
-use native.Mathlib.Omega.{arith}
-use lib.Dec.{eqb}
 use Rattle.drive_sets.specs.Bools.Laws.{by-test}
 use Rattle.drive_sets.specs.Lists.{range, filter, elem}
-use Rattle.drive_sets.specs.Lists.Laws.{elem-head, elem-tail, elem-range, filter-same}
-use Rattle.drive_sets.specs.Masks.{has, single, minus, outside, drives}
-use Rattle.drive_sets.specs.Masks.Laws.{has-minus, has-single, full-has, minus-lt}
-use Rattle.drive_sets.specs.Masks.Outside.{outside-lt, has-outside}
-use Rattle.drive_sets.specs.Masks.Frames.{drives-frame}
+use Rattle.drive_sets.specs.Lists.Laws.{elem-head, elem-tail, filter-same}
+use Rattle.drive_sets.specs.Masks.{has}
 use Rattle.drive_states.specs.declared.Exchange.{Exchange}
 use Rattle.drive_sets.specs.Counts.{isDrive}
-use Rattle.drive_sets.specs.Counts.Laws.{drive-bounds, isDrive-range}
+use Rattle.drive_sets.specs.Counts.Laws.{isDrive-range}
 use Rattle.agreement.specs.Calls.{sending}
 use Rattle.runs.specs.World.{Call, sends, closes, Slot, opened, World, active}
 use Rattle.agreement.specs.Document01.{document01, apply, applyAll, sendingOf}
 use Rattle.runs.specs.World as worlds
 use Rattle.runs.specs.World.Laws.{applyAll-append}
 use Rattle.runs.specs.Scenario.{Crash, Scenario, frame, goneBefore, goneBy}
-use Rattle.agreement.specs.Sends.{listOf, cut, reach}
+use Rattle.agreement.proofs.SendLists.{receivers-masks}
+use Rattle.agreement.specs.Sends.{receivers, listOf, cut, reach}
 use Rattle.runs.specs.Runs.{sender, closer, joined}
 use Rattle.runs.specs.Runs as anyRuns
 use Rattle.agreement.specs.Canonical.{room, deliveries, messageCalls, roundCalls}
-use Rattle.run_files.specs.declared.crashes.Crashes.{Crashes}
+use Rattle.drive_crashes.specs.declared.Crashes.{Crashes}
 use Rattle.simulated_rounds.specs.States.{crashAt, stateAt, worldOf, closers, listFor, sendsNow, messagesBy, messagesOf, Says}
 use Rattle.simulated_rounds.proofs.Worlds.{world-at}
 
@@ -42,22 +38,7 @@ module _ (n core : ℕ) (c : Crashes) (s : Scenario) (few : n ≤ 64) (within : 
   list-for : (d : ℕ) → isDrive n d ≡ true → listOf s d ≡ listFor n core d
   unfolding listOf listFor frame
   list-for d h =
-      ap₂ (λ (k m : ℕ). filter (λ e. has e k && not (eqb e d)) (range 1 m) ++ filter (λ e. not (has e k)) (range 1 m)) (g .core-is) (g .frame-is)
-      ∙ ap₂ (λ (a b : List ℕ). a ++ b) others listeners
-    where
-      others : filter (λ e. has e core && not (eqb e d)) (range 1 n) ≡ drives (minus core (single d))
-      others =
-          let b = drive-bounds n d h in
-          filter-same (λ e. has e core && not (eqb e d)) (λ e. has e (minus core (single d))) (range 1 n)
-          (λ e i. sym (has-minus e core (single d) ∙ ap (λ (x : Bool). has e core && not x) (has-single e d (b .0) (omega (arith, b .1, few)))))
-          ∙ sym (drives-frame n (minus core (single d)) (minus-lt n core (single d) within) few)
-
-      listeners : filter (λ e. not (has e core)) (range 1 n) ≡ drives (outside n core)
-      listeners =
-          filter-same (λ e. not (has e core)) (λ e. has e (outside n core)) (range 1 n)
-          (λ e i. let b = elem-range e 1 n i in
-          sym (has-outside e n core ∙ ap (λ (x : Bool). x && not (has e core)) (full-has e n few (b .0) (omega (arith, b .1)))))
-          ∙ sym (drives-frame n (outside n core) (outside-lt n core) few)
+      ap₂ (λ (k m : ℕ). receivers (range 1 m) k d) (g .core-is) (g .frame-is) ∙ receivers-masks n core d few within h
 
   module _ (states : List Exchange) (r : ℕ) where
     abbrev world : World

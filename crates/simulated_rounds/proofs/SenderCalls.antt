@@ -15,7 +15,7 @@ use Rattle.agreement.specs.Document01.{applyAll}
 use Rattle.runs.specs.Scenario.{goneBefore}
 use Rattle.agreement.specs.Sends.{cut}
 use Rattle.agreement.specs.Canonical.{deliveries}
-use Rattle.run_files.specs.declared.crashes.Crashes.{Crashes}
+use Rattle.drive_crashes.specs.declared.Crashes.{Crashes}
 use Rattle.simulated_rounds.specs.States.{crashAt, blank, worldOf, listFor, sendsNow, messagesBy, messagesOf}
 use Rattle.simulated_rounds.proofs.Worlds.{state-place}
 use Rattle.simulated_rounds.proofs.Walks.{Walking, walk-turn, walk-end}

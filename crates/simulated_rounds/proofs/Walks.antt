@@ -1,4 +1,5 @@
--- A walk over the drives 1 to n in which each step makes the calls of one drive: the loops of the closes and of the sends.
+-- A walk over the drives 1 to n in which each step makes the calls of one drive: the loops of the closes and of the
+-- sends.
 use mathlib.Core.Path.{_≡_, refl, sym, ap, _∙_, subst}
 use mathlib.Core.Bool.{Bool, cond}
 use mathlib.Core.List.{List, [], _∷_, _++_, map}

@@ -1,4 +1,5 @@
--- What the code's values say: the crashes by drive, the world of the array of states, the calls of a round, and the scenario that they are of.
+-- What the code's values say: the crashes by drive, the world of the array of states, the calls of a round, and the
+-- scenario that they are of.
 use mathlib.Core.Path.{_≡_}
 use mathlib.Core.Bool.{Bool, false, not, _&&_, cond}
 use mathlib.Core.List.{List, [], _++_, map}
@@ -16,8 +17,8 @@ use Rattle.runs.specs.Scenario.{Crash, stays, crashes, Scenario, coreOf, goneBe
 use Rattle.agreement.specs.Sends.{cut}
 use Rattle.runs.specs.Runs.{joined}
 use Rattle.agreement.specs.Canonical.{room, deliveries}
-use Rattle.run_files.specs.declared.crashes.Crashes.{Crashes}
-use Rattle.run_files.specs.Reading.{roundAt}
+use Rattle.drive_crashes.specs.declared.Crashes.{Crashes}
+use Rattle.drive_crashes.specs.Crashes.{roundAt}
 
 -- the CR of a drive
 unfoldable pub crashAt : Crashes → ℕ → Crash

@@ -10,10 +10,10 @@ ghost use Rattle.agreement.specs.Document01.{applyAll};
 ghost use Rattle.runs.specs.Scenario.{goneBy};
 ghost use Rattle.simulated_rounds.specs.States.{crashAt, worldOf, closers};
 use crate::crashes;
+use drive_crashes::Crashes;
 use drive_sets::Drive;
 use drive_sets::Round;
 use drive_states::Exchange;
-use run_files::crashes::Crashes;
 
 // The drive that was in this state when the round began closes it.
 fn is_closer(was: Exchange, crashes: Crashes, d: Drive, round: Round) -> bool

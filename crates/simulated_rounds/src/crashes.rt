@@ -5,12 +5,12 @@ ghost use Prim.Native.Nat.{ℕ, _≤_, _-_};
 ghost use lib.ListN.{length, take, getD};
 ghost use Rattle.runs.specs.Scenario.{goneBefore, goneBy};
 ghost use Rattle.agreement.specs.Sends.{cut};
-ghost use Rattle.run_files.specs.Reading.{roundAt};
+ghost use Rattle.drive_crashes.specs.Crashes.{roundAt};
 ghost use Rattle.simulated_rounds.specs.States.{crashAt};
+use drive_crashes::Crashes;
 use drive_sets::Drive;
 use drive_sets::MAX_DRIVES;
 use drive_sets::Round;
-use run_files::crashes::Crashes;
 
 // The round at a drive's place.
 fn round_at(rounds: [Round; 64], d: Drive) -> Round
@@ -56,7 +56,8 @@ pub(crate) fn gone_by(crashes: Crashes, d: Drive, round: Round) -> bool
     last.0 <= round.0
 }
 
-// How many sends of this round's list the drive makes; 64, which no list is longer than, where it has no CR for this round.
+// How many sends of this round's list the drive makes; 64, which no list is longer than, where it has no CR for this
+// round.
 pub(crate) fn sends_made(crashes: Crashes, d: Drive, round: Round) -> u8
     ensures { λ r. ⌜ ((l : List ℕ) → length l ≤ 64 → cut (crashAt crashes (d .0)) (round .0) l ≡ take r l) ⌝ }
 {

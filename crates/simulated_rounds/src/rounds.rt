@@ -13,11 +13,11 @@ ghost use Rattle.simulated_rounds.specs.States.{crashAt, worldOf, listFo
 use crate::closing;
 use crate::crashes;
 use crate::delivering;
+use drive_crashes::Crashes;
 use drive_sets::Drive;
 use drive_sets::MAX_DRIVES;
 use drive_sets::Round;
 use drive_states::Exchange;
-use run_files::crashes::Crashes;
 
 // A core drive neither halted nor gone when the round begins, where x is its state then.
 fn is_sender(x: Exchange, core: u64, crashes: Crashes, d: Drive, round: Round) -> bool

@@ -13,9 +13,9 @@ use Rattle.drive_sets.specs.Counts.{isDrive}
 use Rattle.runs.specs.World.{World, nothingOpen, decisionOf}
 use Rattle.agreement.specs.Document01.{applyAll}
 use Rattle.runs.specs.Scenario.{Scenario, coreOf}
-use Rattle.agreement.specs.Simulated.{Ending, decides, undecided, stopped}
+use Rattle.agreement.specs.RoundEndings.{Ending, decides, undecided, stopped}
 use Rattle.agreement.specs.Canonical.{openingCalls, roundCalls, roundsFrom, canonicalRounds, endingOn, firstDecision, canonicalEnding}
-use Rattle.run_files.specs.declared.crashes.Crashes.{Crashes}
+use Rattle.drive_crashes.specs.declared.Crashes.{Crashes}
 use Rattle.simulation.specs.declared.simulating.Notes.{Notes}
 use Rattle.simulated_rounds.specs.States.{stateAt, worldOf, Says}
 use Rattle.simulation.specs.Endings.{foundOf, nothingFound, orLater}

@@ -1,12 +1,13 @@
--- The crashes checked in order: the loop over the drives with a CR, from the lowest, and the checks with what comes next.
+-- The crashes checked in order: the loop over the drives with a CR, from the lowest, and the checks with what comes
+-- next.
 use mathlib.Core.Path.{_≡_, refl}
 use mathlib.Core.List.{List, [], _∷_, map}
 use Prim.Native.Nat.{ℕ}
 use Rattle.drive_sets.specs.Refusals.{Outcome, refused, result, andThen}
 use Rattle.drive_sets.specs.Loops.Drives.{Walk}
 use Rattle.runs.specs.CrashRecords.{CrashRecord, checkedCrash}
-use Rattle.run_files.specs.declared.crashes.Crashes.{Crashes}
-use Rattle.run_files.specs.Reading.{crashOfDrive, crashesIn}
+use Rattle.drive_crashes.specs.declared.Crashes.{Crashes}
+use Rattle.drive_crashes.specs.Crashes.{crashOfDrive, crashesIn}
 use Rattle.simulation.specs.Simulation.{checkedCrashes}
 
 -- what the checks give of the crashes of some drives, after that of the last

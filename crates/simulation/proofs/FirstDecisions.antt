@@ -15,9 +15,9 @@ use Rattle.drive_states.specs.declared.Exchange.{Exchange}
 use Rattle.drive_states.specs.declared.Decision.{Decision}
 use Rattle.drive_sets.specs.Counts.{isDrive}
 use Rattle.drive_sets.specs.Counts.Laws.{drive-bounds}
-use Rattle.agreement.specs.Simulated.{Ending, undecided}
+use Rattle.agreement.specs.RoundEndings.{Ending, undecided}
 use Rattle.agreement.specs.Canonical.{endingOn}
-use Rattle.run_files.specs.Reading.{noRound, roundAt}
+use Rattle.drive_crashes.specs.Crashes.{noRound, roundAt}
 use Rattle.drive_states.specs.State.{pattern, numberIn}
 use Rattle.simulated_rounds.specs.States.{blank, stateAt}
 use Rattle.simulation.specs.Endings.{endingBy, foundOf, nothingFound, orLater}

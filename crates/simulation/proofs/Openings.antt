@@ -17,7 +17,7 @@ use Rattle.drive_sets.specs.Bools.Laws.{clash, by-test, false-of}
 use Rattle.drive_states.specs.declared.Exchange.{Exchange}
 use Rattle.drive_sets.specs.Counts.{isDrive}
 use Rattle.drive_sets.specs.Counts.Laws.{drive-bounds, isDrive-range}
-use Rattle.set_orders.specs.Order.{normal}
+use Rattle.survivor_tables.specs.Order.{normal}
 use Rattle.agreement.specs.Calls.{initial, opening}
 use Rattle.agreement.proofs.CallLaws.{opening-accepted}
 use Rattle.runs.specs.World.{opens, Slot, opened, World, nothingOpen, put, afterCall}
@@ -26,7 +26,7 @@ use Rattle.runs.specs.World as worlds
 use Rattle.runs.specs.World.Laws.{put-same, put-other}
 use Rattle.runs.specs.Scenario.{Scenario, frame, coreOf}
 use Rattle.agreement.specs.Canonical.{openingCalls}
-use Rattle.run_files.specs.declared.crashes.Crashes.{Crashes}
+use Rattle.drive_crashes.specs.declared.Crashes.{Crashes}
 use Rattle.drive_states.specs.State.{pattern, numberIn}
 use Rattle.simulated_rounds.specs.States.{blank, stateAt, worldOf}
 use Rattle.simulation.specs.Arguments.{Told}

@@ -1,4 +1,5 @@
--- What the simulated exchange gives: how each drive ends, the core and f, from the first decisions that the rounds found.
+-- What the simulated exchange gives: how each drive ends, the core and f, from the first decisions that the rounds
+-- found.
 use mathlib.Core.Path.{_≡_, refl, sym, ap, ap₂, _∙_, subst}
 use mathlib.Core.Bool.{Bool, true, false, _&&_, cond}
 use mathlib.Core.List.{List, [], _∷_, map}
@@ -10,7 +11,8 @@ use lib.Dec.{eqb}
 use borrow.Author.Tests.{eqb-true, eqb-false, eq-eqb, ne-eqb}
 use Rattle.drive_sets.specs.Bools.Laws.{by-test, cond-true, cond-false}
 use Rattle.drive_sets.specs.Lists.{range, elem}
-use Rattle.drive_sets.specs.Lists.Laws.{elem-none, elem-head, elem-tail, any-true, any-false, filter-same}
+use Rattle.drive_sets.specs.Lists.Places.{map-same}
+use Rattle.drive_sets.specs.Lists.Laws.{elem-none, any-true, any-false, filter-same}
 use Rattle.drive_sets.specs.Lists.Takes.{filter-filter}
 use Rattle.drive_sets.specs.Masks.{has, common, size, drives}
 use Rattle.drive_sets.specs.Masks.Laws.{has-common}
@@ -18,33 +20,27 @@ use Rattle.drive_sets.specs.Masks.Sizes.{elem-drives, length-drives}
 use Rattle.drive_sets.specs.declared.Pattern.{Pattern}
 use Rattle.drive_sets.specs.Refusals.{Outcome, refused, result, andThen}
 use Rattle.drive_sets.specs.Refusals.Laws.{refused-no-result}
-use Rattle.set_orders.specs.Order.{normal}
-use Rattle.tables.specs.Tables.{chosen, normalTable, chosenCore, Accepted}
-use Rattle.tables.specs.Tables.Laws.{accepted-table, core-given, chosen-core}
+use Rattle.survivor_tables.specs.Order.{normal}
+use Rattle.survivor_tables.specs.Tables.{chosen, normalTable, chosenCore, Accepted}
+use Rattle.survivor_tables.specs.Tables.Laws.{accepted-table, core-given, chosen-core}
 use Rattle.drive_sets.specs.Counts.{isDrive}
 use Rattle.drive_sets.specs.Limits.{patternLimit}
 use Rattle.drive_sets.specs.Counts.Laws.{drive-bounds, isDrive-range}
 use Rattle.runs.specs.Scenario.{Crash, stays, crashes, Scenario, frame, coreOf, hasCrash}
 use Rattle.runs.specs.CrashRecords.{CrashRecord, crashed, crashIn, scenario}
 use Rattle.runs.specs.Statement.{Valid, Up, coreCrashes}
-use Rattle.agreement.specs.Simulated.{Ending, stopped, endingOf, endings}
+use Rattle.agreement.specs.RoundEndings.{Ending, stopped, endingOf, endings}
 use Rattle.agreement.specs.Canonical.{canonicalEnding, CanonicalGives}
 use Rattle.agreement.proofs.Refinement.Endings.{canonical-gives}
-use Rattle.run_files.specs.declared.crashes.Crashes.{Crashes}
-use Rattle.run_files.specs.Reading as files
-use Rattle.run_files.specs.Reading.{values, roundAt}
+use Rattle.drive_crashes.specs.declared.Crashes.{Crashes}
+use Rattle.drive_crashes.specs.Crashes as by-drive
+use Rattle.drive_crashes.specs.Crashes.{roundAt}
+use Rattle.drive_states.specs.State.{values}
 use Rattle.simulation.specs.Simulation.{checkedCrashes, Simulated, simulatedOf, unlessTouched, simulated}
 use Rattle.simulation.specs.Simulation.Laws.{checked-valid}
 use Rattle.drive_states.specs.State.{pattern, numberIn}
 use Rattle.simulated_rounds.specs.States.{crashAt, Says}
 use Rattle.simulation.specs.Arguments.{Told}
-
--- ---- lists
-
-module _ {A : Type 0} where
-  map-equal : (f g : ℕ → A) (l : List ℕ) → ((x : ℕ) → elem x l ≡ true → f x ≡ g x) → map f l ≡ map g l
-  map-equal f g [] same = refl
-  map-equal f g (x ∷ l) same = ap₂ (λ (a : A) (m : List A). a ∷ m) (same x (elem-head x l)) (map-equal f g l (λ y h. same y (elem-tail y x l h)))
 
 -- ---- the result of a scenario
 
@@ -76,7 +72,7 @@ module _ (n core : ℕ) (c : Crashes) (s : Scenario) (g : Says n core c s) where
       → map (λ d. cond (has d (c .crashed)) stopped (found d)) (range 1 n) ≡ endings s
   unfolding endings frame endingOf CanonicalGives
   endings-found ok found same =
-      map-equal (λ d. cond (has d (c .crashed)) stopped (found d)) (λ d. endingOf s (s .crash d) d) (range 1 n)
+      map-same (λ d. cond (has d (c .crashed)) stopped (found d)) (λ d. endingOf s (s .crash d) d) (range 1 n)
       (λ d i. let inside = isDrive-range n d ∙ i in
       by-test (has d (c .crashed))
       (λ t. cond-true _ _ t ∙ sym (ap (λ (q : Crash). endingOf s q d) (crashes-at d t)))
@@ -98,8 +94,8 @@ module _ (n core : ℕ) (c : Crashes) (s : Scenario) (g : Says n core c s) where
 
 -- the CR of a drive among the records is the one at its place
 crash-listed : (c : Crashes) (l : List ℕ) (d : ℕ)
-    → crashIn (map (files.crashOfDrive c) l) d ≡ cond (elem d l) (crashes (roundAt (c .rounds) d) (getD (c .sends) (d - 1) 0)) stays
-unfolding crashIn elem files.crashOfDrive
+    → crashIn (map (by-drive.crashOfDrive c) l) d ≡ cond (elem d l) (crashes (roundAt (c .rounds) d) (getD (c .sends) (d - 1) 0)) stays
+unfolding crashIn elem by-drive.crashOfDrive
 crash-listed c [] d = rw (elem-none d)
 crash-listed c (x ∷ l) d =
     by-test (eqb x d)
@@ -115,14 +111,14 @@ module _ (n : ℕ) (sets : List ℕ) (numbers : List Pattern) (c : Crashes) (cor
   chosen-bounds = (given .0 .high, subst (λ (x : ℕ). x < 2 ^ n) (given .1) (chosen-core n sets (given .0) .within))
 
   pub told : ((i : ℕ) → getD numbers i (pattern 0) .0 < patternLimit)
-      → checkedCrashes n core 0 (files.crashesIn c) (result (files.crashesIn c)) ≡ result (files.crashesIn c)
-      → Told n core numbers c (scenario n sets (take n (values numbers)) (files.crashesIn c))
-  unfolding scenario coreOf crashAt numberIn files.crashesIn
+      → checkedCrashes n core 0 (by-drive.crashesIn c) (result (by-drive.crashesIn c)) ≡ result (by-drive.crashesIn c)
+      → Told n core numbers c (scenario n sets (take n (values numbers)) (by-drive.crashesIn c))
+  unfolding scenario coreOf crashAt numberIn by-drive.crashesIn
   told small checks = record {
     says = record { frame-is = refl; core-is = given .1; crash-is = crash-is };
-    valid = checked-valid n sets (take n (values numbers)) (files.crashesIn c) (accepted-table n sets (given .0))
+    valid = checked-valid n sets (take n (values numbers)) (by-drive.crashesIn c) (accepted-table n sets (given .0))
         (λ d h. subst (λ (v : ℕ). v < patternLimit) (sym (proposed d h)) (small (d - 1)))
-        (ap (λ (k : ℕ). checkedCrashes n k 0 (files.crashesIn c) (result (files.crashesIn c))) (given .1) ∙ checks);
+        (ap (λ (k : ℕ). checkedCrashes n k 0 (by-drive.crashesIn c) (result (by-drive.crashesIn c))) (given .1) ∙ checks);
     proposal-is = proposed;
   }
     where
@@ -131,7 +127,7 @@ module _ (n : ℕ) (sets : List ℕ) (numbers : List Pattern) (c : Crashes) (cor
           let b = drive-bounds n d h in
           getD-take n (values numbers) (d - 1) 0 (omega (arith, b .0, b .1)) ∙ List·getD-map (λ (v : Pattern). v .0) numbers (d - 1) (pattern 0)
 
-      crash-is : (d : ℕ) → crashIn (files.crashesIn c) d ≡ crashAt c d
+      crash-is : (d : ℕ) → crashIn (by-drive.crashesIn c) d ≡ crashAt c d
       crash-is d =
           crash-listed c (drives (c .crashed)) d
           ∙ ap (λ (b : Bool). cond b (crashes (roundAt (c .rounds) d) (getD (c .sends) (d - 1) 0)) stays) (elem-drives d (c .crashed) word)

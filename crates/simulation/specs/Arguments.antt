@@ -1,4 +1,5 @@
--- What the arguments of the code say: the scenario that the frame, the core, the pattern numbers and the crashes are of.
+-- What the arguments of the code say: the scenario that the frame, the core, the pattern numbers and the crashes are
+-- of.
 use mathlib.Core.Path.{_≡_}
 use mathlib.Core.Bool.{true}
 use mathlib.Core.List.{List}
@@ -8,7 +9,7 @@ use Rattle.drive_sets.specs.Counts.{isDrive}
 use Rattle.drive_states.specs.State.{numberIn}
 use Rattle.runs.specs.Scenario.{Scenario}
 use Rattle.runs.specs.Statement.{Valid}
-use Rattle.run_files.specs.declared.crashes.Crashes.{Crashes}
+use Rattle.drive_crashes.specs.declared.Crashes.{Crashes}
 use Rattle.simulated_rounds.specs.States.{Says}
 
 -- the frame, the core, the crashes and what the drives propose are those of the scenario, which is valid

@@ -9,8 +9,8 @@ use Rattle.drive_sets.specs.declared.Refusal.{Refusal}
 use Rattle.drive_sets.specs.Lists.{range}
 use Rattle.drive_sets.specs.Masks.{has}
 use Rattle.drive_sets.specs.Refusals.{Outcome, outcomeOf}
-use Rattle.agreement.specs.Simulated.{Ending, decides, undecided, stopped}
-use Rattle.run_files.specs.Reading.{noRound, roundAt}
+use Rattle.agreement.specs.RoundEndings.{Ending, decides, undecided, stopped}
+use Rattle.drive_crashes.specs.Crashes.{noRound, roundAt}
 use Rattle.simulation.specs.declared.simulating.Notes.{Notes}
 use Rattle.simulation.specs.declared.simulating.Simulated as answers
 use Rattle.simulation.specs.Simulation.{Simulated}

@@ -1,15 +1,15 @@
--- The simulated exchange as a call: from n and sets, pattern numbers and CR records the refusals, or how each drive ends by the rounds, the
--- core and f. Every run of the scenario gives the same.
+-- The simulated exchange as a call: from n and sets, pattern numbers and CR records the refusals, or how each drive
+-- ends by the rounds, the core and f. Every run of the scenario gives the same.
 use mathlib.Core.List.{List, [], _∷_}
 use Prim.Native.Nat.{ℕ}
 use Rattle.drive_sets.specs.declared.Refusal.the-variants.{NoneUntouched}
 use Rattle.drive_sets.specs.Refusals.{Outcome, result, refuseIf, andThen}
-use Rattle.hitting_sets.specs.Hitting.{hits}
-use Rattle.tables.specs.Tables.{chosen, normalTable}
+use Rattle.survivor_tables.specs.Hitting.{hits}
+use Rattle.survivor_tables.specs.Tables.{chosen, normalTable}
 use Rattle.runs.specs.Scenario.{Scenario, coreOf}
 use Rattle.runs.specs.CrashRecords.{CrashRecord, crashed, checkedCrash, scenario}
 use Rattle.runs.specs.Statement.{coreCrashes}
-use Rattle.agreement.specs.Simulated.{Ending, endings}
+use Rattle.agreement.specs.RoundEndings.{Ending, endings}
 pub mod Laws
 
 -- ---- the CR records: 8, 9, 10 of each

@@ -3,11 +3,11 @@ ghost use mathlib.Core.Path.{_≡_};
 ghost use Prim.Native.Nat.{_≤_};
 ghost use Rattle.drive_sets.specs.Refusals.{result, outcomeOf};
 ghost use Rattle.runs.specs.CrashRecords.{checkedCrash};
-ghost use Rattle.run_files.specs.Reading.{crashOfDrive, crashesIn};
+ghost use Rattle.drive_crashes.specs.Crashes.{crashOfDrive, crashesIn};
 ghost use Rattle.simulation.specs.Simulation.{checkedCrashes};
+use drive_crashes::Crashes;
 use drive_sets::Answer;
 use drive_sets::Drive;
-use run_files::crashes::Crashes;
 
 // The crash of one drive, after that of the last.
 fn check_one(n: u8, core: u64, last: Drive, d: Drive, crashes: Crashes) -> Answer
@@ -20,7 +20,7 @@ fn check_one(n: u8, core: u64, last: Drive, d: Drive, crashes: Crashes) -> Answe
     let at = (i - 1) as usize;
     let round = rounds[at];
     let made = sends[at];
-    run_files::crashes::check_crash(n, core, last, d, round, made)
+    drive_crashes::check_crash(n, core, last, d, round, made)
 }
 
 // The first refusal that a crash meets.

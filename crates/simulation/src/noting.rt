@@ -3,7 +3,7 @@ ghost use mathlib.Core.Path.{_≡_};
 ghost use mathlib.Core.Bool.{true};
 ghost use Prim.Native.Nat.{ℕ, _≤_};
 ghost use Rattle.drive_sets.specs.Counts.{isDrive};
-ghost use Rattle.agreement.specs.Simulated.{undecided};
+ghost use Rattle.agreement.specs.RoundEndings.{undecided};
 ghost use Rattle.agreement.specs.Canonical.{endingOn};
 ghost use Rattle.simulated_rounds.specs.States.{stateAt};
 ghost use Rattle.simulation.specs.Endings.{endingBy, foundOf, nothingFound, orLater};

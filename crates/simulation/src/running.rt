@@ -8,11 +8,11 @@ ghost use Rattle.agreement.specs.Canonical.{canonicalEnding};
 ghost use Rattle.simulation.specs.Arguments.{Told};
 ghost use Rattle.simulation.specs.Endings.{foundOf};
 use crate::noting;
-use crate::opening;
+use crate::opened;
 use crate::simulating::Notes;
+use drive_crashes::Crashes;
 use drive_sets::Pattern;
 use drive_sets::Round;
-use run_files::crashes::Crashes;
 use simulated_rounds::rounds;
 
 // The first decisions of the drives 1 to n, where the table has this chosen core.
@@ -20,7 +20,7 @@ pub(crate) fn run(n: u8, core: u64, numbers: [Pattern; 64], crashes: Crashes) ->
     requires { ⌜ (n ≤ 64) × (core < 2 ^ n) ⌝ }
     ensures { λ r. ⌜ ((s : Scenario) → Told n core numbers crashes s → (d : ℕ) → isDrive n d ≡ true → foundOf r d ≡ canonicalEnding s d) ⌝ }
 {
-    let mut states = opening::open_all(n, core, numbers);
+    let mut states = opened::open_all(n, core, numbers);
     let mut found = noting::nothing();
     let last = drive_sets::size(core);
     let mut done = 0u8;

@@ -1,23 +1,25 @@
-// The simulated exchange as a call. The crashes are handed over by drive, as the run file reader gives them: at most one to a drive, rising.
+// The simulated exchange as a call. The crashes are handed over by drive, as the run file reader gives them: at most
+// one to a drive, rising.
 ghost use mathlib.Core.Path.{_≡_};
 ghost use Prim.Native.Nat.{_^_, _≤_, _<_};
 ghost use lib.ListN.{take};
-ghost use Rattle.drive_sets.specs.Refusals.{result};
-ghost use Rattle.tables.specs.Tables.{chosenCore};
+ghost use Rattle.drive_sets.specs.Refusals.{result, Alone};
+ghost use Rattle.survivor_tables.specs.Tables.{chosenCore};
 ghost use Rattle.runs.specs.Scenario.{Scenario};
 ghost use Rattle.runs.specs.CrashRecords.{crashed};
-ghost use Rattle.run_files.specs.Reading.{values, crashesIn};
+ghost use Rattle.drive_crashes.specs.Crashes.{crashesIn};
+ghost use Rattle.drive_states.specs.State.{values};
 ghost use Rattle.simulation.specs.Simulation.{checkedCrashes, simulatedOf, unlessTouched, simulated};
 ghost use Rattle.simulation.specs.Arguments.{Told};
 ghost use Rattle.simulation.specs.Endings.{refusedSimulated, simulatedOutcome};
 use crate::checking;
 use crate::noting;
 use crate::running;
+use drive_crashes::Crashes;
 use drive_sets::Answer;
 use drive_sets::Pattern;
 use drive_sets::Refusal;
 use drive_sets::Round;
-use run_files::crashes::Crashes;
 use tables::calls::Chosen;
 
 // For each drive, drive 1 first, the round in which it decided, 0 where it has not, and the pattern number.
@@ -26,7 +28,8 @@ pub struct Notes {
     pub numbers: [Pattern; 64],
 }
 
-// How the drives end, where the call is accepted: a drive with a CR is stopped, and the first decisions of the others; the core, and f.
+// How the drives end, where the call is accepted: a drive with a CR is stopped, and the first decisions of the others;
+// the core, and f.
 pub struct Simulated {
     pub answer: Answer,
     pub crashed: u64,
@@ -75,7 +78,7 @@ fn where_untouched(
 ) -> Simulated
     requires { ⌜ (chosenCore n (now sets) ≡ result core) × (checkedCrashes n core 0 (crashesIn crashes) (result (crashesIn crashes)) ≡ result (crashesIn crashes)) ⌝ }
     ensures { λ t. ⌜ simulatedOutcome n t ≡ unlessTouched n (now (sets .entry)) (take n (values numbers)) (crashesIn crashes) ⌝ }
-    ensures alone { λ t. ⌜ ((r : Refusal) → t .answer ≡ Answer.Refused r → t ≡ refusedSimulated r) ⌝ }
+    ensures alone { λ t. ⌜ Alone (λ (u : Simulated). u .answer) refusedSimulated t ⌝ }
 {
     if tables::calls::meets_all(sets, crashes.crashed) {
         return refused(Refusal::NoneUntouched);
@@ -93,7 +96,7 @@ fn where_checked(
 ) -> Simulated
     requires { ⌜ chosenCore n (now sets) ≡ result core ⌝ }
     ensures { λ t. ⌜ simulatedOutcome n t ≡ checkedCrashes n core 0 (crashesIn crashes) (unlessTouched n (now (sets .entry)) (take n (values numbers)) (crashesIn crashes)) ⌝ }
-    ensures alone { λ t. ⌜ ((r : Refusal) → t .answer ≡ Answer.Refused r → t ≡ refusedSimulated r) ⌝ }
+    ensures alone { λ t. ⌜ Alone (λ (u : Simulated). u .answer) refusedSimulated t ⌝ }
 {
     let checked = checking::check_all(n, core, crashes);
     match checked {
@@ -102,11 +105,11 @@ fn where_checked(
     }
 }
 
-// The simulated exchange: from n and sets, the pattern numbers, drive 1 first, and the crashes. The table's refusals, then those of each
-// crash, then 11. Beside a refusal nothing is told.
+// The simulated exchange: from n and sets, the pattern numbers, drive 1 first, and the crashes. The table's refusals,
+// then those of each crash, then 11. Beside a refusal nothing is told.
 pub fn simulate(n: u8, sets: &[u64], numbers: [Pattern; 64], crashes: Crashes) -> Simulated
     ensures { λ t. ⌜ simulatedOutcome n t ≡ simulated n (now (sets .entry)) (take n (values numbers)) (crashesIn crashes) ⌝ }
-    ensures alone { λ t. ⌜ ((r : Refusal) → t .answer ≡ Answer.Refused r → t ≡ refusedSimulated r) ⌝ }
+    ensures alone { λ t. ⌜ Alone (λ (u : Simulated). u .answer) refusedSimulated t ⌝ }
 {
     let chosen = tables::calls::chosen_core(n, sets);
     match chosen {

@@ -1,7 +1,8 @@
--- The rounds of SyncCrash: what each drive holds after k rounds, from the proposals and the failure pattern alone. Document 01, "The
--- exchange", sentence by sentence, with no message, buffer or mask: a set of drives is a test, and who is heard is a heard-of set
--- (Charron-Bost and Merz). Section 4 of docs/AGREEMENT.md. Rounds are counted from 1, so that round k + 1 begins after k rounds.
--- The rounds go on for ever: that all halt at the close of the round whose number is the core's size is left to the calls.
+-- The rounds of SyncCrash: what each drive holds after k rounds, from the proposals and the failure pattern alone.
+-- Document 01, "The exchange", sentence by sentence, with no message, buffer or mask: a set of drives is a test, and
+-- who is heard is a heard-of set (Charron-Bost and Merz). Section 4 of docs/AGREEMENT.md. Rounds are counted from 1, so
+-- that round k + 1 begins after k rounds. The rounds go on for ever: that all halt at the close of the round whose
+-- number is the core's size is left to the calls.
 use mathlib.Core.Path.{_≡_}
 use mathlib.Core.Bool.{Bool, true, false, not, _&&_, _||_, cond, Bool·beq}
 use mathlib.Core.Logic.{_≢_}
@@ -22,8 +23,8 @@ pub mod Bound
 pub mod Agreement
 pub mod Proposals
 
--- One instance of consensus: the drives (processes) 1 to n, the core, the number that each drive proposes, and the failure pattern,
--- which says who has crashed by when and whom a drive still reaches in the round in which it crashes.
+-- One instance of consensus: the drives (processes) 1 to n, the core, the number that each drive proposes, and the
+-- failure pattern, which says who has crashed by when and whom a drive still reaches in the round in which it crashes.
 pub record Instance : Type 0 where
   pub n : ℕ
   pub core : ℕ → Bool
@@ -56,7 +57,8 @@ pub record View : Type 0 where
 module _ (S : Instance) where
   open Instance S using (n, core, proposal, alive, reach)
 
-  -- At opening a core drive knows its own number and a listener knows none, not even its own. Heard in round 0 is the core.
+  -- At opening a core drive knows its own number and a listener knows none, not even its own. Heard in round 0 is the
+  -- core.
   unfoldable pub start : ℕ → View
   start e = record { knows = λ x. core e && eqb x e; before = core; decision = none; halted = false }
 
@@ -109,8 +111,9 @@ module _ (S : Instance) where
         let choice = smallestOf (known e) in
         cond (stable e) choice none
 
-    -- A decided drive keeps its number. For the others: if a DC came, decide the value of the lowest-numbered DC sender. Else, if heard is
-    -- not empty and equals the round before, decide the smallest pattern number known. Else go on.
+    -- A decided drive keeps its number. For the others: if a DC came, decide the value of the lowest-numbered DC
+    -- sender. Else, if heard is not empty and equals the round before, decide the smallest pattern number known. Else
+    -- go on.
     unfoldable pub decides : ℕ → Option ℕ
     decides e = orElse (view e .decision) (orElse (announced e) (ifStable e))
 
@@ -157,7 +160,8 @@ module _ (S : Instance) where
   abbrev pub failures : (ℕ → Bool) → ℕ
   failures correct = length (filter (λ d. core d && not (correct d)) (range 1 n))
 
--- A drive decides on a number in round k + 1 if its close leaves it decided on that number and the closes before left it undecided.
+-- A drive decides on a number in round k + 1 if its close leaves it decided on that number and the closes before left
+-- it undecided.
 pub record DecidesIn (S : Instance) (e v k : ℕ) : Type 0 where
   pub undecided : decision S k e ≡ none
   pub decided : decision S (suc k) e ≡ some v

@@ -1,4 +1,3 @@
 -- What the functions' proofs share.
 pub mod Steps
 pub mod TableReads
-pub mod Writes

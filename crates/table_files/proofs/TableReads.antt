@@ -1,4 +1,5 @@
--- Tables from a file as the code reads them: what is listed, made complete, the bytes behind it, and what a caller learns of both.
+-- Tables from a file as the code reads them: what is listed, made complete, the bytes behind it, and what a caller
+-- learns of both.
 use mathlib.Core.Path.{_≡_, refl, sym, ap, ap₂, _∙_}
 use mathlib.Core.List.{List}
 use Prim.Native.Nat.{ℕ}
@@ -10,7 +11,7 @@ use Rattle.drive_sets.specs.Refusals.{Outcome, refused, result, andThen, number
 use Rattle.drive_sets.specs.Refusals.Laws.{refused-no-result, first-result, same-result}
 use Rattle.tables.specs.declared.completing.TableWithCores.{TableWithCores}
 use Rattle.table_files.specs.declared.reading.TableRead.{TableRead}
-use Rattle.tables.specs.Tables.{cores, withinCoreLimit, normalTable}
+use Rattle.survivor_tables.specs.Tables.{cores, withinCoreLimit, normalTable}
 use Rattle.table_files.specs.Files.{ReadTable, accepted, readListed, readTable}
 use Rattle.table_files.specs.Files.Laws.{listed-checked}
 use Rattle.tables.specs.Complete.{setsOf, Complete, withCores, completeSets, completeTable, completeOutcome}

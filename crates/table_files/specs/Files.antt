@@ -1,5 +1,5 @@
--- Tables as bytes: FR with n, 1 to 128 SV with a mask, EN with their count. Reading finds the refusals from left to right; writing writes
--- the normal table.
+-- Tables as bytes: FR with n, 1 to 128 SV with a mask, EN with their count. Reading finds the refusals from left to
+-- right; writing writes the normal table.
 use mathlib.Core.Bool.{false, not}
 use mathlib.Core.List.{List, [], _∷_, _++_}
 use Prim.Native.Nat.{ℕ, zero, suc}
@@ -14,8 +14,9 @@ use Rattle.records.specs.Fields.{fieldAt}
 use Rattle.records.specs.Marks.{mark, headOf, recordBytes}
 use Rattle.records.specs.RecordLists.{atRecord, ListFormat, ReadList, readList, listBytes}
 use Rattle.drive_sets.specs.Limits.{maxSets}
-use Rattle.tables.specs.Tables.{isFrame, isSet, isEmpty, withinCoreLimit, normalTable}
+use Rattle.survivor_tables.specs.Tables.{isFrame, isSet, isEmpty, withinCoreLimit}
 pub mod Laws
+pub mod Rest
 
 -- what is read: the drives, the sets, and the bytes after EN
 pub record ReadTable : Type 0 where
@@ -65,7 +66,3 @@ readWhole s = andThen (readListed s) (λ t. refuseIf (not (isEmpty (t .rest))) T
 
 unfoldable pub tableBytes : ℕ → List ℕ → List ℕ
 tableBytes n sets = recordBytes (mark Frame) 1 n ++ (listBytes Survivor sets ++ recordBytes (mark End) 1 (length sets))
-
--- what the writer writes: the bytes of the normal table, after the refusals of a call given n and sets
-unfoldable pub writeTable : ℕ → List ℕ → Outcome (List ℕ)
-writeTable n sets = andThen (normalTable n sets) (λ table. result (tableBytes n table))

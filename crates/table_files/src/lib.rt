@@ -1,4 +1,3 @@
-// Survivor tables as bytes: reading and writing.
+// Survivor tables as bytes, and their reader.
 pub mod files;
 mod reading;
-pub mod writing;

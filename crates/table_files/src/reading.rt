@@ -14,10 +14,10 @@ use records::END_WIDTH;
 use records::Head;
 use records::Next;
 use records::SURVIVOR_WIDTH;
-use set_orders::MAX_SETS;
-use tables::frames::Table;
-use tables::frames::is_frame;
-use tables::frames::is_set;
+use survivor_tables::MAX_SETS;
+use survivor_tables::frames::Table;
+use survivor_tables::frames::is_frame;
+use survivor_tables::frames::is_set;
 
 // What reading gives: the table and how many bytes it took, where it is accepted.
 pub(crate) struct TableRead {

@@ -6,11 +6,11 @@ use native.Mathlib.Omega.{arith}
 use lib.ListN.{length, length-append}
 use Rattle.drive_sets.specs.Refusals.{Outcome, refused, result}
 use Rattle.records.specs.Marks.{ascii}
-use Rattle.tables.specs.Tables.{cores, chosen, Accepted}
-use Rattle.tables.specs.Tables.Laws.{accepted-normal}
+use Rattle.survivor_tables.specs.Tables.{cores, chosen, Accepted}
+use Rattle.survivor_tables.specs.Tables.Laws.{accepted-normal}
 use Rattle.table_files.specs.Files.{ReadTable, readWhole}
 use Rattle.table_files.specs.Files.Laws.{table-read, whole-table}
-use Rattle.set_orders.specs.Order.{normal}
+use Rattle.survivor_tables.specs.Order.{normal}
 use Rattle.verdicts.specs.Verdicts.{Verdict, yes, no, verdictOn}
 use Rattle.verdicts.specs.Verdicts.Witness.{no-witness}
 use Rattle.text.specs.declared.Base.the-variants.{Decimal, Hexadecimal}

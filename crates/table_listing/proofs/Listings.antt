@@ -11,9 +11,9 @@ use Rattle.drive_sets.specs.declared.Answer.{Answer}
 use Rattle.drive_sets.specs.declared.Answer.the-variants.{Accepted, Refused}
 use Rattle.drive_sets.specs.Refusals.{result, outcomeOf}
 use Rattle.drive_sets.specs.Refusals.Laws.{refused-no-result, same-result}
-use Rattle.set_orders.specs.Order.{normal}
-use Rattle.tables.specs.Tables.{checkedSets}
-use Rattle.tables.specs.Tables.Laws.{accepted-normal, accepted-checked}
+use Rattle.survivor_tables.specs.Order.{normal}
+use Rattle.survivor_tables.specs.Tables.{checkedSets}
+use Rattle.survivor_tables.specs.Tables.Laws.{accepted-normal, accepted-checked}
 use Rattle.table_files.specs.Files.{ReadTable, readWhole}
 use Rattle.table_files.specs.Files.Laws.{table-read, whole-table}
 use Rattle.verdicts.specs.declared.Verdict.{Verdict as Held}

@@ -1,10 +1,10 @@
--- The text of the table program: the drives, the sets of the normal table, the cores, the chosen core, and the verdicts on 2, 3 and 4.
--- On a refusal only `refused` and its number.
+-- The text of the table program: the drives, the sets of the normal table, the cores, the chosen core, and the verdicts
+-- on 2, 3 and 4. On a refusal only `refused` and its number.
 use mathlib.Core.List.{List, _++_}
 use Prim.Native.Nat.{ℕ}
 use Rattle.drive_sets.specs.Refusals.{Outcome, refused, result}
 use Rattle.records.specs.Marks.{ascii}
-use Rattle.tables.specs.Tables.{cores, chosen}
+use Rattle.survivor_tables.specs.Tables.{cores, chosen}
 use Rattle.table_files.specs.Files.{ReadTable, readWhole}
 use Rattle.verdicts.specs.Verdicts.{Verdict, yes, no, verdictOn}
 use Rattle.text.specs.declared.Base.the-variants.{Decimal, Hexadecimal}

@@ -3,7 +3,7 @@ ghost use mathlib.Core.Path.{_≡_};
 ghost use lib.ListN.{take};
 ghost use Rattle.drive_sets.specs.Filled.{Filled};
 ghost use Rattle.drive_sets.specs.Refusals.{result};
-ghost use Rattle.tables.specs.Tables.{cores, checkedSets};
+ghost use Rattle.survivor_tables.specs.Tables.{cores, checkedSets};
 ghost use Rattle.tables.specs.Complete.{setsOf, CompleteWithin};
 ghost use Rattle.table_listing.specs.TableListing.{listing, tableProgram};
 ghost use Rattle.text.specs.Printing.{Printed};

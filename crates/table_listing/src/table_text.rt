@@ -4,7 +4,7 @@ ghost use Prim.Native.Nat.{_≤_};
 ghost use lib.ListN.{getD};
 ghost use Rattle.drive_sets.specs.Filled.{Filled};
 ghost use Rattle.drive_sets.specs.Refusals.{result};
-ghost use Rattle.tables.specs.Tables.{cores, checkedSets};
+ghost use Rattle.survivor_tables.specs.Tables.{cores, checkedSets};
 ghost use Rattle.verdicts.specs.Verdicts.{verdictOn};
 ghost use Rattle.verdicts.specs.Held.{verdictOf};
 ghost use Rattle.table_listing.specs.TableListing.{noPart, verdictLine, verdictLines, listing};

@@ -1,4 +1,5 @@
-// The table program: reads a table on standard input and prints its listing, or the line of its refusal, and nothing else.
+// The table program: reads a table on standard input and prints its listing, or the line of its refusal, and nothing
+// else.
 //
 // Input behind the first 4096 bytes changes nothing (`table-program-prefix` in table_listing), and is left unread.
 use libc::STDIN_FILENO;

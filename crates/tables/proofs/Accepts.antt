@@ -15,15 +15,16 @@ use Rattle.drive_sets.specs.declared.Answer.{Answer}
 use Rattle.drive_sets.specs.declared.Answer.the-variants as answers
 use Rattle.tables.specs.declared.completing.TableWithCores.{TableWithCores}
 use Rattle.drive_sets.specs.Limits.{maxSets}
-use Rattle.tables.specs.Tables.{cores, chosen, dual, normalTable, chosenCore, Accepted}
-use Rattle.tables.specs.Tables.Laws.{table-accepted, sets-word, some-core, accepted-normal}
+use Rattle.survivor_tables.specs.Tables.{cores, chosen, dual, normalTable, chosenCore, Accepted}
+use Rattle.survivor_tables.specs.Tables.Laws.{table-accepted, sets-word, some-core, accepted-normal}
 use Rattle.set_orders.specs.declared.sorting.Order.the-variants.{ByMask}
-use Rattle.hitting_sets.specs.Hitting.{hits, minimals}
+use Rattle.survivor_tables.specs.Hitting.{hits, minimals}
 use Rattle.core_search.specs.Found.{Found}
 use Rattle.core_search.specs.Found.Laws.{found-listed}
-use Rattle.set_orders.specs.Order.{byMask, precedes}
-use Rattle.set_orders.specs.Order.Sort.{length-sort}
-use Rattle.hitting_sets.specs.Hitting.Normal.{hits-normal}
+use Rattle.survivor_tables.specs.Order.{byMask}
+use Rattle.set_orders.specs.Sorting.{precedes}
+use Rattle.survivor_tables.specs.Order.Sort.{length-sort}
+use Rattle.survivor_tables.specs.Hitting.Normal.{hits-normal}
 use Rattle.tables.specs.Complete.{setsOf, Complete, withCores, completeTable, completeOutcome}
 
 module _ {A B : Type 0} where

@@ -6,8 +6,7 @@ use Prim.Native.Nat.{ℕ, _-_, _≤_, _<_}
 use native.Mathlib.Nat.{sub-zero}
 use native.Mathlib.Omega.{arith}
 use lib.Dec.{ltb}
-use lib.ListN.{length, take, drop, replicate, length-drop}
-use lib.Seq.{take-at}
+use lib.ListN.{length, take, drop, replicate, length-drop, length-replicate}
 use borrow.Author.Tests.{lt-ltb, le-ltb}
 use Rattle.drive_sets.specs.declared.Refusal.the-variants.{TooManyCores}
 use Rattle.drive_sets.specs.declared.Refusal.{Refusal}
@@ -18,17 +17,21 @@ use Rattle.drive_sets.specs.Refusals.Laws.{refused-no-result, same-result}
 use Rattle.set_orders.specs.declared.normal_form.NormalForm.{NormalForm}
 use Rattle.set_orders.specs.declared.normal_form.NormalForm.the-variants as forms
 use Rattle.set_orders.specs.declared.sorting.Order.the-variants.{BySize}
-use Rattle.hitting_sets.specs.Hitting.{minimals}
+use Rattle.survivor_tables.specs.Hitting.{minimals}
 use Rattle.core_search.specs.Found.{Found}
 use Rattle.core_search.specs.Found.Laws.{found-listed}
-use Rattle.set_orders.specs.LentLists.{countOf, listAfter}
-use Rattle.set_orders.specs.Order.{sort, bySize, precedes, normal, normalList, formOutcome}
-use Rattle.set_orders.specs.Order.Sort.{length-sort}
-use Rattle.set_orders.specs.Order.Normal.{normalList-result, length-normal}
-use Rattle.tables.specs.declared.frames.Table.{Table}
+use Rattle.drive_sets.specs.Lent.{sizeWritten, bufferAfter}
+use Rattle.drive_sets.specs.Lent.Laws.{first-places}
+use Rattle.survivor_tables.specs.Order.{sort, bySize, normal}
+use Rattle.set_orders.specs.Sorting.{precedes}
+use Rattle.set_orders.specs.NormalForms.{normalList, formOutcome}
+use Rattle.survivor_tables.specs.Order.Sort.{length-sort}
+use Rattle.set_orders.specs.NormalForms.Laws.{normalList-result}
+use Rattle.survivor_tables.specs.Order.Normal.{length-normal}
+use Rattle.survivor_tables.specs.declared.frames.Table.{Table}
 use Rattle.drive_sets.specs.Limits.{maxSets, maxCores}
-use Rattle.tables.specs.Tables.{isEmpty, cores, withinCoreLimit, checkedSets, normalTable}
-use Rattle.tables.specs.Complete.{setsOf, withCores, fewCores, completeSets, completeTable}
+use Rattle.survivor_tables.specs.Tables.{isEmpty, cores, withinCoreLimit, checkedSets, normalTable}
+use Rattle.tables.specs.Complete.{setsOf, withCores, completeNormal, completeSets, completeTable}
 
 -- ---- the normal table
 
@@ -36,23 +39,22 @@ abbrev zeros : List ℕ
 zeros = replicate maxSets 0
 
 -- the normal form of at most 128 sets, in an array of as many zeros
-module _ (sets : List ℕ) (most : length sets ≤ maxSets) (form : NormalForm) (says : formOutcome form ≡ countOf (normalList maxSets sets)) where
+module _ (sets : List ℕ) (most : length sets ≤ maxSets) (form : NormalForm) (says : formOutcome form ≡ sizeWritten (normalList maxSets sets)) where
   is-normal : normalList maxSets sets ≡ result (normal sets)
   is-normal = normalList-result maxSets sets most most
 
   pub form-given : {r : Refusal} → form ≡ forms.Refused r → ⊥
-  form-given e = refused-no-result (ap formOutcome (sym e) ∙ (says ∙ ap countOf is-normal))
+  form-given e = refused-no-result (ap formOutcome (sym e) ∙ (says ∙ ap sizeWritten is-normal))
 
   module _ {count : ℕ} (e : form ≡ forms.Sets count) where
     count-is : count ≡ length (normal sets)
-    count-is = same-result (ap formOutcome (sym e) ∙ (says ∙ ap countOf is-normal))
+    count-is = same-result (ap formOutcome (sym e) ∙ (says ∙ ap sizeWritten is-normal))
 
     pub count-le : count ≤ maxSets
     count-le = omega (arith, count-is, length-normal sets)
 
-    pub normal-taken : {new : List ℕ} → new ≡ listAfter zeros (normalList maxSets sets) → take count new ≡ normal sets
-    unfolding listAfter
-    normal-taken f = ap (take count) (f ∙ ap (listAfter zeros) is-normal) ∙ take-at (normal sets) (drop (length (normal sets)) zeros) count (sym count-is)
+    pub normal-taken : {new : List ℕ} → new ≡ bufferAfter (normalList maxSets sets) 0 zeros → take count new ≡ normal sets
+    normal-taken f = ap (take count) (f ∙ ap (λ (o : Outcome (List ℕ)). bufferAfter o 0 zeros) is-normal) ∙ first-places zeros (normal sets) count (sym count-is) (omega (arith, length-normal sets, length-replicate {A = ℕ} maxSets 0))
 
 -- ---- the cores
 
@@ -66,20 +68,20 @@ module _ (n : ℕ) {part out out' : List ℕ} {found : ℕ} (table : List ℕ) (
   unfolding cores
   core-count = length-sort bySize (minimals table) ∙ ap (λ (l : List ℕ). length (minimals l)) (sym e)
 
-  pub too-many : maxCores < found → refused (number TooManyCores) ≡ fewCores n table
-  unfolding fewCores
+  pub too-many : maxCores < found → refused (number TooManyCores) ≡ completeNormal n table
+  unfolding completeNormal
   too-many h = rw (lt-ltb maxCores (length (cores table)) (omega (arith, f .total, core-count)))
 
-  pub completed : found ≤ maxCores → result (record { n = n; sets = table; cores = take found out' }) ≡ fewCores n table
-  unfolding fewCores withCores cores
+  pub completed : found ≤ maxCores → result (record { n = n; sets = table; cores = take found out' }) ≡ completeNormal n table
+  unfolding completeNormal withCores cores
   completed h =
       ap (λ (c : List ℕ). result (record { n = n; sets = table; cores = c }))
       (found-listed f (omega arith) ∙ ap₂ (λ (b : ℕ → ℕ → Bool) (l : List ℕ). sort b (minimals l)) by-size e)
       ∙ rw (le-ltb maxCores (length (cores table)) (omega (arith, f .total, core-count)))
 
-pub few-cores : (n : ℕ) (sets : List ℕ) → fewCores n (normal sets) ≡ completeSets n sets
-unfolding fewCores completeSets withinCoreLimit
-few-cores n sets = go (ltb maxCores (length (cores (normal sets))))
+pub complete-normal : (n : ℕ) (sets : List ℕ) → completeNormal n (normal sets) ≡ completeSets n sets
+unfolding completeNormal completeSets withinCoreLimit
+complete-normal n sets = go (ltb maxCores (length (cores (normal sets))))
   where
     go : (b : Bool)
         → refuseIf b TooManyCores (result (withCores n (normal sets)))

@@ -1,5 +1,4 @@
 -- What the answers of the calls say: a refusal, or the values of document 01.
-use mathlib.Core.Path.{_≡_}
 use mathlib.Core.Bool.{Bool, true, false}
 use mathlib.Core.List.{List}
 use Prim.Native.Nat.{ℕ, _≤_}
@@ -7,7 +6,7 @@ use lib.ListN.{take, replicate}
 use Rattle.drive_sets.specs.declared.Refusal.{Refusal}
 use Rattle.drive_sets.specs.declared.Answer.the-variants as answers
 use Rattle.drive_sets.specs.Limits.{maxSets}
-use Rattle.drive_sets.specs.Refusals.{Outcome, refused, result, number, outcomeOf}
+use Rattle.drive_sets.specs.Refusals.{Outcome, refused, result, number, outcomeOf, Alone}
 use Rattle.tables.specs.declared.calls.Chosen.{Chosen}
 use Rattle.tables.specs.declared.calls.Chosen.the-variants as chosens
 use Rattle.tables.specs.declared.calls.Meeting.{Meeting}
@@ -33,4 +32,4 @@ refusedList r = record { answer = answers.Refused r; count = 0; sets = replicate
 -- an answer's count stays within the array, and a refusal is its number alone: all else is zero
 pub record ListWithin (t : SetList) : Type 0 where
   pub sets : t .count ≤ maxSets
-  pub alone : (r : Refusal) → t .answer ≡ answers.Refused r → t ≡ refusedList r
+  pub alone : Alone (λ (u : SetList). u .answer) refusedList t

@@ -1,5 +1,4 @@
 -- A normal table with its cores, and what an answer with both says.
-use mathlib.Core.Path.{_≡_}
 use mathlib.Core.List.{List}
 use Prim.Native.Nat.{ℕ, _≤_}
 use lib.Dec.{ltb}
@@ -7,11 +6,11 @@ use lib.ListN.{length, take, replicate}
 use Rattle.drive_sets.specs.declared.Answer.the-variants.{Refused}
 use Rattle.drive_sets.specs.declared.Refusal.{Refusal}
 use Rattle.drive_sets.specs.declared.Refusal.the-variants.{TooManyCores}
-use Rattle.drive_sets.specs.Refusals.{Outcome, result, refuseIf, andThen, outcomeOf}
+use Rattle.drive_sets.specs.Refusals.{Outcome, result, refuseIf, andThen, outcomeOf, Alone}
 use Rattle.tables.specs.declared.completing.TableWithCores.{TableWithCores}
 use Rattle.drive_sets.specs.Limits.{maxSets, maxCores}
-use Rattle.tables.specs.Tables.{cores, withinCoreLimit, normalTable}
-use Rattle.tables.specs.declared.frames.Table.{Table}
+use Rattle.survivor_tables.specs.Tables.{cores, withinCoreLimit, normalTable}
+use Rattle.survivor_tables.specs.declared.frames.Table.{Table}
 
 -- the sets of a table as it is held: the first `count` of its array
 unfoldable pub setsOf : Table → List ℕ
@@ -27,8 +26,8 @@ unfoldable pub withCores : ℕ → List ℕ → Complete
 withCores n table = record { n = n; sets = table; cores = cores table }
 
 -- the same where there are at most 1024; else 13
-unfoldable pub fewCores : ℕ → List ℕ → Outcome Complete
-fewCores n table = refuseIf (ltb maxCores (length (cores table))) TooManyCores (result (withCores n table))
+unfoldable pub completeNormal : ℕ → List ℕ → Outcome Complete
+completeNormal n table = refuseIf (ltb maxCores (length (cores table))) TooManyCores (result (withCores n table))
 
 -- the normal table of some sets, with its cores; 13 where there are more than 1024
 unfoldable pub completeSets : ℕ → List ℕ → Outcome Complete
@@ -51,4 +50,4 @@ refusedTable r =
 pub record CompleteWithin (t : TableWithCores) : Type 0 where
   pub sets : t .table .count ≤ maxSets
   pub cores : t .found ≤ maxCores
-  pub alone : (r : Refusal) → t .answer ≡ Refused r → t ≡ refusedTable r
+  pub alone : Alone (λ (u : TableWithCores). u .answer) refusedTable t

@@ -1,4 +1,3 @@
--- Tables given as n and sets, with their cores, and what the answers of the calls say.
-pub mod Tables
+-- Normal tables with their cores, and what the answers of the calls say.
 pub mod Complete
 pub mod Answers

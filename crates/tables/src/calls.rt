@@ -1,19 +1,19 @@
 // The calls given n and sets or groups: the chosen core, whether some drives meet every set, and Back.
 ghost use mathlib.Core.Path.{_≡_};
 ghost use Rattle.drive_sets.specs.Refusals.{refused, number};
-ghost use Rattle.hitting_sets.specs.Hitting.{hits};
-ghost use Rattle.tables.specs.Tables.{chosenCore, meetsEvery, survivorSets};
+ghost use Rattle.survivor_tables.specs.Hitting.{hits};
+ghost use Rattle.survivor_tables.specs.Tables.{chosenCore, meetsEvery, survivorSets};
 ghost use Rattle.tables.specs.Answers.{chosenOutcome, meetingOutcome, listOutcome, ListWithin};
 use crate::completing;
 use crate::completing::all_sets;
-use crate::frames::is_frame;
-use crate::frames::is_set;
 use drive_sets::Answer;
 use drive_sets::Refusal;
 use hitting_sets::missed::first_missed;
-use set_orders::MAX_CORES;
-use set_orders::MAX_SETS;
 use set_orders::sorting::Order;
+use survivor_tables::MAX_CORES;
+use survivor_tables::MAX_SETS;
+use survivor_tables::frames::is_frame;
+use survivor_tables::frames::is_set;
 
 pub enum Chosen {
     Core(u64),

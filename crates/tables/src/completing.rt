@@ -2,20 +2,20 @@
 ghost use mathlib.Core.Path.{_≡_};
 ghost use Prim.Native.Nat.{_≤_};
 ghost use lib.ListN.{length};
-ghost use Rattle.tables.specs.Complete.{fewCores, completeSets, completeTable, completeOutcome, CompleteWithin, setsOf};
+ghost use Rattle.tables.specs.Complete.{completeNormal, completeSets, completeTable, completeOutcome, CompleteWithin, setsOf};
 ghost use Rattle.drive_sets.specs.Limits.{maxSets};
-ghost use Rattle.tables.specs.Tables.{isSet, checkedSets};
+ghost use Rattle.survivor_tables.specs.Tables.{isSet, checkedSets};
 ghost use Rattle.drive_sets.specs.Lists.{all};
 ghost use Rattle.drive_sets.specs.Refusals.{refused, number, outcomeOf};
-use crate::frames::Table;
-use crate::frames::is_frame;
-use crate::frames::is_set;
 use drive_sets::Answer;
 use drive_sets::Refusal;
-use set_orders::MAX_CORES;
-use set_orders::MAX_SETS;
 use set_orders::normal_form::NormalForm;
 use set_orders::sorting::Order;
+use survivor_tables::MAX_CORES;
+use survivor_tables::MAX_SETS;
+use survivor_tables::frames::Table;
+use survivor_tables::frames::is_frame;
+use survivor_tables::frames::is_set;
 
 // A normal table with its cores, the first `found` of the array, where it is accepted.
 pub struct TableWithCores {
@@ -45,7 +45,7 @@ pub fn refused(r: Refusal) -> TableWithCores
 // A normal table with its cores; 13 where there are more than 1024.
 fn with_cores(table: Table) -> TableWithCores
     requires { ⌜ table .count ≤ maxSets ⌝ }
-    ensures { λ r. ⌜ completeOutcome r ≡ fewCores (table .n) (setsOf table) ⌝ }
+    ensures { λ r. ⌜ completeOutcome r ≡ completeNormal (table .n) (setsOf table) ⌝ }
     ensures within { λ r. ⌜ CompleteWithin r ⌝ }
 {
     let count = table.count;

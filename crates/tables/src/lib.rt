@@ -1,4 +1,3 @@
 // Survivor tables given as n and sets: the normal table, its cores and the way back.
 pub mod calls;
 pub mod completing;
-pub mod frames;

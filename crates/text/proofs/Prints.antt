@@ -1,4 +1,5 @@
--- A text printed into a lent buffer: the copy over the part from the starting place on, and a text that was put into a buffer of its own first.
+-- A text printed into a lent buffer: the copy over the part from the starting place on, and a text that was put into a
+-- buffer of its own first.
 use mathlib.Core.Path.{_≡_, refl, sym, ap, _∙_, subst}
 use mathlib.Core.Bool.{Bool, false, not}
 use mathlib.Core.List.{List, _++_}
@@ -13,7 +14,7 @@ use Rattle.drive_sets.specs.Bools.Laws.{cond-true}
 use Rattle.drive_sets.specs.Filled.{Filled}
 use Rattle.records.specs.declared.Writing.{Writing}
 use Rattle.records.specs.declared.Writing.the-variants as writings
-use Rattle.records.specs.Fields.{written}
+use Rattle.drive_sets.specs.Lent.{written}
 use Rattle.records.proofs.Parts.{rest-is}
 use Rattle.records.proofs.Buffers.{written-all}
 use Rattle.text.specs.Printing.{Printed, bytesIn}

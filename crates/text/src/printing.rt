@@ -6,7 +6,8 @@ ghost use Rattle.text.specs.Printing.{Printed, bytesIn};
 use drive_sets::Refusal;
 use records::Writing;
 
-// No text of a program is longer: 1024 cores and 128 sets take a line of at most 22 bytes each, the rest less than 1024 bytes.
+// No text of a program is longer: 1024 cores and 128 sets take a line of at most 22 bytes each, the rest less than 1024
+// bytes.
 pub const MAX_TEXT: usize = 32768;
 
 // The bytes of its input that a program reads; what stands behind them changes nothing.

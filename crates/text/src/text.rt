@@ -1,5 +1,5 @@
-// Text into a buffer, from a place on, as long as there is room. A place one past the end says that there is no more room: what is
-// put there is dropped, and the place stays.
+// Text into a buffer, from a place on, as long as there is room. A place one past the end says that there is no more
+// room: what is put there is dropped, and the place stays.
 ghost use mathlib.Core.Path.{_≡_};
 ghost use mathlib.Core.List.{[], _∷_};
 ghost use Prim.Native.Nat.{suc, _≤_, _<_, min};

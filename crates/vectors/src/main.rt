@@ -1,7 +1,8 @@
-// Runs stored inputs through the listings of both programs and prints every text, one after the other. The stored output is what the second
-// program prints for the same inputs; `tests/make_vectors` makes both.
+// Runs stored inputs through the listings of both programs and prints every text, one after the other. The stored
+// output is what the second program prints for the same inputs; `tests/make_vectors` makes both.
 //
-// An input is: one byte, 0 for the table program and 1 for the run program; its length, 2 bytes, lowest first; its bytes.
+// An input is: one byte, 0 for the table program and 1 for the run program; its length, 2 bytes, lowest first; its
+// bytes.
 ghost use Prim.Native.Nat.{_≤_};
 use libc::STDIN_FILENO;
 use libc::STDOUT_FILENO;

@@ -1,4 +1,5 @@
--- The loops of the search: what is found from the place i on is what is found from the start on, since no set before i is the first.
+-- The loops of the search: what is found from the place i on is what is found from the start on, since no set before i
+-- is the first.
 use mathlib.Core.Path.{_≡_, refl, sym, ap, ap₂, _∙_, subst}
 use mathlib.Core.Bool.{true, false}
 use mathlib.Core.List.{List, [], _∷_}

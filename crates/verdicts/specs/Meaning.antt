@@ -1,5 +1,5 @@
--- What a verdict means: sets that share a drive (k-Intersection), lists of positions and their order, splits of the drives into blocks,
--- and blocks that hold a core (k-Partition). Verdicts/ has the theorems.
+-- What a verdict means: sets that share a drive (k-Intersection), lists of positions and their order, splits of the
+-- drives into blocks, and blocks that hold a core (k-Partition). Verdicts/ has the theorems.
 use mathlib.Core.Path.{_≡_}
 use mathlib.Core.Bool.{Bool, true, false, not, _&&_, _||_}
 use mathlib.Core.Logic.{_⊎_}
@@ -9,7 +9,7 @@ use lib.Dec.{eqb, leb, ltb}
 use lib.ListN.{length, getD, take}
 use Rattle.drive_sets.specs.Lists.{range, filter, any, elem, ordered}
 use Rattle.drive_sets.specs.Masks.{has, full, common, subset, ofDrives}
-use Rattle.tables.specs.Tables.{cores}
+use Rattle.survivor_tables.specs.Tables.{cores}
 use Rattle.verdicts.specs.Verdicts.{setsAt}
 
 -- ---- k-Intersection

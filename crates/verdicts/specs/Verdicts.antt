@@ -1,5 +1,6 @@
--- The verdict on k (k-Intersection; k-Partition is its other side): yes if any k sets of the normal table, repeats allowed, share a drive.
--- Otherwise no, with the first k positions whose sets share none, and the blocks of a split into k of which none holds a core.
+-- The verdict on k (k-Intersection; k-Partition is its other side): yes if any k sets of the normal table, repeats
+-- allowed, share a drive. Otherwise no, with the first k positions whose sets share none, and the blocks of a split
+-- into k of which none holds a core.
 use mathlib.Core.Bool.{not, _&&_, cond}
 use mathlib.Core.List.{List, [], _∷_, map}
 use mathlib.Core.Option.{Option, some, none}
@@ -9,7 +10,7 @@ use lib.ListN.{getD}
 use Rattle.drive_sets.specs.declared.Refusal.the-variants.{BlockCount}
 use Rattle.drive_sets.specs.Masks.{full, union, common, outside}
 use Rattle.drive_sets.specs.Refusals.{Outcome, result, refuseIf, andThen}
-use Rattle.tables.specs.Tables.{checkedSets, normalTable}
+use Rattle.survivor_tables.specs.Tables.{checkedSets, normalTable}
 pub mod Search
 pub mod Firsts
 pub mod Intersection

@@ -1,5 +1,5 @@
-// The verdict on k: whether any k sets of a normal table, repeats allowed, share a drive (k-Intersection), and for a no the first positions
-// whose sets share none, with the blocks of a split of which none holds a core.
+// The verdict on k: whether any k sets of a normal table, repeats allowed, share a drive (k-Intersection), and for a no
+// the first positions whose sets share none, with the blocks of a split of which none holds a core.
 ghost use mathlib.Core.Path.{_≡_};
 ghost use mathlib.Core.Bool.{true};
 ghost use mathlib.Core.Option.{none};
@@ -18,7 +18,8 @@ pub const MIN_BLOCKS: u8 = 2;
 
 pub const MAX_BLOCKS: u8 = 4;
 
-// Yes: `shared`, and zeros. No: the first k positions of sets that share no drive, and the k blocks, with zeros behind them.
+// Yes: `shared`, and zeros. No: the first k positions of sets that share no drive, and the k blocks, with zeros behind
+// them.
 pub struct Verdict {
     pub shared: bool,
     pub positions: [u8; 4],
@@ -75,8 +76,9 @@ fn first_pair(table: &[u64], from: usize, shared: u64) -> Named
     nothing()
 }
 
-// The first k positions from the place `from` on, not falling, whose sets have no drive of `shared` in common. The two innermost loops
-// are those of `first_pair`, one `and` and one test a set. Where the common part is empty already, each loop ends at its first set.
+// The first k positions from the place `from` on, not falling, whose sets have no drive of `shared` in common. The two
+// innermost loops are those of `first_pair`, one `and` and one test a set. Where the common part is empty already, each
+// loop ends at its first set.
 fn disjoint(k: u8, table: &[u64], from: usize, shared: u64) -> Named
     requires { ⌜ (2 ≤ k) × (from ≤ length (now table)) × (length (now table) ≤ maxSets) ⌝ }
     ensures { λ r. ⌜ r ≡ foundIn (disjoint k (suc from) (drop from (now (table .entry))) shared) ⌝ }

@@ -1,4 +1,5 @@
--- How a run refutes agreement: in the end a drive that stays up stands undecided, or two of them stand decided on two numbers.
+-- How a run refutes agreement: in the end a drive that stays up stands undecided, or two of them stand decided on two
+-- numbers.
 use mathlib.Core.Path.{_≡_, refl, ap}
 use mathlib.Core.Bool.{true, false}
 use mathlib.Core.List.{List, _++_}

@@ -1,5 +1,5 @@
--- Tight is false of the drives that refuse every call: none of them is ever open, so none decides. And of those that decide their own number in
--- round 1: none is ever in round 2.
+-- Tight is false of the drives that refuse every call: none of them is ever open, so none decides. And of those that
+-- decide their own number in round 1: none is ever in round 2.
 use mathlib.Core.Path.{_≡_, refl, sym, ap, _∙_}
 use mathlib.Core.List.{List}
 use Prim.Native.Nat.{ℕ, suc, _≤_}

@@ -1,4 +1,5 @@
--- Scenarios in which wrong drives go wrong: two drives, both in the core, that propose 7 and 5, and perhaps a third that listens.
+-- Scenarios in which wrong drives go wrong: two drives, both in the core, that propose 7 and 5, and perhaps a third
+-- that listens.
 use mathlib.Core.List.{[], _∷_}
 use Prim.Native.Nat.{ℕ, zero, suc}
 use Rattle.runs.specs.Scenario.{Crash, stays, crashes, Scenario}

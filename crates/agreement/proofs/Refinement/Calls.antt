@@ -1,7 +1,7 @@
--- One due call of a round's part: the world goes on following the abstract round. A sender has not closed yet, so its state is that of the
--- round and its send gives its message. The bytes of a due message are just what its sender wrote, so the message is accepted where the drive still
--- takes part, and changes nothing where it has halted. At a due close all that reach the drive have been delivered to it, so that the close
--- leaves what the round leaves.
+-- One due call of a round's part: the world goes on following the abstract round. A sender has not closed yet, so its
+-- state is that of the round and its send gives its message. The bytes of a due message are just what its sender wrote,
+-- so the message is accepted where the drive still takes part, and changes nothing where it has halted. At a due close
+-- all that reach the drive have been delivered to it, so that the close leaves what the round leaves.
 use mathlib.Core.Path.{_≡_, refl, sym, ap, ap₂, _∙_, subst, fun-ext}
 use mathlib.Core.Bool.{Bool, true, false, not, _&&_, _||_, and-true, and-false, or-comm}
 use mathlib.Core.Logic.{inl, inr, ⊎-elim}

@@ -1,5 +1,5 @@
--- The canonical order of calls is a run: each opening is due; the worlds begin as the rounds do, so that every sender's call writes its message,
--- and every part keeps to the rounds.
+-- The canonical order of calls is a run: each opening is due; the worlds begin as the rounds do, so that every sender's
+-- call writes its message, and every part keeps to the rounds.
 use mathlib.Core.Path.{_≡_, refl, ap, _∙_}
 use mathlib.Core.Bool.{Bool, true, false, not, _||_, or-assoc}
 use mathlib.Core.List.{List, [], _∷_, map}

@@ -1,6 +1,6 @@
--- The canonical order of the calls of a round is a part of it, given that in the world in which the round begins every sender's call writes a
--- message: each call is due, and in the end the part is complete. What is proved here is about lists and the bookkeeping of a part: no state
--- is looked at.
+-- The canonical order of the calls of a round is a part of it, given that in the world in which the round begins every
+-- sender's call writes a message: each call is due, and in the end the part is complete. What is proved here is about
+-- lists and the bookkeeping of a part: no state is looked at.
 use mathlib.Core.Path.{_≡_, refl, sym, ap, _∙_, fun-ext}
 use mathlib.Core.Bool.{Bool, true, false, not, _&&_, _||_, cond, and-false, and-or-distrib-left, or-assoc}
 use mathlib.Core.Logic.{⊎-elim}
@@ -68,7 +68,8 @@ module _ (s : Scenario) (r : ℕ) (w₀ : World) where
   closers = filter (closer s r w₀) (frame s)
 
   module _ (written : ℕ → List ℕ) where
-    -- the progress in which these senders have been called, these messages delivered (from, to), and these drives have closed
+    -- the progress in which these senders have been called, these messages delivered (from, to), and these drives have
+    -- closed
     abbrev progress : (ℕ → Bool) → (ℕ → ℕ → Bool) → (ℕ → Bool) → RoundProgress
     progress called delivered closed = record { sent = λ x. cond (called x) (wrote (written x)) pending; delivered = delivered; closed = closed }
 
@@ -96,7 +97,8 @@ module _ (s : Scenario) (r : ℕ) (w₀ : World) where
     -- ---- the messages, sender by sender
 
     module _ (called : ℕ → Bool) (is : (x : ℕ) → called x ≡ elem x senders) where
-      -- the messages of a, which the senders of l follow; those of the senders before a have been delivered, and of its own those to q
+      -- the messages of a, which the senders of l follow; those of the senders before a have been delivered, and of its
+      -- own those to q
       module _ (a : ℕ) (l : List ℕ) (here : elem a senders ≡ true) (first : all (ltb a) l ≡ true) (D : ℕ → ℕ → Bool)
           (new : (x y : ℕ) → elem x (a ∷ l) ≡ true → D x y ≡ false)
           (old : (x y : ℕ) → elem x senders ≡ true → elem x (a ∷ l) ≡ false → elem y (reach s r x) ≡ true → D x y ≡ true) where

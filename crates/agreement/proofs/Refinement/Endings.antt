@@ -1,5 +1,5 @@
--- How a drive that stays up ends in the simulated exchange: on v in round r just if the rounds have it decide on v in round r. And the canonical
--- order of calls gives the same.
+-- How a drive that stays up ends in the simulated exchange: on v in round r just if the rounds have it decide on v in
+-- round r. And the canonical order of calls gives the same.
 use mathlib.Core.Path.{_≡_, refl, sym, ap, ap₂, _∙_, subst}
 use mathlib.Core.Bool.{true}
 use mathlib.Core.List.{List, [], _∷_}
@@ -22,7 +22,7 @@ use Rattle.runs.specs.Runs.{nothingYet}
 use Rattle.runs.specs.Runs as anyRuns
 use Rattle.agreement.specs.Instance.{instanceOf}
 use Rattle.runs.specs.Statement.{Valid, Up}
-use Rattle.agreement.specs.Simulated.{Ending, decides, undecided, endingAfter, endingFrom, endingOf}
+use Rattle.agreement.specs.RoundEndings.{Ending, decides, undecided, endingAfter, endingFrom, endingOf}
 use Rattle.agreement.specs.Canonical.{openingCalls, canonicalRounds, endingOn, firstDecision, canonicalEnding, CanonicalGives}
 use Rattle.agreement.proofs.Instances.{lawful, correct-staysUp, up-inFrame, up-correct}
 use Rattle.agreement.proofs.Refinement.{Begins}

@@ -1,4 +1,5 @@
--- The opening part of a run: every drive of the frame is opened, and is then in the state in which the abstract rounds begin.
+-- The opening part of a run: every drive of the frame is opened, and is then in the state in which the abstract rounds
+-- begin.
 use mathlib.Core.Path.{_≡_, refl, sym, ap, _∙_}
 use mathlib.Core.Bool.{Bool, true, false, _&&_, _||_, cond}
 use mathlib.Core.List.{List, [], _∷_}
@@ -12,7 +13,7 @@ use Rattle.drive_sets.specs.Lists.{range}
 use Rattle.drive_sets.specs.Masks.{has, single}
 use Rattle.drive_sets.specs.Masks.Tests.{setOf, setOf-none, setOf-single}
 use Rattle.drive_sets.specs.Refusals.{result}
-use Rattle.set_orders.specs.Order.{normal}
+use Rattle.survivor_tables.specs.Order.{normal}
 use Rattle.drive_states.specs.declared.Decision.the-variants.{Undecided}
 use Rattle.drive_states.specs.State.{pattern}
 use Rattle.drive_sets.specs.Counts.Laws.{isDrive-range}

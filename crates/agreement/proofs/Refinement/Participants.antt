@@ -1,5 +1,5 @@
--- Who is called to send and who closes: the tests of a run's part, made on the world when the round begins, say just what the abstract rounds
--- say.
+-- Who is called to send and who closes: the tests of a run's part, made on the world when the round begins, say just
+-- what the abstract rounds say.
 use mathlib.Core.Path.{_≡_, sym, ap, _∙_}
 use mathlib.Core.Bool.{true, false, not}
 use Prim.Native.Nat.{ℕ, suc, _<_}

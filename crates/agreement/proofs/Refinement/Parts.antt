@@ -1,5 +1,5 @@
--- The part of a round: whatever call comes next, due or refused, the world goes on following the abstract round; and when the part is complete,
--- the next round begins.
+-- The part of a round: whatever call comes next, due or refused, the world goes on following the abstract round; and
+-- when the part is complete, the next round begins.
 use mathlib.Core.Path.{_≡_, refl, sym, ap, _∙_, subst, fun-ext}
 use mathlib.Core.Bool.{true, not, _||_}
 use mathlib.Core.Logic.{inl, ⊎-elim}

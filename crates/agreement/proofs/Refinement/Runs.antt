@@ -1,6 +1,7 @@
--- A whole run follows the abstract rounds: the world before each round, and after the last, is the one that they give; and a drive decides in
--- the list just when it decides in the rounds. In the part of a round a closer's close stands in the list, made in the drive's own round, and
--- leaves it with the decision of the abstract round; and a close that decides is that one.
+-- A whole run follows the abstract rounds: the world before each round, and after the last, is the one that they give;
+-- and a drive decides in the list just when it decides in the rounds. In the part of a round a closer's close stands in
+-- the list, made in the drive's own round, and leaves it with the decision of the abstract round; and a close that
+-- decides is that one.
 use mathlib.Core.Path.{_≡_, refl, sym, ap, _∙_}
 use mathlib.Core.Bool.{true, false}
 use mathlib.Core.List.{List, [], _∷_, _++_, nil≢cons}

@@ -1,5 +1,5 @@
--- The announcement of the lowest-numbered drive that makes one: it is the first value on the rising list of drives, and keeping the lower of
--- two senders as messages come gives it, whatever the order.
+-- The announcement of the lowest-numbered drive that makes one: it is the first value on the rising list of drives, and
+-- keeping the lower of two senders as messages come gives it, whatever the order.
 use mathlib.Core.Path.{_≡_, refl, sym, ap, ap₂, _∙_}
 use mathlib.Core.Bool.{true, false}
 use mathlib.Core.Logic.{_⊎_, inl, inr, ⊎-elim}

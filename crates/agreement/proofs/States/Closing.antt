@@ -1,5 +1,5 @@
--- Closing in a state of a run: a drive that has accepted all that reach it closes the round, its decision and whether it halts are those
--- of the abstract round, and if it goes on, its state is the one in which the next round begins.
+-- Closing in a state of a run: a drive that has accepted all that reach it closes the round, its decision and whether
+-- it halts are those of the abstract round, and if it goes on, its state is the one in which the next round begins.
 use mathlib.Core.Path.{_≡_, refl, sym, ap, ap₂, _∙_, fun-ext}
 use mathlib.Core.Bool.{Bool, false, not, _&&_, _||_}
 use mathlib.Core.Logic.{⊎-elim}

@@ -1,5 +1,5 @@
--- What is known in a round from the messages accepted so far: what was known when it began, and what undecided senders knew then. One
--- more sender adds what it knew, if it is undecided, and nothing otherwise.
+-- What is known in a round from the messages accepted so far: what was known when it began, and what undecided senders
+-- knew then. One more sender adds what it knew, if it is undecided, and nothing otherwise.
 use mathlib.Core.Path.{_≡_, refl, sym, ap, _∙_, fun-ext}
 use mathlib.Core.Bool.{Bool, true, false, not, _&&_, _||_, or-assoc}
 use mathlib.Core.Logic.{⊎-elim}

@@ -1,6 +1,6 @@
--- Receiving in a state of a run: the message of another core drive that comes for the first time meets none of the refusals, and gives the
--- state with that drive among the senders accepted. A KN adds what the sender knew to what is known, and a DC keeps the announcement of the
--- lowest-numbered sender.
+-- Receiving in a state of a run: the message of another core drive that comes for the first time meets none of the
+-- refusals, and gives the state with that drive among the senders accepted. A KN adds what the sender knew to what is
+-- known, and a DC keeps the announcement of the lowest-numbered sender.
 use mathlib.Core.Path.{_≡_, refl, sym, ap, _∙_, subst, fun-ext}
 use mathlib.Core.Bool.{Bool, true, false, not, _||_}
 use mathlib.Core.Option.{none, some}

@@ -1,5 +1,5 @@
--- The states of a run keep the rules of 28, and know what they should: the drive is in the core just if the instance says so, and the
--- number that it holds of a known drive is that drive's proposal.
+-- The states of a run keep the rules of 28, and know what they should: the drive is in the core just if the instance
+-- says so, and the number that it holds of a known drive is that drive's proposal.
 use mathlib.Core.Path.{_≡_, refl, sym, _∙_}
 use mathlib.Core.Bool.{Bool, true, false}
 use Prim.Native.Nat.{ℕ, _≤_}
@@ -12,7 +12,7 @@ use Rattle.drive_sets.specs.Lists.Laws.{elem-range, any-intro}
 use Rattle.drive_sets.specs.Masks.{has, full, subset}
 use Rattle.drive_sets.specs.Masks.Laws.{subset-full}
 use Rattle.drive_sets.specs.Masks.Tests.{setOf, upTo, has-setOf, setOf-within, setOf-some, subset-setOf}
-use Rattle.tables.specs.Tables.{isFrame, isSet}
+use Rattle.survivor_tables.specs.Tables.{isFrame, isSet}
 use Rattle.drive_states.specs.State.{inCore, numberOf, broken}
 use Rattle.drive_sets.specs.Counts.Laws.{isDrive-range}
 use Rattle.drive_states.specs.State.Laws.{Sound, sound-unbroken}

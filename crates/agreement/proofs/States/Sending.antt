@@ -1,5 +1,5 @@
--- Sending in a state of a run: a core drive's send is accepted where there is room, and gives the message that the abstract round says; 28,
--- 23 and 27 are ruled out, and 14 is left to the room.
+-- Sending in a state of a run: a core drive's send is accepted where there is room, and gives the message that the
+-- abstract round says; 28, 23 and 27 are ruled out, and 14 is left to the room.
 use mathlib.Core.Path.{_≡_, refl, sym, ap, _∙_}
 use mathlib.Core.Bool.{Bool, true}
 use mathlib.Core.Option.{Option, none, some}

@@ -2,12 +2,12 @@
 use lib.Count.{onesIn}
 use Rattle.drive_sets.specs.Lists.{range, filter, all, any, smaller, smallest}
 use Rattle.drive_sets.specs.Masks.{has, single, full, union, common, minus, meets, subset, size, drives}
-use Rattle.hitting_sets.specs.Hitting.{critical, forEach, search, minimals}
-use Rattle.set_orders.specs.Order.{byMask, bySize, insert, sort, dropRepeats, holdsAnother, normal}
-use Rattle.records.specs.Fields.{fromBytes, toBytes, written, writtenAt}
+use Rattle.survivor_tables.specs.Hitting.{critical, forEach, search, minimals}
+use Rattle.survivor_tables.specs.Order.{byMask, bySize, insert, sort, dropRepeats, holdsAnother, normal}
+use Rattle.records.specs.Fields.{fromBytes, toBytes}
+use Rattle.drive_sets.specs.Lent.{written, writtenAt, fitting}
 use Rattle.records.specs.Marks.{ascii, markText, mark, bodyWidth, kindOf, isKind, isDue, headOf}
-use Rattle.records.specs.LentBuffers.{fitting}
-use Rattle.tables.specs.Tables.{isFrame, isSet, isEmpty, cores, chosen, withinCoreLimit, normalTable}
+use Rattle.survivor_tables.specs.Tables.{isFrame, isSet, isEmpty, cores, chosen, withinCoreLimit, normalTable}
 use Rattle.drive_sets.specs.Counts.{isDrive, isRound}
 use Rattle.drive_states.specs.State.{inCore, numberIn, numberOf, isDecided, broken}
 use Rattle.drive_states.specs.Messages.{maskIn, entriesIn, entryBytes, kindIn, contentBytes, messageBytes, lengthIn, senderOf, roundOf, maskOf, patternOf, entriesFrom, contentOf, messageOf, wrongMask, checked, readMessage}

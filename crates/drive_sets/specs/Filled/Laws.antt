@@ -26,8 +26,5 @@ filled-then o o₁ o₂ c r₁ r₂ l₁ l₂ e f g = record {
       ∙ (ap (λ (l : List ℕ). l ++ l₂) (f .kept (omega (arith, f .total, g .total))) ∙ append-assoc (take c o) l₁ l₂);
 }
 
-pub filled-le : {o o' l : List ℕ} {c r : ℕ} → Filled o o' c r l → r ≤ suc (length o)
-filled-le f = omega (arith, f .total)
-
 pub filled-same : {o o' l k : List ℕ} {c r : ℕ} → l ≡ k → Filled o o' c r k → Filled o o' c r l
 filled-same {o} {o'} {c = c} {r = r} e f = subst (Filled o o' c r) (sym e) f

@@ -1,4 +1,5 @@
--- The first value that a partial function has on a list: it is the value at some element, and none where there is none anywhere.
+-- The first value that a partial function has on a list: it is the value at some element, and none where there is none
+-- anywhere.
 use mathlib.Core.Path.{_≡_, refl, sym, ap, _∙_}
 use mathlib.Core.Bool.{true}
 use mathlib.Core.Logic.{⊎-elim}

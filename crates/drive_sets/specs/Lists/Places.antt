@@ -52,9 +52,10 @@ module _ (f : ℕ → ℕ) where
   getD-map (x ∷ l) (suc i) h = getD-map l i (omega arith)
 
 -- functions that agree on the list have the same image
-pub map-same : (f g : ℕ → ℕ) (l : List ℕ) → ((x : ℕ) → elem x l ≡ true → f x ≡ g x) → map f l ≡ map g l
-map-same f g [] same = refl
-map-same f g (x ∷ l) same = ap₂ (λ (y : ℕ) (r : List ℕ). y ∷ r) (same x (elem-head x l)) (map-same f g l (λ y e. same y (elem-tail y x l e)))
+module _ {A : Type 0} where
+  pub map-same : (f g : ℕ → A) (l : List ℕ) → ((x : ℕ) → elem x l ≡ true → f x ≡ g x) → map f l ≡ map g l
+  map-same f g [] same = refl
+  map-same f g (x ∷ l) same = ap₂ (λ (y : A) (r : List A). y ∷ r) (same x (elem-head x l)) (map-same f g l (λ y e. same y (elem-tail y x l e)))
 
 pub length-range : (a k : ℕ) → length (range a k) ≡ k
 unfolding range

@@ -1,5 +1,6 @@
--- The smallest value of a function on a list: it is the value at some element, it is at most the value at each, and both together make
--- it out. So lists with the same elements have the same one, and so have functions with the same values there.
+-- The smallest value of a function on a list: it is the value at some element, it is at most the value at each, and
+-- both together make it out. So lists with the same elements have the same one, and so have functions with the same
+-- values there.
 use mathlib.Core.Path.{_≡_, refl, sym, ap, _∙_}
 use mathlib.Core.Bool.{true}
 use mathlib.Core.Logic.{⊎-elim}

@@ -1,5 +1,6 @@
--- First parts of lists: what stands in one stands in the list, and a first part of two lists one after the other that gets into the second
--- has all of the first; what stands at a place of a list is in it. And what is kept by two tests, and kept first.
+-- First parts of lists: what stands in one stands in the list, and a first part of two lists one after the other that
+-- gets into the second has all of the first; what stands at a place of a list is in it. And what is kept by two tests,
+-- and kept first.
 use mathlib.Core.Path.{_≡_, refl, sym, ap, _∙_, subst}
 use mathlib.Core.Bool.{Bool, true, false, _&&_}
 use mathlib.Core.Logic.{⊎-elim}

@@ -1,4 +1,5 @@
--- A list gone through from its end, `while 0 < i { i -= 1; .. }`: x is what f gives of the elements passed, those from i on.
+-- A list gone through from its end, `while 0 < i { i -= 1; .. }`: x is what f gives of the elements passed, those from
+-- i on.
 use mathlib.Core.Path.{_≡_, sym, ap, _∙_}
 use mathlib.Core.List.{List, [], _∷_}
 use Prim.Native.Nat.{ℕ, suc, _-_, _≤_, _<_}

@@ -1,5 +1,6 @@
--- The drives of a mask gone through from the lowest on, `while m != 0 { let d = lowest(m); .. m = without_lowest(m); }`, or with remove(m, d): what f
--- makes of the drives that are left is the whole. A turn may change f, as where the loop gathers something.
+-- The drives of a mask gone through from the lowest on, `while m != 0 { let d = lowest(m); .. m = without_lowest(m);
+-- }`, or with remove(m, d): what f makes of the drives that are left is the whole. A turn may change f, as where the
+-- loop gathers something.
 use mathlib.Core.Path.{_≡_, refl, sym, ap, ap₂, _∙_, subst}
 use mathlib.Core.Bool.{true}
 use mathlib.Core.List.{List, [], _∷_}

@@ -1,5 +1,5 @@
--- A slice filled from a place on, `out[k] = v; k += 1`: what stands before k, followed by what is still to come, is the whole, and behind it
--- nothing has changed.
+-- A slice filled from a place on, `out[k] = v; k += 1`: what stands before k, followed by what is still to come, is the
+-- whole, and behind it nothing has changed.
 use mathlib.Core.Path.{_≡_, refl, sym, ap, ap₂, _∙_}
 use mathlib.Core.List.{List, [], _∷_, _++_, append-nil}
 use Prim.Native.Nat.{ℕ, _+_, _-_, _≤_, _<_}

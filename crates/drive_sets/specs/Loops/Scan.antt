@@ -1,5 +1,6 @@
--- A list gone through from the front, `while i < l.len() { .. i += 1 }`: what f makes of the rest is the whole. A turn may change f, as where the
--- loop gathers something; a loop that returns early has found the whole. Tests of all and of some elements are cases of it.
+-- A list gone through from the front, `while i < l.len() { .. i += 1 }`: what f makes of the rest is the whole. A turn
+-- may change f, as where the loop gathers something; a loop that returns early has found the whole. Tests of all and of
+-- some elements are cases of it.
 use mathlib.Core.Path.{_≡_, refl, sym, ap, _∙_}
 use mathlib.Core.Bool.{Bool, true, false, _&&_, _||_}
 use mathlib.Core.List.{List, [], _∷_}

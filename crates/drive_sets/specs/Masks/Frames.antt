@@ -1,4 +1,5 @@
--- Sets of the drives of a frame, 1 to n: their drives are those of the frame that they have, and so many is their size; lists of such sets.
+-- Sets of the drives of a frame, 1 to n: their drives are those of the frame that they have, and so many is their size;
+-- lists of such sets.
 use mathlib.Core.Path.{_≡_, sym, ap, _∙_, subst}
 use mathlib.Core.Bool.{true, _&&_}
 use mathlib.Core.Logic.{⊎-elim}

@@ -8,7 +8,7 @@ use lib.Arith.{lt-one}
 use lib.Pow.{pow-lt, pow-pos, pow-mono, ones-lt}
 use lib.Bits.{bitAnd, and-le-l, and-le-r, and-comm, and-self, and-zero-l, or-lt, or-zero-r, or-add-and}
 use lib.Dec.{eqb, ltb, leb}
-use borrow.Author.Tests.{eqb-true, eqb-false, eq-eqb, ne-eqb, lt-ltb, le-leb, leb-true, leb-false, not-true}
+use borrow.Author.Tests.{eqb-true, eqb-false, eq-eqb, ne-eqb, lt-ltb, le-leb, leb-true, leb-false, not-true, not-false}
 use Rattle.drive_sets.specs.Bools.Laws.{clash, by-test, false-of, true-of, same-test, and-intro, and-left, and-right, or-left, cond-true}
 use Rattle.drive_sets.specs.Masks.{has, single, full, union, common, minus, meets, subset}
 use Rattle.drive_sets.specs.Masks.Bits.{bit, bit-lt, bit-zero, bit-suc, bit-none, bit-above, half-lt, bit-ext, bit-and, bit-or, bit-minus, bit-one, bit-ones, on-digits, digit-ext}
@@ -63,6 +63,10 @@ has-bounds n (suc i) m h e =
     by-test (leb (suc i) n)
     (λ p. (omega arith, leb-true (suc i) n p))
     (λ p. absurd (clash e (ap (λ (x : ℕ). eqb x 1) (bit-above i n m h (let q = leb-false (suc i) n p in omega arith)))))
+
+-- the same where a test said that d is a member
+pub tested-bounds : (d m : ℕ) (b : Bool) → m < 2 ^ 64 → b ≡ has d m → not b ≡ false → (1 ≤ d) × (d ≤ 64)
+tested-bounds d m b h e g = has-bounds 64 d m h (sym e ∙ not-false b g)
 
 pub full-has : (d n : ℕ) → n ≤ 64 → 1 ≤ d → d ≤ n → has d (full n) ≡ true
 full-has d n h p q = has-full d n h ∙ and-intro (le-leb 1 d p) (le-leb d n q)

@@ -1,5 +1,5 @@
--- Sets given by a test: the mask of the drives 1 to 64 that pass it. Each operation on masks is one on tests, and the masks of tests that
--- drives 1 to n alone can pass are compared and listed by going through those drives.
+-- Sets given by a test: the mask of the drives 1 to 64 that pass it. Each operation on masks is one on tests, and the
+-- masks of tests that drives 1 to n alone can pass are compared and listed by going through those drives.
 use mathlib.Core.Path.{_≡_, sym, ap, ap₂, _∙_, fun-ext}
 use mathlib.Core.Bool.{Bool, true, false, not, _&&_, _||_, Bool·beq}
 use Prim.Native.Nat.{ℕ, _^_, _≤_, _<_}

@@ -1,4 +1,5 @@
--- Laws of outcomes: what a result says of the refusals before it; and of answers, of which a refused one is known by its refusal.
+-- Laws of outcomes: what a result says of the refusals before it; of answers, of which a refused one is known by its
+-- refusal; and of the numbers of refusals.
 use mathlib.Core.Path.{_≡_, refl, sym, ap, _∙_}
 use mathlib.Core.Bool.{Bool, true, false}
 use Prim.Native.Nat.{ℕ}
@@ -6,7 +7,7 @@ use native.Mathlib.Omega.{arith}
 use Rattle.drive_sets.specs.declared.Answer.{Answer}
 use Rattle.drive_sets.specs.declared.Answer.the-variants.{Accepted, Refused}
 use Rattle.drive_sets.specs.declared.Refusal.{Refusal}
-use Rattle.drive_sets.specs.Refusals.{Outcome, refused, result, refuseIf, andThen}
+use Rattle.drive_sets.specs.Refusals.{Outcome, refused, result, refuseIf, andThen, Alone}
 
 module _ {A : Type 0} where
   pub refused-no-result : {r : ℕ} {a : A} → refused r ≡ result a → ⊥
@@ -36,8 +37,14 @@ same-refusal e = cc
 
 -- a value that its refusal makes, or that is accepted, is the one that the refusal makes wherever it is refused
 module _ {A : Type 0} (answer : A → Answer) (refusedAs : Refusal → A) (is : (q : Refusal) → answer (refusedAs q) ≡ Refused q) where
-  pub refused-alone : {a : A} {q : Refusal} → a ≡ refusedAs q → (r : Refusal) → answer a ≡ Refused r → a ≡ refusedAs r
+  pub refused-alone : {a : A} {q : Refusal} → a ≡ refusedAs q → Alone answer refusedAs a
   refused-alone {q = q} e r h = e ∙ ap refusedAs (same-refusal (sym (is q) ∙ (ap answer (sym e) ∙ h)))
 
-  pub accepted-alone : {a : A} → answer a ≡ Accepted → (r : Refusal) → answer a ≡ Refused r → a ≡ refusedAs r
+  pub accepted-alone : {a : A} → answer a ≡ Accepted → Alone answer refusedAs a
   accepted-alone e r h = absurd (accepted-not-refused (sym e ∙ h))
+
+-- a step that only makes a value, and the next
+module _ {A B C : Type 0} where
+  pub then-then : (o : Outcome A) (f : A → B) (g : B → Outcome C) → andThen (andThen o (λ a. result (f a))) g ≡ andThen o (λ a. g (f a))
+  then-then (refused r) f g = refl
+  then-then (result a) f g = refl

@@ -4,7 +4,7 @@ use mathlib.Core.Bool.{true, false, not}
 use Prim.Native.Nat.{_≤_}
 use Rattle.drive_sets.specs.Bools.Laws.{by-test, and-intro, and-fails-left, and-fails-right, or-neither}
 use Rattle.drive_sets.specs.Masks.{has, subset, size}
-use Rattle.tables.specs.Tables.{isFrame, isSet}
+use Rattle.survivor_tables.specs.Tables.{isFrame, isSet}
 use Rattle.drive_states.specs.declared.Exchange.{Exchange}
 use Rattle.drive_sets.specs.Counts.{isDrive}
 use Rattle.drive_sets.specs.Counts.Laws.{is-round}

@@ -5,7 +5,7 @@ use mathlib.Core.List.{List}
 use Prim.Native.Nat.{ℕ}
 use Rattle.drive_sets.specs.Bools.Laws.{cond-true}
 use Rattle.drive_sets.specs.Refusals.{refused}
-use Rattle.tables.specs.Tables.{isFrame}
+use Rattle.survivor_tables.specs.Tables.{isFrame}
 use Rattle.drive_states.specs.State.{broken}
 use Rattle.agreement.specs.Calls.{initial, sending, receiving, closing}
 use Rattle.exchange.specs.Replies.{notOpened}

@@ -1,32 +1,27 @@
--- The contract of each of the four calls is a step of the world that runs are made of, and a controller that hands each
--- call the state that the last one left keeps, after any list of calls, what the world has. So demand 3 speaks of it.
-use mathlib.Core.Path.{_≡_, refl, sym, ap, _∙_, subst}
+-- The contract of each of the four calls is a step of the world that runs are made of: what it leaves, where it is
+-- refused, and what a send writes.
+use mathlib.Core.Path.{_≡_, refl, sym, ap, _∙_}
 use mathlib.Core.Bool.{true, false}
-use mathlib.Core.List.{List, [], _∷_}
+use mathlib.Core.List.{List}
 use Prim.Native.Nat.{ℕ}
-use lib.Dec.{eqb}
 use lib.ListN.{length}
-use borrow.Author.Tests.{eqb-true}
-use Rattle.drive_sets.specs.Bools.Laws.{clash, by-test, cond-true, cond-false}
+use Rattle.drive_sets.specs.Bools.Laws.{clash}
 use Rattle.drive_sets.specs.Refusals.{Outcome, refused, result}
 use Rattle.records.specs.declared.Writing.{Writing}
-use Rattle.records.specs.LentBuffers.{sizeWritten, Written}
+use Rattle.records.specs.LentBuffers.{Written}
+use Rattle.drive_sets.specs.Lent.{sizeWritten}
 use Rattle.records.proofs.Buffers.{written-as}
 use Rattle.drive_states.specs.declared.Exchange.{Exchange}
-use Rattle.drive_states.specs.declared.Decision.the-variants.{Decided}
 use Rattle.runs.specs.World as worlds
-use Rattle.runs.specs.World.{Call, opens, sends, delivers, closes, driveOf, Slot, unopened, opened, World, nothingOpen, afterCall, onState, isRefused, decisionOf}
-use Rattle.runs.specs.World.Laws.{put-same, apply-other}
-use Rattle.runs.specs.Scenario.{Scenario}
+use Rattle.runs.specs.World.{Call, opens, sends, delivers, closes, driveOf, Slot, unopened, opened, World, afterCall, onState, isRefused}
+use Rattle.runs.specs.World.Laws.{put-same}
 use Rattle.runs.specs.Runs as anyRuns
-use Rattle.runs.specs.Statement.{Valid, Untouched, Up, Proposed, Agreement}
-use Rattle.agreement.specs.Calls.{initial, opening, sending, receiving, closing}
-use Rattle.agreement.specs.Document01.{document01, apply, applyAll, refusedBy, sendingOf, Run}
-use Rattle.agreement.proofs.Theorems.{agreement}
+use Rattle.agreement.specs.Calls.{opening, sending, receiving, closing}
+use Rattle.agreement.specs.Document01.{apply, refusedBy, sendingOf}
 use Rattle.exchange.specs.declared.Reply.{Reply}
 use Rattle.exchange.specs.Replies.{stateAfter, notOpened, Replied}
 use Rattle.exchange.specs.Replies.Laws.{not-opened-sending, not-opened-receiving, not-opened-closing}
-use Rattle.exchange.specs.Steps.{held, mayName, Stepped, SentFrom, leaves, neverOpened, keep, keepAll}
+use Rattle.exchange.specs.Steps.{held, mayName, Stepped, SentFrom, leaves}
 
 -- ---- what a call leaves
 
@@ -41,7 +36,7 @@ on-held call none unopened = ap (stateAfter notOpened) none
 on-held call none (opened x) = after-held (opened x) (call x)
 
 -- what a call that is handed the state kept leaves is what the world then has
-leaves-held : (w : World) (c : Call) → leaves (held (w (driveOf c))) c ≡ held (apply w c (driveOf c))
+pub leaves-held : (w : World) (c : Call) → leaves (held (w (driveOf c))) c ≡ held (apply w c (driveOf c))
 unfolding leaves driveOf worlds.apply
 leaves-held w (opens d n sets own number) = after-held (w d) (opening n sets own number) ∙ sym (ap held (put-same w d _))
 leaves-held w (sends d room start) = refl
@@ -50,12 +45,12 @@ leaves-held w (closes d) = on-held closing not-opened-closing (w d) ∙ sym (ap 
 
 -- ---- where a call is refused
 
-opening-named : (slot : Slot) (d n : ℕ) (sets : List ℕ) (own number : ℕ) → mayName slot (opens d n sets own number) ≡ true
+pub opening-named : (slot : Slot) (d n : ℕ) (sets : List ℕ) (own number : ℕ) → mayName slot (opens d n sets own number) ≡ true
 unfolding mayName
 opening-named unopened d n sets own number = refl
 opening-named (opened x) d n sets own number = refl
 
-not-open : (slot : Slot) (c : Call) → mayName slot c ≡ false → held slot ≡ notOpened
+pub not-open : (slot : Slot) (c : Call) → mayName slot c ≡ false → held slot ≡ notOpened
 unfolding held mayName
 not-open unopened c h = refl
 not-open (opened x) c h = absurd (clash refl h)
@@ -71,7 +66,7 @@ unfolding held mayName worlds.refusedBy
 close-refused unopened d h = absurd (clash h refl)
 close-refused (opened x) d h = refl
 
-size-refused : (o : Outcome (List ℕ)) → isRefused (sizeWritten o) ≡ isRefused o
+pub size-refused : (o : Outcome (List ℕ)) → isRefused (sizeWritten o) ≡ isRefused o
 unfolding isRefused
 size-refused (refused r) = refl
 size-refused (result bytes) = refl
@@ -122,37 +117,3 @@ module _ (w : World) (d : ℕ) where
         refuses = λ h. ap isRefused (q .answer) ∙ send-held (w d) d room start h .1;
         notOpen = λ h. written-as (ap (λ x. sending x room start) (not-open (w d) (sends d room start) h) ∙ not-opened-sending room start) q;
       }
-
--- ---- a list of calls
-
-keep-held : (w : World) (c : Call) (d : ℕ) → keep (λ e. held (w e)) c d ≡ held (apply w c d)
-unfolding keep
-keep-held w c d =
-    by-test (eqb d (driveOf c))
-    (λ h. let is = eqb-true d (driveOf c) h in
-    cond-true _ _ h ∙ subst (λ (e : ℕ). leaves (held (w e)) c ≡ held (apply w c e)) (sym is) (leaves-held w c))
-    (λ h. cond-false _ _ h ∙ sym (ap held (apply-other document01 w c d h)))
-
-kept-from : (w : World) (calls : List Call) → keepAll (λ d. held (w d)) calls ≡ (λ d. held (applyAll w calls d))
-unfolding keepAll worlds.applyAll
-kept-from w [] = refl
-kept-from w (c ∷ calls) = ap (λ store. keepAll store calls) (λ i d. keep-held w c d i) ∙ kept-from (apply w c) calls
-
--- a controller that starts with drives that were never opened keeps, after any list of calls, what the world has
-pub kept-held : (calls : List Call) (d : ℕ) → keepAll neverOpened calls d ≡ held (applyAll nothingOpen calls d)
-unfolding neverOpened nothingOpen held
-kept-held calls d = ap (λ store. store d) (kept-from nothingOpen calls)
-
-held-decision : (slot : Slot) → held slot .decision ≡ decisionOf slot
-unfolding held decisionOf notOpened initial
-held-decision unopened = refl
-held-decision (opened x) = refl
-
--- so, where a survivor set is untouched, after every run the states kept for the drives that stay up are decided on one
--- number, which a core drive proposed
-pub kept-agrees : (s : Scenario) → Valid s → Untouched s → (calls : List Call) → Run s calls
-    → (v : ℕ) × Proposed s v × ((d : ℕ) → Up s d → keepAll neverOpened calls d .decision ≡ Decided (record { 0 = v }))
-unfolding Agreement
-kept-agrees s ok untouched calls run =
-    let agreed = agreement s ok untouched calls run in
-    (agreed .value, agreed .proposed, λ d up. ap (λ x. x .decision) (kept-held calls d) ∙ (held-decision (applyAll nothingOpen calls d) ∙ agreed .final d up))

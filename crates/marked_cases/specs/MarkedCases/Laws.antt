@@ -3,8 +3,8 @@ use mathlib.Core.Path.{refl}
 use mathlib.Core.Option.{orElse}
 use Rattle.drive_sets.specs.Lists.{elem, firstSome}
 use Rattle.drive_sets.specs.Masks.{outside, ofDrives}
-use Rattle.hitting_sets.specs.Hitting.{hits}
-use Rattle.tables.specs.Tables.{chosenCore}
+use Rattle.survivor_tables.specs.Hitting.{hits}
+use Rattle.survivor_tables.specs.Tables.{chosenCore}
 use Rattle.records.specs.RecordLists.{nextOf, widthOf, stepOf, readFrom, readList}
 use Rattle.table_files.specs.Files.{dueAfter, takenSet, readListed, accepted, readTable, readWhole}
 use Rattle.verdicts.specs.Verdicts.{firstWith, disjoint, blocksOf, verdictOn}
@@ -15,7 +15,7 @@ use Rattle.agreement.specs.Sends.{listOf, cut, reach}
 use Rattle.runs.specs.CrashRecords.{crashed, isNext, mostSends, checkedCrash, crashIn, scenario}
 use Rattle.drive_sets.specs.Counts.{isRound}
 use Rattle.runs.specs.Statement.{coreCrashes}
-use Rattle.agreement.specs.Simulated.{endingAfter, endingFrom, endingOf, endings}
+use Rattle.agreement.specs.RoundEndings.{endingAfter, endingFrom, endingOf, endings}
 use Rattle.run_files.specs.RunFiles.{takenProposal, crashFields, takenCrash, readRecords, untouchedLeft, wholeRun, readBehind, readRunFile}
 use Rattle.simulation.specs.Simulation.{checkedCrashes, simulated}
 use Rattle.text.specs.Text.{digit, inBase, digits, joined, field, fields, named, line, lines, refusalLine}

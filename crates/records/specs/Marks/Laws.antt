@@ -1,5 +1,5 @@
--- Laws of marks and records: a mark is read back as its kind, and a record that was written is found where it is due, with its field
--- and what stands behind it.
+-- Laws of marks and records: a mark is read back as its kind, and a record that was written is found where it is due,
+-- with its field and what stands behind it.
 use mathlib.Core.Path.{_≡_, refl, sym, ap, _∙_, subst}
 use mathlib.Core.Bool.{true, not}
 use mathlib.Core.List.{List, _++_, append-assoc}

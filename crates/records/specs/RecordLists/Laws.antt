@@ -1,5 +1,5 @@
--- Laws of lists of records: reading goes on as the step says, a step and an end are whole, what a list that is read satisfies, and records
--- that are read one after another.
+-- Laws of lists of records: reading goes on as the step says, a step and an end are whole, what a list that is read
+-- satisfies, and records that are read one after another.
 use mathlib.Core.Path.{_≡_, refl, sym, ap, _∙_, subst}
 use mathlib.Core.Bool.{Bool, true, false, _||_, cond}
 use mathlib.Core.Logic.{_⊎_, inl, inr, ⊎-elim}

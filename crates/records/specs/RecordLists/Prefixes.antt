@@ -1,5 +1,5 @@
--- What stands behind a start of so many bytes changes nothing: a record is read from its own bytes, reading goes from left to right, and a
--- list has room for no more than so many records.
+-- What stands behind a start of so many bytes changes nothing: a record is read from its own bytes, reading goes from
+-- left to right, and a list has room for no more than so many records.
 use mathlib.Core.Path.{_≡_, refl, sym, ap, ap₂, _∙_, subst}
 use mathlib.Core.Bool.{Bool, true, false, not, cond}
 use mathlib.Core.List.{List, [], _∷_}

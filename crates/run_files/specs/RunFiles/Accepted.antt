@@ -1,10 +1,10 @@
--- What a run file that is not refused says: a pattern number for each drive, crashes that pass 8, 9 and 10, drives rising, and a survivor
--- set that no crash touches.
+-- What a run file that is not refused says: a pattern number for each drive, crashes that pass 8, 9 and 10, drives
+-- rising, and a survivor set that no crash touches.
 use mathlib.Core.Path.{_≡_, refl, sym, ap, _∙_, subst}
-use mathlib.Core.Bool.{true, false, not}
+use mathlib.Core.Bool.{true, false, not, cond}
 use mathlib.Core.List.{List, [], _∷_, map}
 use mathlib.Core.Logic.{⊎-elim}
-use mathlib.Core.Option.{none, some}
+use mathlib.Core.Option.{none, some, Option}
 use Prim.Native.Nat.{ℕ, _-_, _≤_, _<_}
 use native.Mathlib.Omega.{arith}
 use lib.Dec.{eqb, leb, ltb}
@@ -21,20 +21,25 @@ use Rattle.drive_sets.specs.Options.Laws.{none-some, same-some, none-of}
 use Rattle.drive_sets.specs.declared.Refusal.the-variants.{TrailingBytes, NoneUntouched}
 use Rattle.drive_sets.specs.Refusals.{result}
 use Rattle.drive_sets.specs.Refusals.Laws.{same-result, passed, first-result}
-use Rattle.hitting_sets.specs.Hitting.{hits}
-use Rattle.set_orders.specs.Order.{normal}
-use Rattle.tables.specs.Tables.{isEmpty, chosen, chosenCore}
-use Rattle.tables.specs.Tables as tables
-use Rattle.tables.specs.Tables.Laws.{core-given}
+use Rattle.survivor_tables.specs.Hitting.{hits}
+use Rattle.survivor_tables.specs.Order.{normal}
+use Rattle.survivor_tables.specs.Tables.{isEmpty, chosen, chosenCore}
+use Rattle.survivor_tables.specs.Tables as tables
+use Rattle.survivor_tables.specs.Tables.Laws.{core-given}
 use Rattle.drive_sets.specs.Limits.{patternLimit}
 use Rattle.records.specs.RecordLists.{readList}
 use Rattle.runs.specs.CrashRecords.{drivesOf, CrashRecord, crashed, mostSends}
 use Rattle.drive_sets.specs.Counts.{isRound}
-use Rattle.run_files.specs.RunFiles.{RunFile, crashOf, proposalList, noCrash, crashList, ReadRun, readRecords, untouchedLeft, wholeRun, readBehind, readRunFile}
+use Rattle.run_files.specs.RunFiles.{RunFile, proposalList, noCrash, crashList, ReadRun, readRecords, untouchedLeft, wholeRun, readBehind, readRunFile}
 use Rattle.records.specs.Fields.{Bytes}
 use Rattle.run_files.specs.RunFiles.Laws.{numbers-read, Passes, next-bounds, AllPass, crashes-read}
 
 -- ---- one crash
+
+-- the CR of a drive, or none
+unfoldable pub crashOf : List CrashRecord → ℕ → Option CrashRecord
+crashOf [] d = none
+crashOf (c ∷ cs) d = cond (eqb (c .drive) d) (some c) (crashOf cs d)
 
 -- a CR that passes 8, 9 and 10, in plain terms
 pub record Allowed (n core : ℕ) (c : CrashRecord) : Type 0 where

@@ -1,4 +1,5 @@
--- Laws of the PR and CR records that are read: as many numbers as drives, each a pattern number, and crashes that pass 8, 9 and 10.
+-- Laws of the PR and CR records that are read: as many numbers as drives, each a pattern number, and crashes that pass
+-- 8, 9 and 10.
 use mathlib.Core.Path.{_≡_, refl, sym, subst}
 use mathlib.Core.Bool.{true, false, not, _&&_}
 use mathlib.Core.Logic.{⊎-elim}

@@ -1,5 +1,5 @@
--- What stands behind the first 4096 bytes of the run program's input changes nothing: a run file has at most 64 PR and, since their drives
--- rise, at most 64 CR.
+-- What stands behind the first 4096 bytes of the run program's input changes nothing: a run file has at most 64 PR and,
+-- since their drives rise, at most 64 CR.
 use mathlib.Core.Path.{_≡_, refl, sym, ap, ap₂, _∙_}
 use mathlib.Core.Bool.{Bool, false, not}
 use mathlib.Core.List.{List, [], _∷_, _++_}
@@ -15,8 +15,8 @@ use Rattle.records.specs.Fields.{fieldAt}
 use Rattle.records.specs.Marks.{bodyWidth}
 use Rattle.records.specs.RecordLists.{ReadList, widthOf, readList}
 use Rattle.records.specs.RecordLists.Prefixes.{field-prefix, list-prefix}
-use Rattle.tables.specs.Tables.{withinCoreLimit, chosenCore}
-use Rattle.tables.specs.Tables.Laws.{core-given}
+use Rattle.survivor_tables.specs.Tables.{withinCoreLimit, chosenCore}
+use Rattle.survivor_tables.specs.Tables.Laws.{core-given}
 use Rattle.table_files.specs.Files.{ReadTable, readListed, accepted, readTable}
 use Rattle.runs.specs.CrashRecords.{CrashRecord, checkedCrash}
 use Rattle.run_files.specs.RunFiles.{RunFile, takenProposal, proposalList, crashFields, CrashList, noCrash, takenCrash, crashList, readRecords, wholeRun, untouchedLeft, readBehind, readRunFile}

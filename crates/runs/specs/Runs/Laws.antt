@@ -10,10 +10,10 @@ use borrow.Author.Tests.{eqb-true, eq-eqb, not-true}
 use Rattle.drive_sets.specs.Bools.Laws.{clash, and-intro, and-left, and-right, and-not, or-cases, or-false-left, or-false-right}
 use Rattle.drive_sets.specs.Refusals.{Outcome, refused, result}
 use Rattle.drive_sets.specs.Counts.{isDrive}
-use Rattle.set_orders.specs.Order.{normal}
-use Rattle.set_orders.specs.Order.Normal.{normal-idempotent}
-use Rattle.tables.specs.Tables.{normalTable}
-use Rattle.tables.specs.Tables.Laws.{table-accepted, accepted-table, accepted-normal}
+use Rattle.survivor_tables.specs.Order.{normal}
+use Rattle.survivor_tables.specs.Order.Normal.{normal-idempotent}
+use Rattle.survivor_tables.specs.Tables.{normalTable}
+use Rattle.survivor_tables.specs.Tables.Laws.{table-accepted, accepted-table, accepted-normal}
 use Rattle.runs.specs.Protocol.{Protocol}
 use Rattle.runs.specs.Scenario.{Scenario}
 use Rattle.runs.specs.World.{Call, opens, sends, delivers, closes, driveOf, unopened, World, apply, refusedIn}

@@ -1,5 +1,5 @@
--- Laws of worlds: a call touches the drive that it names alone, a refused one touches none; what a call gives a drive, and so what calls keep of it;
--- lists of calls one after the other, and the calls that name a drive.
+-- Laws of worlds: a call touches the drive that it names alone, a refused one touches none; what a call gives a drive,
+-- and so what calls keep of it; lists of calls one after the other, and the calls that name a drive.
 use mathlib.Core.Path.{_≡_, refl, sym, ap, _∙_, subst}
 use mathlib.Core.Bool.{true, false, cond}
 use mathlib.Core.List.{List, [], _∷_, _++_}

@@ -1,5 +1,5 @@
--- Where the simulated exchange is not refused, its scenario is valid and some survivor set is untouched: so it reaches agreement, and every
--- run of the scenario gives what it gives.
+-- Where the simulated exchange is not refused, its scenario is valid and some survivor set is untouched: so it reaches
+-- agreement, and every run of the scenario gives what it gives.
 use mathlib.Core.Path.{_≡_, refl, sym, ap, _∙_, subst}
 use mathlib.Core.Bool.{true, false, not}
 use mathlib.Core.List.{List, [], _∷_, map}
@@ -18,10 +18,10 @@ use Rattle.drive_sets.specs.Masks.Laws.{meets-not}
 use Rattle.drive_sets.specs.Masks.Sizes.{has-ofDrives}
 use Rattle.drive_sets.specs.Refusals.{Outcome, result}
 use Rattle.drive_sets.specs.Refusals.Laws.{passed, first-result, same-result}
-use Rattle.hitting_sets.specs.Hitting.{hits}
-use Rattle.set_orders.specs.Order.{normal}
-use Rattle.tables.specs.Tables.{chosen, normalTable, Accepted}
-use Rattle.tables.specs.Tables.Laws.{table-accepted}
+use Rattle.survivor_tables.specs.Hitting.{hits}
+use Rattle.survivor_tables.specs.Order.{normal}
+use Rattle.survivor_tables.specs.Tables.{chosen, normalTable, Accepted}
+use Rattle.survivor_tables.specs.Tables.Laws.{table-accepted}
 use Rattle.drive_sets.specs.Counts.{isDrive, isRound}
 use Rattle.drive_sets.specs.Limits.{patternLimit}
 use Rattle.drive_sets.specs.Counts.Laws.{drive-bounds}
@@ -29,7 +29,7 @@ use Rattle.runs.specs.Scenario.{stays, crashes, Scenario, coreOf}
 use Rattle.runs.specs.Scenario.Laws.{stays-crashes}
 use Rattle.runs.specs.CrashRecords.{CrashRecord, drivesOf, crashed, isNext, mostSends, checkedCrash, crashIn, scenario}
 use Rattle.runs.specs.Statement.{Passes, Valid, Untouched}
-use Rattle.agreement.specs.Simulated.{EndsAgreed, SimulatedAgreement}
+use Rattle.agreement.specs.RoundEndings.{EndsAgreed, SimulatedAgreement}
 use Rattle.agreement.proofs.SimulatedRuns.{simulated-agreement}
 use Rattle.simulation.specs.Simulation.{checkedCrashes, Simulated, simulatedOf, simulated}
 

@@ -1,6 +1,6 @@
--- Agreement on the rounds (sections 5 and 6 of docs/AGREEMENT.md): where some core drive has no CR there is one number, proposed by a core
--- drive, on which every drive with no CR decides by round f + 1, and none of them decides anything else. Round f + 1 comes, since f is
--- below the core's size.
+-- Agreement on the rounds (sections 5 and 6 of docs/AGREEMENT.md): where some core drive has no CR there is one number,
+-- proposed by a core drive, on which every drive with no CR decides by round f + 1, and none of them decides anything
+-- else. Round f + 1 comes, since f is below the core's size.
 use mathlib.Core.Path.{_≡_, refl, ap, _∙_}
 use mathlib.Core.Bool.{Bool, true, not, _&&_}
 use mathlib.Core.Option.{some}

@@ -1,7 +1,7 @@
--- Round f + 1 is soon enough, and not too late (section 6 of docs/AGREEMENT.md). A drive with no CR that is undecided after k rounds saw its
--- heard-of set lose a member in each of them, and whoever it no longer hears has a CR; so k is at most f. And while the core loses one drive,
--- unheard, in each of the rounds 1 to f, heard-of sets change in each of them, so that nobody finds the round stable, nobody announces and nobody
--- decides.
+-- Round f + 1 is soon enough, and not too late (section 6 of docs/AGREEMENT.md). A drive with no CR that is undecided
+-- after k rounds saw its heard-of set lose a member in each of them, and whoever it no longer hears has a CR; so k is
+-- at most f. And while the core loses one drive, unheard, in each of the rounds 1 to f, heard-of sets change in each of
+-- them, so that nobody finds the round stable, nobody announces and nobody decides.
 use mathlib.Core.Path.{_≡_, refl, sym, ap, _∙_}
 use mathlib.Core.Bool.{Bool, true, false, _&&_}
 use mathlib.Core.Logic.{⊎-elim}

@@ -1,7 +1,7 @@
--- Heard-of sets and what listeners know: F1, F2 and F3 of docs/AGREEMENT.md. A core drive that closes a round was heard in it by all, and who is
--- heard was heard in the round before. So heard-of sets only shrink, and no message of a run comes from a sender that was missing in an earlier
--- round. Sends go to the core first, so that whatever reached a listener in a round reached every core drive that closed it: a listener knows no
--- more than any of them.
+-- Heard-of sets and what listeners know: F1, F2 and F3 of docs/AGREEMENT.md. A core drive that closes a round was heard
+-- in it by all, and who is heard was heard in the round before. So heard-of sets only shrink, and no message of a run
+-- comes from a sender that was missing in an earlier round. Sends go to the core first, so that whatever reached a
+-- listener in a round reached every core drive that closed it: a listener knows no more than any of them.
 use mathlib.Core.Path.{_≡_, sym, ap, _∙_}
 use mathlib.Core.Bool.{true, false}
 use mathlib.Core.Logic.{⊎-elim}

@@ -1,5 +1,6 @@
--- The invariant after k rounds, over the drives that have no CR up to round k, and what one round keeps of its parts (section 5 of the
--- docs/AGREEMENT.md). U and A(v) of that page are one record, v being free while nobody has decided; D(v) is the case that all have.
+-- The invariant after k rounds, over the drives that have no CR up to round k, and what one round keeps of its parts
+-- (section 5 of the docs/AGREEMENT.md). U and A(v) of that page are one record, v being free while nobody has decided;
+-- D(v) is the case that all have.
 use mathlib.Core.Path.{_≡_, sym, ap, _∙_}
 use mathlib.Core.Bool.{Bool, true, false, _&&_}
 use mathlib.Core.Logic.{_⊎_, inl, inr, ⊎-elim}

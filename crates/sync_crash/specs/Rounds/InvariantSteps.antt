@@ -1,5 +1,6 @@
--- Every round keeps the invariant (section 5 of docs/AGREEMENT.md): where all have decided, where a core drive announces, and where none
--- does. So it holds after every round, whatever the failures, as long as some core drive p has no CR.
+-- Every round keeps the invariant (section 5 of docs/AGREEMENT.md): where all have decided, where a core drive
+-- announces, and where none does. So it holds after every round, whatever the failures, as long as some core drive p
+-- has no CR.
 use mathlib.Core.Path.{_≡_, refl, sym, ap, _∙_}
 use mathlib.Core.Bool.{true, false, not}
 use mathlib.Core.Logic.{inl, inr, ⊎-elim}

@@ -1,5 +1,6 @@
--- Stable rounds: Q of docs/AGREEMENT.md. Where e decides by a stable round, everybody else who sends was heard by e and is undecided (Q1),
--- no core drive that closes the round knows more than e (Q2), and a listener e knows just what each of them knows (Q3).
+-- Stable rounds: Q of docs/AGREEMENT.md. Where e decides by a stable round, everybody else who sends was heard by e and
+-- is undecided (Q1), no core drive that closes the round knows more than e (Q2), and a listener e knows just what each
+-- of them knows (Q3).
 use mathlib.Core.Path.{_≡_, _∙_}
 use mathlib.Core.Bool.{true, false}
 use mathlib.Core.Logic.{⊎-elim}
@@ -71,7 +72,8 @@ module _ {S : Instance} (L : Lawful S) where
       pub listener-knows-same : core e ≡ false → knows S (suc k) e ≡ knows S (suc k) d
       listener-knows-same l = same-sets (listener-knows-less L l i (q .closer) c) stable-knows-most
 
-  -- All who decide by a stable round know the same, some core drive p closing the round: two core drives by Q2 both ways, a listener by F3.
+  -- All who decide by a stable round know the same, some core drive p closing the round: two core drives by Q2 both
+  -- ways, a listener by F3.
   module _ {k p : ℕ} (i : core p ≡ true) (c : Closer S k p) where
     stable-knows-less : {d e : ℕ} → StableClose S k d → StableClose S k e → knows S (suc k) d ⊆ knows S (suc k) e
     stable-knows-less {d} a b =

@@ -1,4 +1,5 @@
--- One round, drive by drive: who sends, who closes and who reaches whom, as records of facts; what a close leaves; what only grows.
+-- One round, drive by drive: who sends, who closes and who reaches whom, as records of facts; what a close leaves; what
+-- only grows.
 use mathlib.Core.Path.{_≡_, refl, sym, ap, _∙_}
 use mathlib.Core.Bool.{true, false, not}
 use mathlib.Core.Logic.{_⊎_, inl, inr, ⊎-elim}

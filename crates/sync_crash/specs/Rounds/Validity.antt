@@ -1,4 +1,5 @@
--- Validity: a drive knows the numbers of core drives only, a core drive always its own, and every number decided on is one of them.
+-- Validity: a drive knows the numbers of core drives only, a core drive always its own, and every number decided on is
+-- one of them.
 use mathlib.Core.Path.{_≡_, refl, sym, ap, _∙_}
 use mathlib.Core.Bool.{Bool, true}
 use mathlib.Core.Logic.{⊎-elim}

@@ -1,4 +1,5 @@
--- Tables read back as written: with anything behind them, and a table that was read, written and read again is the same.
+-- Tables read back as written: with anything behind them, and a table that was read, written and read again is the
+-- same.
 use mathlib.Core.Path.{_≡_, refl, sym, ap, _∙_, subst}
 use mathlib.Core.Bool.{true, not}
 use mathlib.Core.Logic.{⊎-elim}
@@ -17,8 +18,8 @@ use Rattle.drive_sets.specs.Lists.Laws.{elem-head, elem-tail, elem-none, elem-o
 use Rattle.drive_sets.specs.declared.Refusal.the-variants.{FrameSize, BadSet, TooManySets, TooManyCores, TrailingBytes}
 use Rattle.drive_sets.specs.Refusals.{Outcome, result, refuseIf, andThen}
 use Rattle.drive_sets.specs.Refusals.Laws.{passed, first-result, same-result}
-use Rattle.set_orders.specs.Order.{normal}
-use Rattle.set_orders.specs.Order.Normal.{normal-idempotent}
+use Rattle.survivor_tables.specs.Order.{normal}
+use Rattle.survivor_tables.specs.Order.Normal.{normal-idempotent}
 use Rattle.records.specs.declared.Kind.the-variants.{Frame, Survivor, End}
 use Rattle.records.specs.declared.Due.the-variants.{AtFrame}
 use Rattle.records.specs.Fields.{fromBytes, fieldAt}
@@ -27,8 +28,8 @@ use Rattle.records.specs.Marks.Laws.{length-record, head-record, kind-is, recor
 use Rattle.records.specs.RecordLists.{ReadList, widthOf, readList, listBytes}
 use Rattle.records.specs.RecordLists.Laws.{OwnKind, other-kind, Leads, length-list, list-back, read-keeps, record-there}
 use Rattle.drive_sets.specs.Limits.{maxDrives, maxSets, maxCores}
-use Rattle.tables.specs.Tables.{isFrame, isSet, isEmpty, cores, withinCoreLimit, checkedSets, Accepted}
-use Rattle.tables.specs.Tables.Laws.{some-not-empty, set-lt, accepted-within-limit, accepted-frame, accepted-normal}
+use Rattle.survivor_tables.specs.Tables.{isFrame, isSet, isEmpty, cores, withinCoreLimit, checkedSets, Accepted}
+use Rattle.survivor_tables.specs.Tables.Laws.{some-not-empty, set-lt, accepted-within-limit, accepted-frame, accepted-normal}
 use Rattle.table_files.specs.Files.{ReadTable, dueAfter, takenSet, setList, listedTable, readListed, accepted, readTable, readWhole, tableBytes}
 
 -- ---- the sets

@@ -1,5 +1,5 @@
--- What stands behind the first 4096 bytes of an input changes nothing: a program may leave it unread. A table has room for no more than 128
--- sets.
+-- What stands behind the first 4096 bytes of an input changes nothing: a program may leave it unread. A table has room
+-- for no more than 128 sets.
 use mathlib.Core.Path.{_≡_, refl, sym, ap, _∙_, subst}
 use mathlib.Core.Bool.{not}
 use mathlib.Core.List.{List, [], _∷_, _++_}
@@ -9,16 +9,16 @@ use lib.Dec.{leb}
 use lib.ListN.{length, take, drop, length-append}
 use borrow.Author.Tests.{leb-false}
 use Rattle.drive_sets.specs.declared.Refusal.the-variants.{BadSet, FrameSize, TooManySets, TrailingBytes}
-use Rattle.drive_sets.specs.Refusals.{Outcome, refused, result, refuseIf, andThen}
-use Rattle.drive_sets.specs.Refusals.Laws.{passed, same-result}
+use Rattle.drive_sets.specs.Refusals.{Outcome, result, refuseIf, andThen}
+use Rattle.drive_sets.specs.Refusals.Laws.{passed, same-result, then-then}
 use Rattle.records.specs.declared.Due.the-variants.{AtFrame}
 use Rattle.records.specs.declared.Head.{Head}
 use Rattle.records.specs.Fields.{fieldAt}
 use Rattle.records.specs.Marks.{bodyWidth, headOf}
-use Rattle.records.specs.RecordLists.{atRecord, ReadList, widthOf, readList}
+use Rattle.records.specs.RecordLists.{atRecord, widthOf, readList}
 use Rattle.records.specs.RecordLists.Prefixes.{drop-prefix, field-prefix, head-prefix, Alike, no-other, at-record, by-cond, list-prefix}
 use Rattle.drive_sets.specs.Limits.{maxSets, maxInput}
-use Rattle.tables.specs.Tables.{isFrame, isSet, isEmpty}
+use Rattle.survivor_tables.specs.Tables.{isFrame, isSet, isEmpty}
 use Rattle.table_files.specs.Files.{ReadTable, takenSet, setList, listedTable, readListed, accepted, readWhole}
 use Rattle.table_listing.specs.TableListing.{listingOf, tableProgram}
 
@@ -53,14 +53,10 @@ module _ {B : Type 0} (finish : ReadTable → Outcome B) (most : ℕ)
       → Alike finish (andThen (readList (setList n) [] (take k s)) (λ l. result (listedTable n l))) (andThen (readList (setList n) [] s) (λ l. result (listedTable n l)))
   unfolding widthOf bodyWidth
   sets-prefix n s k h = record {
-    same = then (readList (setList n) [] (take k s))
+    same = then-then (readList (setList n) [] (take k s)) (listedTable n) finish
         ∙ (list-prefix (setList n) (λ l. finish (listedTable n l)) most (blind n) (set-prefix n) (λ l. maxSets - length l) (λ l b t going e. sets-left n l b t e) [] s k (omega arith)
-        ∙ sym (then (readList (setList n) [] s)));
+        ∙ sym (then-then (readList (setList n) [] s) (listedTable n) finish));
   }
-    where
-      then : (o : Outcome (ReadList (List ℕ))) → andThen (andThen o (λ l. result (listedTable n l))) finish ≡ andThen o (λ l. finish (listedTable n l))
-      then (refused r) = refl
-      then (result l) = refl
 
   pub listed-prefix : (s : List ℕ) (k : ℕ) → 1305 + most ≤ k → andThen (readListed (take k s)) finish ≡ andThen (readListed s) finish
   unfolding readListed

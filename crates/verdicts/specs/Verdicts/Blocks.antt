@@ -1,5 +1,5 @@
--- The blocks that come with a no: each holds the drives outside the named set at its place and in no earlier block. So no drive is in
--- two of them; and where the named sets share no drive, each drive of the frame is in some.
+-- The blocks that come with a no: each holds the drives outside the named set at its place and in no earlier block. So
+-- no drive is in two of them; and where the named sets share no drive, each drive of the frame is in some.
 use mathlib.Core.Path.{_≡_, refl, sym, ap, _∙_, subst}
 use mathlib.Core.Bool.{Bool, true, false, not, _&&_, _||_, or-assoc, or-false}
 use mathlib.Core.List.{List, [], _∷_}

@@ -1,5 +1,5 @@
--- The verdict of the call given n and sets: where it is not refused, k is 2 to 4, the normal table is accepted, and the verdict is the
--- one on the normal table. So the theorems on accepted tables hold of it.
+-- The verdict of the call given n and sets: where it is not refused, k is 2 to 4, the normal table is accepted, and the
+-- verdict is the one on the normal table. So the theorems on accepted tables hold of it.
 use mathlib.Core.Path.{_≡_, sym, ap, _∙_}
 use mathlib.Core.Bool.{not, _&&_}
 use mathlib.Core.List.{List}
@@ -10,9 +10,9 @@ use Rattle.drive_sets.specs.declared.Refusal.the-variants.{BlockCount}
 use Rattle.drive_sets.specs.Bools.Laws.{and-left, and-right}
 use Rattle.drive_sets.specs.Refusals.{result}
 use Rattle.drive_sets.specs.Refusals.Laws.{passed, first-result, same-result}
-use Rattle.set_orders.specs.Order.{normal}
-use Rattle.tables.specs.Tables.{normalTable, Accepted}
-use Rattle.tables.specs.Tables.Laws.{table-accepted, accepted-normal, accepted-checked, accepted-table}
+use Rattle.survivor_tables.specs.Order.{normal}
+use Rattle.survivor_tables.specs.Tables.{normalTable, Accepted}
+use Rattle.survivor_tables.specs.Tables.Laws.{table-accepted, accepted-normal, accepted-checked, accepted-table}
 use Rattle.verdicts.specs.Verdicts.{Verdict, verdictOn, verdict, verdictGiven}
 
 pub record Answered (k n : ℕ) (sets : List ℕ) (v : Verdict) : Type 0 where

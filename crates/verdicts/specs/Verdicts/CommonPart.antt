@@ -1,4 +1,5 @@
--- The common part of a list of sets: a drive is in it exactly if it is in each of them, so it is empty where they share none.
+-- The common part of a list of sets: a drive is in it exactly if it is in each of them, so it is empty where they share
+-- none.
 use mathlib.Core.Path.{_≡_, sym, ap, _∙_}
 use mathlib.Core.Bool.{Bool, true, _&&_, and-true, and-assoc}
 use mathlib.Core.List.{List, [], _∷_}

@@ -1,4 +1,5 @@
--- What the search for k positions finds is the first: not falling, with sets that share no drive, and before every other such list.
+-- What the search for k positions finds is the first: not falling, with sets that share no drive, and before every
+-- other such list.
 use mathlib.Core.Path.{_≡_, refl, sym, ap, ap₂, _∙_, subst}
 use mathlib.Core.Bool.{true, false, _&&_}
 use mathlib.Core.Logic.{_⊎_, inl, inr, ⊎-elim}

@@ -1,5 +1,5 @@
--- The positions that come with a no are the first k whose sets share no drive; and the verdict is yes exactly if every k sets of the
--- table, repeats allowed, share a drive (k-Intersection). For every k.
+-- The positions that come with a no are the first k whose sets share no drive; and the verdict is yes exactly if every
+-- k sets of the table, repeats allowed, share a drive (k-Intersection). For every k.
 use mathlib.Core.Path.{_≡_, sym, ap, _∙_}
 use mathlib.Core.Logic.{_↔_}
 use mathlib.Core.List.{List}
@@ -12,7 +12,7 @@ use Rattle.drive_sets.specs.Lists.{elem}
 use Rattle.drive_sets.specs.Lists.Places.{getD-elem, map-elem}
 use Rattle.drive_sets.specs.Masks.{full}
 use Rattle.drive_sets.specs.Masks.Laws.{has-bounds, full-has, full-lt, full-word}
-use Rattle.tables.specs.Tables.{Accepted}
+use Rattle.survivor_tables.specs.Tables.{Accepted}
 use Rattle.verdicts.specs.Verdicts.{Verdict, yes, no, setAt, setsAt, disjoint, blocksOf, verdictWith, verdictOn}
 use Rattle.verdicts.specs.Verdicts.Search.{Shared, disjoint-none}
 use Rattle.verdicts.specs.Verdicts.Firsts.{Names, disjoint-first}

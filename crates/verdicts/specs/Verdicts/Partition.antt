@@ -1,6 +1,7 @@
--- The verdict is yes exactly if every split of the drives into k blocks has a block that holds a core (k-Partition). For every k.
--- If no block of a split holds a core, a set of the table lies outside each, and these k sets share no drive, for a drive that they
--- share is in no block. If k sets share no drive, the blocks of the no are a split and none holds a core.
+-- The verdict is yes exactly if every split of the drives into k blocks has a block that holds a core (k-Partition).
+-- For every k. If no block of a split holds a core, a set of the table lies outside each, and these k sets share no
+-- drive, for a drive that they share is in no block. If k sets share no drive, the blocks of the no are a split and
+-- none holds a core.
 use mathlib.Core.Path.{_≡_, refl, sym, ap, _∙_}
 use mathlib.Core.Bool.{true, false}
 use mathlib.Core.Logic.{_↔_, ⊎-elim}
@@ -17,7 +18,7 @@ use Rattle.drive_sets.specs.Lists.Places.{elem-map, length-range}
 use Rattle.drive_sets.specs.Masks.{has, full, outside, subset}
 use Rattle.drive_sets.specs.Masks.Laws.{full-has, subset-has}
 use Rattle.drive_sets.specs.Masks.Outside.{has-outside}
-use Rattle.tables.specs.Tables.{Accepted}
+use Rattle.survivor_tables.specs.Tables.{Accepted}
 use Rattle.verdicts.specs.Verdicts.{yes, disjoint, verdictOn}
 use Rattle.verdicts.specs.Verdicts.Intersection.{none-yes, some-no, yes-intersection}
 use Rattle.verdicts.specs.Verdicts.Splits.{blockOf-lt, has-blockOf}

@@ -1,5 +1,6 @@
--- The search for k positions whose sets share no drive: one step of it, and that every k of the sets share a drive where it finds none.
--- Proved for the sets from some position on and for a mask in the place of all drives, by recursion on k, then on the sets.
+-- The search for k positions whose sets share no drive: one step of it, and that every k of the sets share a drive
+-- where it finds none. Proved for the sets from some position on and for a mask in the place of all drives, by
+-- recursion on k, then on the sets.
 use mathlib.Core.Path.{_≡_, sym, ap, _∙_, subst}
 use mathlib.Core.Bool.{true}
 use mathlib.Core.Logic.{_⊎_, ⊎-elim}

@@ -1,5 +1,5 @@
--- Splits of the drives 1 to n: the drives of a block, and the split that a list of blocks is, where no drive is in two of them and the
--- drives 1 to n, no others, are in some.
+-- Splits of the drives 1 to n: the drives of a block, and the split that a list of blocks is, where no drive is in two
+-- of them and the drives 1 to n, no others, are in some.
 use mathlib.Core.Path.{_≡_, refl, sym, ap, _∙_}
 use mathlib.Core.Bool.{Bool, true, _&&_, cond}
 use mathlib.Core.Logic.{⊎-elim}

@@ -1,5 +1,5 @@
--- What comes with a no: the first positions, and blocks that are a split of the drives none of which holds a core. Block i lies outside
--- the i-th named set, so that set misses it; and a core meets every set.
+-- What comes with a no: the first positions, and blocks that are a split of the drives none of which holds a core.
+-- Block i lies outside the i-th named set, so that set misses it; and a core meets every set.
 use mathlib.Core.Path.{_≡_, sym, ap, _∙_, subst}
 use mathlib.Core.Bool.{true, false, not}
 use mathlib.Core.List.{List, map}
@@ -12,10 +12,10 @@ use Rattle.drive_sets.specs.Lists.Places.{getD-elem, elem-getD}
 use Rattle.drive_sets.specs.Masks.{has, full, outside, subset}
 use Rattle.drive_sets.specs.Masks.Laws.{not-meets}
 use Rattle.drive_sets.specs.Masks.Outside.{subset-outside}
-use Rattle.hitting_sets.specs.Hitting.Duality.{Cores, cores-minimals, holds-core-or-complement}
-use Rattle.set_orders.specs.Order.{bySize}
-use Rattle.tables.specs.Tables.{cores, Accepted}
-use Rattle.tables.specs.Tables.Laws.{sets-below}
+use Rattle.survivor_tables.specs.Hitting.Duality.{Cores, cores-minimals, holds-core-or-complement}
+use Rattle.survivor_tables.specs.Order.{bySize}
+use Rattle.survivor_tables.specs.Tables.{cores, Accepted}
+use Rattle.survivor_tables.specs.Tables.Laws.{sets-below}
 use Rattle.verdicts.specs.Verdicts.{no, setAt, setsAt, blocksOf, verdictOn}
 use Rattle.verdicts.specs.Verdicts.Intersection.{no-some, shared-drive, sets-from, some-first}
 use Rattle.verdicts.specs.Verdicts.Blocks.{length-blocks, blocks-lt, blocks-rule, in-block, blocks-apart, blocks-whole}

@@ -2,7 +2,7 @@
 use borrow.Author.Needs.{needs}
 use mathlib.Core.Path.{ap, _∙_}
 use Rattle.drive_sets.specs.Lists.{times}
-use Rattle.set_orders.specs.Order.Sort.{times-sortFirst}
+use Rattle.set_orders.specs.Sorting.Laws.{times-sortFirst}
 use Rattle.core_search.proofs.finding.arrange.Statement.{statement}
 use Rattle.core_search.proofs.finding.arrange.Tie as tie
 

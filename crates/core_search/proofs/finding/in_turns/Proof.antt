@@ -3,7 +3,7 @@ use mathlib.Core.Path.{_≡_, refl, _∙_}
 use Prim.Native.Nat.{_-_}
 use lib.ListN.{length}
 use borrow.Author.Needs.{needs}
-use Rattle.set_orders.specs.Order.Strict.{precedes-strict}
+use Rattle.set_orders.specs.Sorting.Laws.{precedes-strict}
 use Rattle.drive_sets.specs.Masks.Frames.{below-places}
 use Rattle.search_orders.specs.Rearranged.{Permuted}
 use Rattle.core_search.proofs.Finds.{tried-none}

@@ -1,5 +1,5 @@
--- The search: the sets still to come become fewer with each call; each return, and each turn of the loop over the drives with which it goes
--- on, is a law of Trials.
+-- The search: the sets still to come become fewer with each call; each return, and each turn of the loop over the
+-- drives with which it goes on, is a law of Trials.
 use mathlib.Core.Path.{_≡_, refl}
 use Prim.Native.Nat.{ℕ, _-_, _<_}
 use native.Mathlib.Omega.{arith}

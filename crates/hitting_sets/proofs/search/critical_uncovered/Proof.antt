@@ -1,4 +1,5 @@
--- The drives that stay critical: the sets from the last to the first, of which those that add no drive or are covered do not count.
+-- The drives that stay critical: the sets from the last to the first, of which those that add no drive or are covered
+-- do not count.
 use borrow.Author.Tests.{eqb-true, eqb-false}
 use mathlib.Core.List.{List}
 use Prim.Native.Nat.{ℕ}
@@ -8,7 +9,7 @@ use borrow.Author.Needs.{needs}
 use Rattle.drive_sets.specs.Loops.Back.{Back, back-start, back-turn, back-end}
 use Rattle.hitting_sets.proofs.OneMore.{critical-more, critical-skip, critical-had, kept-more, kept-skip, kept-same}
 use Rattle.hitting_sets.specs.LookAhead.{covered}
-use Rattle.hitting_sets.specs.Hitting.{critical}
+use Rattle.survivor_tables.specs.Hitting.{critical}
 use Rattle.drive_sets.specs.Masks.{common, union}
 use Rattle.drive_sets.specs.Lists.{filter}
 use mathlib.Core.Bool.{not}

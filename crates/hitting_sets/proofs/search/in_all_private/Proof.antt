@@ -1,4 +1,5 @@
--- What the private sets of each drive share: the sets from the last to the first, of which one with one drive of m counts for that drive.
+-- What the private sets of each drive share: the sets from the last to the first, of which one with one drive of m
+-- counts for that drive.
 use borrow.Author.Needs.{needs}
 use borrow.Author.Tests.{eqb-true, eqb-false}
 use Rattle.hitting_sets.proofs.Shares.{Sharing, sharing-start, shared-bounds, sharing-one, sharing-none, sharing-end}

@@ -1,7 +1,7 @@
 -- The search from no set and no drive.
 use borrow.Author.Needs.{needs}
-use Rattle.hitting_sets.specs.Hitting.{minimals}
-use Rattle.hitting_sets.specs.Hitting.SearchLaws.{none-minimal}
+use Rattle.survivor_tables.specs.Hitting.{minimals}
+use Rattle.survivor_tables.specs.Hitting.SearchLaws.{none-minimal}
 use Rattle.hitting_sets.proofs.search.search_all.Statement.{statement}
 use Rattle.hitting_sets.proofs.search.search_all.Tie as tie
 

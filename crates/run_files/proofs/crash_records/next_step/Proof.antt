@@ -2,7 +2,7 @@
 use native.Mathlib.Omega.{arith}
 use Rattle.records.specs.RecordLists.{stepOf}
 use Rattle.run_files.specs.RunFiles.{takenCrash}
-use Rattle.run_files.specs.Reading.{crashRecord}
+use Rattle.drive_crashes.specs.Crashes.{crashRecord}
 use Rattle.run_files.proofs.CrashList.{crash-long, crash-fields}
 use borrow.Author.Needs.{needs}
 use Rattle.run_files.proofs.crash_records.next_step.Statement.{statement}

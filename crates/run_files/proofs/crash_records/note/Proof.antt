@@ -1,5 +1,5 @@
 -- The crash of one more drive, at its place.
-use Rattle.run_files.specs.Reading.{withCrash}
+use Rattle.drive_crashes.specs.Crashes.{withCrash}
 use borrow.Author.Needs.{needs}
 use Rattle.run_files.proofs.crash_records.note.Statement.{statement}
 use Rattle.run_files.proofs.crash_records.note.Tie as tie

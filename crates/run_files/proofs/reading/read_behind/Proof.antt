@@ -4,7 +4,7 @@ use Prim.Native.Nat.{_^_, _<_}
 use Rattle.tables.proofs.Completes.{rest-none, rest-some}
 use Rattle.run_files.specs.RunFiles.{untouchedLeft, wholeRun, readBehind}
 use Rattle.run_files.specs.Reading.{recordsOutcome, runFileOutcome}
-use Rattle.run_files.specs.Reading.Laws.{crashed-in}
+use Rattle.drive_crashes.specs.Crashes.Laws.{crashed-in}
 use Rattle.run_files.proofs.Returns.{file-refused, file-accepted}
 use borrow.Author.Needs.{needs}
 use Rattle.run_files.proofs.reading.read_behind.Statement.{statement}

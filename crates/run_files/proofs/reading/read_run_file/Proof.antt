@@ -1,6 +1,6 @@
 -- The table's refusal, or the file behind it with the chosen core.
 use mathlib.Core.Path.{sym, ap, _∙_}
-use Rattle.tables.specs.Tables.Laws.{core-given}
+use Rattle.survivor_tables.specs.Tables.Laws.{core-given}
 use Rattle.tables.specs.Answers.{chosenOutcome}
 use Rattle.run_files.specs.RunFiles.{readRunFile}
 use Rattle.run_files.specs.Reading.{runFileOutcome}

@@ -3,7 +3,7 @@ use mathlib.Core.Path.{sym, ap}
 use mathlib.Core.Bool.{Bool}
 use Rattle.records.specs.Marks.{ascii}
 use Rattle.drive_sets.specs.Filled.Laws.{filled-same}
-use Rattle.run_files.specs.Reading.{roundAt}
+use Rattle.drive_crashes.specs.Crashes.{roundAt}
 use Rattle.drive_states.specs.State.{numberIn}
 use Rattle.text.proofs.Puts.{filled-both}
 use Rattle.run_listing.specs.RunListing.{endingText, driveLine}

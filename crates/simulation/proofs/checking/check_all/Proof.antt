@@ -2,7 +2,7 @@
 use mathlib.Core.Path.{refl}
 use Rattle.drive_sets.specs.Masks.{size}
 use Rattle.drive_sets.specs.Loops.Drives.{removed, taken-fewer, lowest-bounds, walk-start, walk-next, walk-turn, walk-end}
-use Rattle.run_files.specs.Reading.{crashOfDrive, crashesIn}
+use Rattle.drive_crashes.specs.Crashes.{crashOfDrive, crashesIn}
 use Rattle.simulation.specs.Simulation.{checkedCrashes}
 use Rattle.simulation.proofs.CrashChecks.{checkedFrom, Checking}
 use borrow.Author.Needs.{needs}

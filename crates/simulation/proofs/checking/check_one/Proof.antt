@@ -1,5 +1,5 @@
 -- The record that the two arrays say.
-use Rattle.run_files.specs.Reading.{crashOfDrive, crashRecord}
+use Rattle.drive_crashes.specs.Crashes.{crashOfDrive, crashRecord}
 use borrow.Author.Needs.{needs}
 use Rattle.simulation.proofs.checking.check_one.Statement.{statement}
 use Rattle.simulation.proofs.checking.check_one.Tie as tie

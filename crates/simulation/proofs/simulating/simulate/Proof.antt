@@ -1,7 +1,8 @@
 -- The table's refusal, or the call with the chosen core.
 use Rattle.simulation.proofs.Results.{with-core, table-refused}
 use Rattle.simulation.proofs.Refusals.{simulated-refused}
-use Rattle.run_files.specs.Reading.{values, crashesIn}
+use Rattle.drive_crashes.specs.Crashes.{crashesIn}
+use Rattle.drive_states.specs.State.{values}
 use Rattle.tables.specs.Answers.{chosenOutcome}
 use lib.ListN.{take}
 use Prim.Native.Nat.{_^_, _<_}

@@ -1,5 +1,5 @@
 -- The first refusal of a crash, or what comes next.
-use Rattle.run_files.specs.Reading.{crashesIn}
+use Rattle.drive_crashes.specs.Crashes.{crashesIn}
 use Rattle.drive_sets.specs.declared.Answer.{Answer}
 use Rattle.drive_sets.specs.Refusals.{outcomeOf}
 use mathlib.Core.Path.{sym, ap, _∙_}

@@ -1,6 +1,6 @@
 -- 11, or the result.
 use Prim.Native.Nat.{_^_, _<_}
-use Rattle.run_files.specs.Reading.Laws.{crashed-in}
+use Rattle.drive_crashes.specs.Crashes.Laws.{crashed-in}
 use Rattle.simulation.proofs.Results.{chosen-bounds, told}
 use Rattle.simulation.proofs.Refusals.{simulated-refused, simulated-accepted}
 use Rattle.simulation.proofs.Patterns.{patterns-below}

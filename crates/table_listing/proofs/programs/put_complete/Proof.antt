@@ -3,7 +3,7 @@ use mathlib.Core.Path.{_≡_, sym, ap, _∙_}
 use native.Mathlib.Omega.{arith}
 use lib.ListN.{length}
 use Rattle.drive_sets.specs.Filled.Laws.{filled-same}
-use Rattle.tables.specs.Tables.{cores}
+use Rattle.survivor_tables.specs.Tables.{cores}
 use Rattle.tables.specs.Complete.{setsOf}
 use Rattle.text.proofs.Puts.{cut}
 use Rattle.table_listing.specs.TableListing.{listing}

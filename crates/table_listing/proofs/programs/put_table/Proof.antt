@@ -5,7 +5,7 @@ use Rattle.table_files.specs.Files.{readWhole}
 use Rattle.tables.specs.Complete.{Complete, withCores}
 use Rattle.table_files.specs.WithCores.{readWholeComplete}
 use Rattle.table_files.proofs.TableReads.{read-refused, read-accepted, read-cores}
-use Rattle.tables.specs.Tables.{checkedSets}
+use Rattle.survivor_tables.specs.Tables.{checkedSets}
 use Rattle.drive_sets.specs.Refusals.{result}
 use Rattle.table_listing.specs.TableListing.{listing, listingOf, tableProgram}
 use Rattle.table_listing.proofs.Listings.{whole-checked}

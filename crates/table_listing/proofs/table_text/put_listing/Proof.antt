@@ -5,7 +5,7 @@ use Prim.Native.Nat.{ℕ}
 use lib.ListN.{getD}
 use Rattle.records.specs.Marks.{ascii}
 use Rattle.drive_sets.specs.Filled.Laws.{filled-same}
-use Rattle.tables.specs.Tables.{chosen}
+use Rattle.survivor_tables.specs.Tables.{chosen}
 use Rattle.text.specs.declared.Base.the-variants.{Hexadecimal}
 use Rattle.text.specs.Text.{line, lines}
 use Rattle.text.proofs.Puts.{filled-both}

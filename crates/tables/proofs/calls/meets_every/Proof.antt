@@ -1,6 +1,6 @@
 -- The table's refusals, the group's, then the test.
 use Rattle.tables.proofs.Accepts.{accept-refused, accept-taken, same-hits}
-use Rattle.tables.specs.Tables.{meetsEvery}
+use Rattle.survivor_tables.specs.Tables.{meetsEvery}
 use borrow.Author.Needs.{needs}
 use Rattle.tables.proofs.calls.meets_every.Statement.{statement}
 use Rattle.tables.proofs.calls.meets_every.Tie as tie

@@ -2,7 +2,7 @@
 use Rattle.tables.proofs.Accepts.{dual-more, dual-found}
 use Rattle.drive_sets.specs.Refusals.Laws.{accepted-not-refused}
 use Rattle.tables.proofs.Completes.{no-elements, some-elements}
-use Rattle.tables.specs.Tables.{survivorSets}
+use Rattle.survivor_tables.specs.Tables.{survivorSets}
 use Rattle.tables.specs.Answers.{listOutcome}
 use borrow.Author.Tests.{lt-ltb, le-ltb}
 use mathlib.Core.Path.{refl}

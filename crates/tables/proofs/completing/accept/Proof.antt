@@ -1,7 +1,7 @@
 -- What is met before the cores are looked for, then the table made complete.
 use mathlib.Core.Path.{sym, _∙_}
 use borrow.Author.Needs.{needs}
-use Rattle.tables.specs.Tables.Laws.{checked-most}
+use Rattle.survivor_tables.specs.Tables.Laws.{checked-most}
 use Rattle.tables.proofs.Completes.{check-said, complete-said}
 use Rattle.tables.proofs.completing.accept.Statement.{statement}
 use Rattle.tables.proofs.completing.accept.Tie as tie

@@ -1,7 +1,7 @@
 -- Each set tested, one after the other.
 use borrow.Author.Needs.{needs}
 use Rattle.drive_sets.specs.Loops.Scan.{Scan, scan-start, all-turn, all-found, all-end}
-use Rattle.tables.specs.Tables.{isSet}
+use Rattle.survivor_tables.specs.Tables.{isSet}
 use Rattle.drive_sets.specs.Lists.{all}
 use borrow.Author.Tests.{not-true, not-false}
 use lib.ListN.{length}

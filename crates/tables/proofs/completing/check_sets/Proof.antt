@@ -1,7 +1,7 @@
 -- The refusals in order.
 use borrow.Author.Tests.{lt-ltb, le-ltb}
 use borrow.Author.Needs.{needs}
-use Rattle.tables.specs.Tables.{checkedSets}
+use Rattle.survivor_tables.specs.Tables.{checkedSets}
 use Rattle.tables.proofs.Completes.{no-elements, some-elements}
 use Rattle.tables.proofs.completing.check_sets.Statement.{statement}
 use Rattle.tables.proofs.completing.check_sets.Tie as tie

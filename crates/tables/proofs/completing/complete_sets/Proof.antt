@@ -1,8 +1,8 @@
 -- The normal form, which has room, then the cores.
 use mathlib.Core.Path.{ap, _∙_}
 use borrow.Author.Needs.{needs}
-use Rattle.tables.specs.Complete.{fewCores, setsOf}
-use Rattle.tables.proofs.Completes.{form-given, count-le, normal-taken, few-cores}
+use Rattle.tables.specs.Complete.{completeNormal, setsOf}
+use Rattle.tables.proofs.Completes.{form-given, count-le, normal-taken, complete-normal}
 use Rattle.tables.proofs.completing.complete_sets.Statement.{statement}
 use Rattle.tables.proofs.completing.complete_sets.Tie as tie
 
@@ -18,7 +18,7 @@ returns-2 c =
     let a = c .before .before .before .before .before .before .before .before .args in
     let normal = c .before .before .before .before .before .normal2 .ensures in
     let table = normal-taken (a .sets .now) (c .before .before .before .before .before .before .before .before .pre) _ (normal .0) (c .before .before .form2 .given .1) (normal .1) in
-    (c .with-cores .ensures .0 ∙ (ap (fewCores (a .n)) table ∙ few-cores (a .n) (a .sets .now)), c .with-cores .ensures .1)
+    (c .with-cores .ensures .0 ∙ (ap (completeNormal (a .n)) table ∙ complete-normal (a .n) (a .sets .now)), c .with-cores .ensures .1)
 
 pub complete-sets-spec : {M : Type 1} → statement M
 complete-sets-spec =

@@ -1,7 +1,7 @@
 -- 12, what is met before the cores are looked for, or the verdict on the table.
 use mathlib.Core.Path.{sym}
 use Rattle.verdicts.specs.Verdicts.{verdictGiven}
-use Rattle.tables.specs.Tables.Laws.{checked-most}
+use Rattle.survivor_tables.specs.Tables.Laws.{checked-most}
 use Rattle.tables.proofs.Completes.{check-said}
 use Rattle.verdicts.proofs.Answers.{count-bounds}
 use borrow.Author.Needs.{needs}

@@ -1,0 +1,2 @@
+-- Replies as structs of numbers.
+pub mod Replies

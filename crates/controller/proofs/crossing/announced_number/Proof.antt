@@ -1,0 +1,12 @@
+-- The number of an announcement, or 0.
+use mathlib.Core.Path.{sym, ap}
+use Rattle.controller.specs.Crossing.{announcedNumber}
+use borrow.Author.Needs.{needs}
+use Rattle.controller.proofs.crossing.announced_number.Statement.{statement}
+use Rattle.controller.proofs.crossing.announced_number.Tie as tie
+
+pub announced-number-spec : {M : Type 1} → statement M
+announced-number-spec =
+    tie.close
+    (tie.spec
+    (λ c. search needs) (λ c. search needs) (λ c. sym (ap announcedNumber (c .enum-told .given .1))) (λ c. search needs))

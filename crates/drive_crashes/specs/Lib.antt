@@ -1,0 +1,2 @@
+-- Crashes by drive.
+pub mod Crashes

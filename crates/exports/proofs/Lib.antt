@@ -1,3 +1,0 @@
--- What the functions' proofs share.
-mod Handing
-mod Outcomes

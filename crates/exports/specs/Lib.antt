@@ -1,3 +1,0 @@
--- What the exported functions answer.
-pub mod Codes
-pub mod Deliveries

@@ -1,0 +1,2 @@
+-- What the function's proof rests on.
+pub mod Opens

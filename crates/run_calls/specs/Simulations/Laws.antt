@@ -1,0 +1,79 @@
+-- No simulated exchange is refused with the number 0: so a reply has refusal 0 exactly where the call is accepted.
+use mathlib.Core.Path.{_≡_, refl}
+use mathlib.Core.Bool.{not}
+use mathlib.Core.List.{List, [], _∷_}
+use Prim.Native.Nat.{ℕ, suc}
+use lib.Dec.{eqb, ltb}
+use lib.ListN.{length}
+use Rattle.drive_sets.specs.Counts.{isRound}
+use Rattle.drive_sets.specs.Refusals.{Outcome, refused, result}
+use Rattle.drive_sets.specs.Refusals.Numbered.{Numbered, result-numbered, if-numbered, then-numbered}
+use Rattle.survivor_tables.specs.Hitting.{hits}
+use Rattle.records.specs.Fields.{fieldAt}
+use Rattle.records.specs.RecordLists.{readList}
+use Rattle.survivor_tables.specs.Tables.{isEmpty, chosen, normalTable, chosenCore}
+use Rattle.runs.specs.CrashRecords.{CrashRecord, crashed, isNext, mostSends, checkedCrash}
+use Rattle.run_files.specs.RunFiles.{takenProposal, proposalList, CrashList, noCrash, crashFields, takenCrash, crashList, readRecords, untouchedLeft, wholeRun, readBehind, readRunFile}
+use Rattle.simulation.specs.Simulation.{Simulated, checkedCrashes, unlessTouched, simulated}
+use Rattle.run_listing.specs.RunListing.{simulatedWith}
+use Rattle.c_replies.specs.Replies.{refusalOf}
+use Rattle.records.specs.RecordLists.Numbered.{list-numbered}
+use Rattle.survivor_tables.specs.Tables.Numbered.{normal-numbered}
+use Rattle.run_calls.specs.Simulations.{simulationReply}
+
+pub simulation-refusal : (o : Outcome Simulated) → simulationReply o .refusal ≡ refusalOf o
+simulation-refusal (refused r) = refl
+simulation-refusal (result s) = refl
+
+-- ---- the scenario
+
+crash-numbered : (n core last : ℕ) (c : CrashRecord) → Numbered (checkedCrash n core last c)
+unfolding checkedCrash
+crash-numbered n core last c =
+    if-numbered (not (isNext n last (c .drive))) 8 refl
+    (if-numbered (not (isRound core (c .round))) 9 refl
+    (if-numbered (ltb (mostSends n core (c .drive)) (c .sends)) 10 refl
+    result-numbered))
+
+module _ {A : Type 0} where
+  crashes-numbered : (n core last : ℕ) (crs : List CrashRecord) (next : Outcome A) → Numbered next → Numbered (checkedCrashes n core last crs next)
+  unfolding checkedCrashes
+  crashes-numbered n core last [] next h = h
+  crashes-numbered n core last (c ∷ cs) next h =
+      then-numbered (checkedCrash n core last c) _ (crash-numbered n core last c) (λ passed. crashes-numbered n core (c .drive) cs next h)
+
+pub simulated-numbered : (n : ℕ) (sets numbers : List ℕ) (crs : List CrashRecord) → Numbered (simulated n sets numbers crs)
+unfolding simulated
+simulated-numbered n sets numbers crs =
+    then-numbered (normalTable n sets) _ (normal-numbered n sets)
+    (λ table. crashes-numbered n (chosen table) 0 crs (unlessTouched n sets numbers crs) (if-numbered (hits sets (crashed crs)) 11 refl result-numbered))
+
+-- ---- the run file
+
+proposal-numbered : (given s : List ℕ) → Numbered (takenProposal given s)
+unfolding takenProposal
+proposal-numbered given s = if-numbered (not (eqb (fieldAt 2 1 s) (suc (length given)))) 8 refl result-numbered
+
+listed-numbered : (n core : ℕ) (l : CrashList) (s : List ℕ) → Numbered (takenCrash n core l s)
+unfolding takenCrash
+listed-numbered n core l s =
+    then-numbered (checkedCrash n core (l .last) (crashFields s)) _ (crash-numbered n core (l .last) (crashFields s)) (λ c. result-numbered)
+
+records-numbered : (n core : ℕ) (s : List ℕ) → Numbered (readRecords n core s)
+unfolding readRecords
+records-numbered n core s =
+    then-numbered (readList (proposalList n) [] s) _ (list-numbered (proposalList n) proposal-numbered [] s)
+    (λ p. then-numbered (readList (crashList n core) noCrash (p .rest)) _ (list-numbered (crashList n core) (listed-numbered n core) noCrash (p .rest)) (λ c. result-numbered))
+
+file-numbered : (n : ℕ) (sets s : List ℕ) → Numbered (readRunFile n sets s)
+unfolding readRunFile chosenCore readBehind wholeRun untouchedLeft
+file-numbered n sets s =
+    then-numbered (chosenCore n sets) _
+    (then-numbered (normalTable n sets) (λ table. result (chosen table)) (normal-numbered n sets) (λ table. result-numbered))
+    (λ core. then-numbered (readRecords n core s) (wholeRun sets) (records-numbered n core s)
+    (λ r. if-numbered (not (isEmpty (r .rest))) 7 refl (if-numbered (hits sets (crashed (r .file .crashes))) 11 refl result-numbered)))
+
+pub with-file-numbered : (n : ℕ) (sets run : List ℕ) → Numbered (simulatedWith n sets run)
+unfolding simulatedWith
+with-file-numbered n sets run =
+    then-numbered (readRunFile n sets run) _ (file-numbered n sets run) (λ f. simulated-numbered n sets (f .numbers) (f .crashes))

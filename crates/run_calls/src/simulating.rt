@@ -1,0 +1,172 @@
+// The simulated exchange: how each drive of a scenario ends.
+ghost use mathlib.Core.Path.{_≡_};
+ghost use mathlib.Core.List.{map};
+ghost use Prim.Native.Nat.{_≤_};
+ghost use lib.ListN.{take};
+ghost use Rattle.drive_sets.specs.Limits.{maxDrives};
+ghost use Rattle.drive_sets.specs.Lists.{range};
+ghost use Rattle.drive_sets.specs.Refusals.{refused, number};
+ghost use Rattle.drive_states.specs.State.{values};
+ghost use Rattle.drive_crashes.specs.Crashes.{crashesIn};
+ghost use Rattle.simulation.specs.Simulation.{simulated};
+ghost use Rattle.simulation.specs.Endings.{simulatedOutcome};
+ghost use Rattle.run_listing.specs.RunListing.{simulatedWith};
+ghost use Rattle.run_listing.specs.RunParts.{endingFor, endingAt};
+ghost use Rattle.run_calls.specs.Simulations.{noEnding, driveEnding, inDrives, simulationReply, crashesOf};
+use drive_crashes::Crashes;
+use drive_sets::Answer;
+use drive_sets::Drive;
+use drive_sets::Pattern;
+use drive_sets::Refusal;
+use drive_sets::Round;
+use simulation::simulating::Simulated;
+use simulation::simulating::simulate;
+
+// What the drives propose, drive 1 first, and which of them stop: of each such drive d, at place d - 1, the round and
+// the sends that it still makes.
+#[repr(C)]
+pub struct Scenario {
+    pub stopped: u64,
+    pub numbers: [Pattern; 64],
+    pub rounds: [Round; 64],
+    pub sends: [u8; 64],
+}
+
+// How a drive ends: the number on which it decides and the round, 0 in both where it does not; `stopped` is 1 for a
+// drive that stops, even if it decided before.
+#[repr(C)]
+pub struct DriveEnding {
+    pub number: Pattern,
+    pub round: Round,
+    pub stopped: u8,
+}
+
+// How the drives end, drive 1 first, with zeros behind drive n; the chosen core, and how many of its drives stop.
+#[repr(C)]
+pub struct SimulationReply {
+    pub drives: [DriveEnding; 64],
+    pub core: u64,
+    pub stops: u8,
+    pub refusal: u32,
+}
+
+fn no_ending() -> DriveEnding
+    ensures { λ r. ⌜ r ≡ noEnding ⌝ }
+{
+    DriveEnding {
+        number: Pattern(0),
+        round: Round(0),
+        stopped: 0,
+    }
+}
+
+// How a drive ends: the round is 0 where it has not decided.
+fn ending_of(crashes: bool, round: Round, number: Pattern) -> DriveEnding
+    ensures { λ r. ⌜ r ≡ driveEnding (endingFor crashes (round .0) (number .0)) ⌝ }
+{
+    if crashes {
+        return DriveEnding {
+            number: Pattern(0),
+            round: Round(0),
+            stopped: 1,
+        };
+    }
+    if round.0 == 0 {
+        return no_ending();
+    }
+    DriveEnding {
+        number,
+        round,
+        stopped: 0,
+    }
+}
+
+// How the drives 1 to n end, with zeros behind them.
+fn endings_of(n: u8, crashed: u64, rounds: [Round; 64], numbers: [Pattern; 64]) -> [DriveEnding; 64]
+    requires { ⌜ n ≤ maxDrives ⌝ }
+    ensures { λ r. ⌜ r ≡ inDrives (map (endingAt crashed rounds numbers) (range 1 n)) ⌝ }
+{
+    let none = no_ending();
+    let mut drives = [none; 64];
+    let mut i = 0u8;
+    while i < n {
+        let at = i as usize;
+        let round = rounds[at];
+        let number = numbers[at];
+        let ending = ending_of(drive_sets::has(Drive(i + 1), crashed), round, number);
+        drives[at] = ending;
+        i += 1;
+    }
+    drives
+}
+
+fn refused_simulation(r: Refusal) -> SimulationReply
+    ensures { λ t. ⌜ t ≡ simulationReply (refused (number r)) ⌝ }
+{
+    let none = no_ending();
+    SimulationReply {
+        drives: [none; 64],
+        core: 0,
+        stops: 0,
+        refusal: r.number() as u32,
+    }
+}
+
+// What the simulated exchange of n drives gave.
+fn simulation_reply(n: u8, s: Simulated) -> SimulationReply
+    requires { ⌜ (s .answer ≡ Answer.Accepted → n ≤ maxDrives) ⌝ }
+    ensures { λ r. ⌜ r ≡ simulationReply (simulatedOutcome n s) ⌝ }
+{
+    let answer = s.answer;
+    let found = s.found;
+    let rounds = found.rounds;
+    let numbers = found.numbers;
+    match answer {
+        Answer::Refused(r) => refused_simulation(r),
+        Answer::Accepted => {
+            let drives = endings_of(n, s.crashed, rounds, numbers);
+            SimulationReply {
+                drives,
+                core: s.core,
+                stops: s.stops,
+                refusal: 0,
+            }
+        }
+    }
+}
+
+// The simulated exchange of n drives with some survivor sets in a scenario: 3, 2, 5, 4, 13, then 8, 9, 10 of each stop,
+// then 11.
+#[no_mangle]
+pub extern "C" fn regdulyn_simulate(n: u8, sets: &[u64], s: Scenario) -> SimulationReply
+    ensures { λ r. ⌜ r ≡ simulationReply (simulated n (now (sets .entry)) (take n (values (s .numbers))) (crashesIn (crashesOf s))) ⌝ }
+{
+    let numbers = s.numbers;
+    let rounds = s.rounds;
+    let sends = s.sends;
+    let crashes = Crashes {
+        crashed: s.stopped,
+        rounds,
+        sends,
+    };
+    let simulated = simulate(n, sets, numbers, crashes);
+    simulation_reply(n, simulated)
+}
+
+// The same of a run file, given by its bytes: the table's refusals, then those of the file.
+#[no_mangle]
+pub extern "C" fn regdulyn_simulate_file(n: u8, sets: &[u64], run: &[u8]) -> SimulationReply
+    ensures { λ r. ⌜ r ≡ simulationReply (simulatedWith n (now (sets .entry)) (now (run .entry))) ⌝ }
+{
+    let file = run_files::reading::read_run_file(n, sets, run);
+    let answer = file.answer;
+    let numbers = file.numbers;
+    let crashes = file.crashes;
+    match answer {
+        Answer::Refused(r) => refused_simulation(r),
+        Answer::Accepted => {
+            let simulated = simulate(n, sets, numbers, crashes);
+            simulation_reply(n, simulated)
+        }
+    }
+}

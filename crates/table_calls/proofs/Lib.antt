@@ -1,0 +1,3 @@
+-- What the functions' proofs share.
+mod Outcomes
+mod ReadTables

@@ -1,0 +1,3 @@
+-- The replies of the calls, and what a reader holds.
+pub mod Replies
+pub mod Reading

@@ -1,0 +1,2 @@
+-- What the writer writes.
+pub mod Writing
