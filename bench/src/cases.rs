@@ -1,20 +1,13 @@
 //! The calls that are timed: each by the library and by the baseline, on the same input.
 
 use crate::baseline::{exchange, runs, tables, verdicts, Answer};
-use crate::inputs::{self, Input, Start};
+use crate::inputs::{self, Input, Start, OWN_NUMBER};
 use crate::library;
 use std::hint::black_box;
 use std::time::Instant;
 
 const ROUNDS: usize = 3;
 const BATCH_SECONDS: f64 = 0.002;
-
-/// What the library answers for a refusal is its number above this.
-const REFUSED: u64 = 1 << 32;
-
-fn code(answer: Answer<u64>) -> u64 {
-    answer.unwrap_or_else(|number| REFUSED + number)
-}
 
 /// The lent memory of a call.
 #[derive(PartialEq)]
@@ -35,7 +28,7 @@ impl Lent {
     }
 }
 
-type Call = Box<dyn FnMut() -> u64>;
+type Call = Box<dyn FnMut() -> Answer<u64>>;
 
 /// Seconds a call.
 #[derive(Clone, Copy)]
@@ -47,7 +40,7 @@ pub struct Times {
 pub struct Case {
     pub name: String,
     pub least: Times,
-    result: u64,
+    result: Answer<u64>,
     ours: (Call, u32),
     theirs: (Call, u32),
 }
@@ -55,7 +48,7 @@ pub struct Case {
 fn time(call: &mut Call, calls: u32) -> f64 {
     let start = Instant::now();
     for _ in 0..calls {
-        black_box(call());
+        let _ = black_box(call());
     }
     start.elapsed().as_secs_f64() / f64::from(calls)
 }
@@ -73,8 +66,8 @@ impl Case {
     /// Two calls that give the same.
     fn new(
         name: String,
-        ours: impl Fn(&mut Lent) -> u64 + 'static,
-        theirs: impl Fn(&mut Lent) -> u64 + 'static,
+        ours: impl Fn(&mut Lent) -> Answer<u64> + 'static,
+        theirs: impl Fn(&mut Lent) -> Answer<u64> + 'static,
     ) -> Case {
         let (mut left, mut right) = (Lent::new(), Lent::new());
         let result = ours(&mut left);
@@ -98,10 +91,10 @@ impl Case {
 
     /// A count, the positions of a verdict that is a no, a byte each with the first lowest, or a refusal.
     pub fn shown(&self) -> String {
-        match self.result.checked_sub(REFUSED) {
-            Some(number) => format!("refused {number}"),
-            None if self.result < 1 << 16 => self.result.to_string(),
-            None => format!("no {:x}", self.result),
+        match self.result {
+            Err(number) => format!("refused {number}"),
+            Ok(result) if result < 1 << 16 => result.to_string(),
+            Ok(positions) => format!("no {positions:x}"),
         }
     }
 }
@@ -112,7 +105,7 @@ fn cores(input: Input) -> Case {
     Case::new(
         format!("cores, {name}"),
         move |lent| library::cores(n, black_box(&sets), &mut lent.sets),
-        move |lent| code(tables::accept(n, black_box(&same)).map(|table| lent.put(&table.cores))),
+        move |lent| tables::accept(n, black_box(&same)).map(|table| lent.put(&table.cores)),
     )
 }
 
@@ -122,7 +115,7 @@ fn verdict(what: &str, input: Input) -> Case {
     Case::new(
         format!("verdict on 4, {what}"),
         move |_| library::verdict(4, n, black_box(&sets)),
-        move |_| code(verdicts::verdict(4, n, black_box(&same))),
+        move |_| verdicts::verdict(4, n, black_box(&same)),
     )
 }
 
@@ -132,10 +125,7 @@ fn write(input: Input) -> Case {
     Case::new(
         format!("write a table, {name}"),
         move |lent| library::write_table(n, black_box(&sets), &mut lent.bytes, 5),
-        move |lent| {
-            let size = tables::write(n, black_box(&same), &mut lent.bytes, 5);
-            code(size.map(|size| size as u64))
-        },
+        move |lent| tables::write(n, black_box(&same), &mut lent.bytes, 5).map(|size| size as u64),
     )
 }
 
@@ -146,37 +136,7 @@ fn read(input: Input) -> Case {
     Case::new(
         format!("read a table, {name}"),
         move |lent| library::read_table(black_box(&file), &mut lent.sets),
-        move |lent| code(tables::read(black_box(&same)).map(|table| lent.put(&table.sets))),
-    )
-}
-
-/// Opens an exchange and hands it the messages.
-fn deliver(name: &str, start: Start) -> Case {
-    let same = start.clone();
-    Case::new(
-        name.to_string(),
-        move |_| library::deliver(black_box(&start)),
-        move |_| code(exchange::deliver(black_box(&same))),
-    )
-}
-
-/// The same, then so many sends of the next round.
-fn send(name: &str, start: Start, times: u32) -> Case {
-    let same = start.clone();
-    Case::new(
-        name.to_string(),
-        move |lent| library::send(black_box(&start), &mut lent.bytes, 5, times),
-        move |lent| code(exchange::send(black_box(&same), &mut lent.bytes, 5, times)),
-    )
-}
-
-/// The same, then so many closes.
-fn close(name: &str, start: Start, times: u32) -> Case {
-    let same = start.clone();
-    Case::new(
-        name.to_string(),
-        move |_| library::close(black_box(&start), times),
-        move |_| code(exchange::close(black_box(&same), times)),
+        move |lent| tables::read(black_box(&same)).map(|table| lent.put(&table.sets)),
     )
 }
 
@@ -187,26 +147,87 @@ fn run(name: &str, stops: bool) -> Case {
     Case::new(
         name.to_string(),
         move |lent| library::run_listing(black_box(&file), &mut lent.bytes),
-        move |lent| runs::listing(black_box(&same), &mut lent.bytes) as u64,
+        move |lent| Ok(runs::listing(black_box(&same), &mut lent.bytes) as u64),
     )
 }
 
-/// What one call takes, from a case without and one with so many of it.
-pub fn one_call(without: &Case, with: &Case, calls: u32) -> Times {
-    let one = |with: f64, without: f64| (with - without) / f64::from(calls);
-    Times { ours: one(with.least.ours, without.least.ours), theirs: one(with.least.theirs, without.least.theirs) }
+// The calls of one drive, each on the same state again and again: the library's is copied into the call and out of it, as a controller has it.
+
+/// The opening; its result is the round.
+fn open(start: Start) -> Case {
+    let same = start.clone();
+    Case::new(
+        "opening, core of 64".to_string(),
+        move |_| {
+            let start = black_box(&start);
+            library::open(start.n, &start.sets, start.own, OWN_NUMBER).map(|state| state.round.into())
+        },
+        move |_| {
+            let start = black_box(&same);
+            exchange::open(start.n, &start.sets, start.own, OWN_NUMBER).map(|state| state.round.into())
+        },
+    )
 }
 
-const MESSAGES: u32 = 63;
-const SENDS: u32 = 1000;
-const CLOSES: u32 = 16;
+/// The states of a drive that was opened and handed all messages but the last so many.
+fn begun(start: &Start, left: usize) -> (library::State, exchange::Exchange) {
+    let mut ours = library::open(start.n, &start.sets, start.own, OWN_NUMBER).expect("an opening");
+    let mut theirs = exchange::open(start.n, &start.sets, start.own, OWN_NUMBER).expect("an opening");
+    for bytes in start.messages.chunks(start.size).take(start.count - left) {
+        ours = ours.message(bytes).expect("a message");
+        theirs.message(bytes).expect("a message");
+    }
+    (ours, theirs)
+}
 
-/// What is timed by difference, in the last cases, which are pairs without and with so many calls of it.
-pub const PAIRS: [(&str, u32); 3] =
-    [("one message of 64 numbers", MESSAGES), ("one send of 64 numbers", SENDS), ("one close", CLOSES)];
+/// The last message; its result is how many senders are heard.
+fn message(start: Start) -> Case {
+    let (ours, theirs) = begun(&start, 1);
+    let bytes = start.messages[start.messages.len() - start.size..].to_vec();
+    let same = bytes.clone();
+    Case::new(
+        "one message of 64 numbers, all known".to_string(),
+        move |_| black_box(&ours).message(black_box(&bytes)).map(|state| state.heard.count_ones().into()),
+        move |_| {
+            let mut state = black_box(&theirs).clone();
+            state.message(black_box(&same))?;
+            Ok(black_box(&state).heard.count_ones().into())
+        },
+    )
+}
 
-/// In the last pairs one KN tells all numbers. Core drive 1 has heard only its sender, so it is undecided and sends all 64. Listener 64 hears
-/// nobody in the later rounds, so it goes on to the last, 16: with a larger core the opening takes too much longer than the closes.
+/// The close after all messages; its result is the round.
+fn close(start: Start) -> Case {
+    let (ours, theirs) = begun(&start, 0);
+    let mut closed = theirs.clone();
+    closed.close().expect("a close");
+    let same = (closed.decision, closed.halted) == ours.close().expect("a close").end();
+    assert!(same, "a close: the library and the baseline differ");
+    Case::new(
+        "one close of a listener that goes on".to_string(),
+        move |_| black_box(&ours).close().map(|state| state.round.into()),
+        move |_| {
+            let mut state = black_box(&theirs).clone();
+            state.close()?;
+            Ok(black_box(&state).round.into())
+        },
+    )
+}
+
+/// The send of the round after that.
+fn send(start: Start) -> Case {
+    let (ours, mut theirs) = begun(&start, 0);
+    let ours = ours.close().expect("a close");
+    theirs.close().expect("a close");
+    Case::new(
+        "one send of 64 numbers".to_string(),
+        move |lent| black_box(&ours).send(&mut lent.bytes, 5),
+        move |lent| black_box(&theirs).send(&mut lent.bytes, 5).map(|size| size as u64),
+    )
+}
+
+/// In the last three each KN tells all numbers. Core drive 1 has heard only one sender, so it is undecided and sends all 64. Listener 64 has heard one of 16
+/// core drives, so it goes on.
 pub fn all() -> Vec<Case> {
     let mut cases = vec![
         cores(inputs::all_but_one(45)),
@@ -222,12 +243,10 @@ pub fn all() -> Vec<Case> {
         read(inputs::one_of_each_pair(false)),
         run("whole exchange, core of 64", false),
         run("whole exchange, core of 64, 63 stops", true),
-        deliver("opening, core of 64", inputs::single_drives(64, 1, 0)),
-        deliver("opening, then 63 messages of 64 numbers", inputs::single_drives(64, 1, MESSAGES as usize)),
-        send("opening, core of 64, message, close", inputs::single_drives(64, 1, 1), 0),
-        send("the same, then 1000 sends of 64 numbers", inputs::single_drives(64, 1, 1), SENDS),
-        close("opening, core of 16, message", inputs::single_drives(16, 64, 1), 0),
-        close("the same, then 16 closes", inputs::single_drives(16, 64, 1), CLOSES),
+        open(inputs::single_drives(64, 1, 0)),
+        message(inputs::single_drives(64, 1, 2)),
+        send(inputs::single_drives(64, 1, 1)),
+        close(inputs::single_drives(16, 64, 1)),
     ]);
     cases
 }

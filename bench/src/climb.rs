@@ -1,6 +1,7 @@
-//! Looks for tables on which the search for cores goes far: from each table of `bench/tables` and some random ones it makes a few changes at a time and
-//! keeps what makes the search no shorter, by the library's own count of turns and fuel and not by time. The best goes to `target/bench/climbed.table`.
-//! The arguments, if any, are the seconds and a seed.
+//! Looks for tables on which the search for cores goes far: from each table of `bench/tables` and some random ones it
+//! makes a few changes at a time and keeps what makes the search no shorter, by the library's own count of turns and
+//! fuel and not by time. The best goes to `target/bench/climbed.table`. The arguments, if any, are the seconds and a
+//! seed.
 
 use crate::baseline::{cores::bits, tables};
 use crate::{inputs, library};
@@ -53,7 +54,8 @@ impl Random {
         kept((0..count).map(|_| self.set(density) | self.drive()).collect(), self)
     }
 
-    /// One to three changes: a drive more or less, two drives, a set dropped, a copy with a drive exchanged, two sets crossed, or what they share.
+    /// One to three changes: a drive more or less, two drives, a set dropped, a copy with a drive exchanged, two sets
+    /// crossed, or what they share.
     fn changed(&mut self, sets: &[u64]) -> Vec<u64> {
         let mut sets = sets.to_vec();
         for _ in 0..=self.below(3) {
@@ -115,7 +117,7 @@ pub fn main(mut arguments: impl Iterator<Item = String>) {
         let found = climb(start, each, &mut random);
         let mut cores = vec![0; 1024];
         let clock = Instant::now();
-        let answer = library::cores(DRIVES, &found.1, &mut cores);
+        let answer = library::cores(DRIVES, &found.1, &mut cores).map_or_else(|number| format!("refused {number}"), |count| count.to_string());
         let milliseconds = clock.elapsed().as_secs_f64() * 1e3;
         let ((turn, Reverse(left)), sets) = (found.0, found.1.len());
         println!("{name:<30} turn {turn:>3} left {left:>8} sets {sets:>3} answer {answer:>10} {milliseconds:>8.2} ms");

@@ -1,6 +1,7 @@
-//! Times the proved library beside the baseline: the same calls on the same inputs in one process. Each call's results are compared first; then
-//! short batches of both alternate, in many passes over all calls, and the least time of a call counts. The arguments, if any, are the number
-//! of passes and a part of the names of the calls to time. With `climb` as the first it looks for hard tables instead.
+//! Times the proved library beside the baseline: the same calls on the same inputs in one process. Each call's results
+//! are compared first; then short batches of both alternate, in many passes over all calls, and the least time of a
+//! call counts. The arguments, if any, are the number of passes and a part of the names of the calls to time. With
+//! `climb` as the first it looks for hard tables instead.
 
 mod baseline;
 mod cases;
@@ -8,7 +9,7 @@ mod climb;
 mod inputs;
 mod library;
 
-use cases::{Case, Times, PAIRS};
+use cases::{Case, Times};
 
 const PASSES: usize = 20;
 
@@ -32,11 +33,5 @@ fn main() {
     println!("{:<42} {:>11} {:>11} {:>11} {:>6}", "call", "result", "library us", "baseline us", "ratio");
     for case in &cases {
         print(&case.name, &case.shown(), case.least);
-    }
-    if part.is_empty() {
-        let pairs = cases[cases.len() - 2 * PAIRS.len()..].chunks_exact(2);
-        for (pair, (name, calls)) in pairs.zip(PAIRS) {
-            print(&format!("{name}, by difference"), "", cases::one_call(&pair[0], &pair[1], calls));
-        }
     }
 }

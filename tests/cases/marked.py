@@ -121,16 +121,12 @@ def marked_cases() -> Iterator[Case]:
 
 
 def example_cases() -> Iterator[Case]:
-    """Each file is what its text makes, and gives its case's listing."""
+    """Each file is what its text makes, and gives its case's listing. Other files in examples/ are not looked at."""
     programs = {"table": regdulyn.table_program, "run": regdulyn.run_program}
-    names = {"make"}
     for letter, program, data, listing in MARKED:
         path = EXAMPLES / f"{letter}.{program}"
-        text = path.with_name(f"{path.name}.txt")
-        names |= {path.name, text.name}
-        stored = path.read_bytes()
+        stored = path.read_bytes() if path.is_file() else None
         yield f"example {letter}", stored, data
-        yield f"example {letter}, listing", programs[program](stored), listing.encode()
-        yield (f"example {letter}, made", script(EXAMPLES / "make", b"", str(text)),
-               (stored, b"", 0))
-    yield "examples", {path.name for path in EXAMPLES.iterdir()}, names
+        yield f"example {letter}, listing", programs[program](data), listing.encode()
+        yield (f"example {letter}, made", script(ROOT / "regdulyn", b"", "make", f"{path}.txt"),
+               (data, b"", 0))

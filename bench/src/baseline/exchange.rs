@@ -3,17 +3,15 @@
 use super::cores::bits;
 use super::tables::{accept, full};
 use super::Answer;
-use crate::inputs::{Start, OWN_NUMBER};
-use std::hint::black_box;
 
 #[derive(Clone)]
 pub struct Exchange {
     n: u8,
     own: u8,
     core: u64,
-    round: u8,
+    pub round: u8,
     before: u64,
-    heard: u64,
+    pub heard: u64,
     known: u64,
     start: u64,
     numbers: [u16; 64],
@@ -209,29 +207,4 @@ impl Exchange {
         }
         Ok(())
     }
-}
-
-/// The exchange after an opening and its messages, and how many are accepted.
-fn begun(start: &Start) -> Answer<(Exchange, u64)> {
-    let mut exchange = open(start.n, &start.sets, start.own, OWN_NUMBER)?;
-    let handed = start.messages.chunks(start.size).take(start.count);
-    let accepted = handed.filter(|bytes| exchange.message(bytes).is_ok()).count();
-    Ok((exchange, accepted as u64))
-}
-
-pub fn deliver(start: &Start) -> Answer<u64> {
-    Ok(begun(start)?.1)
-}
-
-/// How many of so many closes are accepted.
-pub fn close(start: &Start, times: u32) -> Answer<u64> {
-    let (mut exchange, _) = begun(start)?;
-    Ok((0..times).filter(|_| black_box(&mut exchange).close().is_ok()).count() as u64)
-}
-
-/// Closes the round; how many of so many sends are accepted.
-pub fn send(start: &Start, out: &mut [u8], place: usize, times: u32) -> Answer<u64> {
-    let (mut exchange, _) = begun(start)?;
-    let _ = exchange.close();
-    Ok((0..times).filter(|_| black_box(&exchange).send(out, place).is_ok()).count() as u64)
 }

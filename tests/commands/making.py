@@ -1,0 +1,89 @@
+"""Text to bytes: every mistake of a text, and what texts make."""
+
+from pathlib import Path
+from typing import Iterator
+
+import texts
+
+from . import Case, example, model, refused_files, regdulyn
+
+MISTAKES = [
+    ("", ["1: no line drives"]),
+    ("# nothing\n\n", ["2: no line drives"]),
+    ("drives 6\nset 1\nbar 3\n",
+     ["3: unknown word 'bar'; the words are drives, set, members, patterns, stop, refused"]),
+    ("drives\nset 1 2\nstop 1 2\n",
+     ["1: drives takes 1 number, and here are 0", "2: set takes 1 number, and here are 2",
+      "3: stop takes 3 numbers, and here are 2"]),
+    ("drives 6\nset 1\nmembers\n", ["3: members takes one number or more, and here are none"]),
+    ("drives 6\nset 1\nmembers 3 4 3\n", ["3: drive 3 more than once"]),
+    ("drives 6\nset 1\nmembers 0 1\n", ["3: a drive is 0, and can be 1 to 64"]),
+    ("drives six\nset xyz\n", ["1: the number of drives is 'six', which is no decimal number",
+                               "2: the mask is 'xyz', which is no hexadecimal number"]),
+    ("drives 256\nset 1\n", ["1: the number of drives is 256, and can be 1 to 64"]),
+    ("drives 6\nset 1\nset 10000000000000000\n",
+     ["3: the mask is 10000000000000000, and can be 0 to ffffffffffffffff"]),
+    ("drives 6\nset 1\nset " + "9" * 5000, ["3: the mask is 99999999999999999999.., and can be 0 to ffffffffffffffff"]),
+    ("drives 2\nset 1\npatterns 1 65536\n", ["3: the pattern number of drive 2 is 65536, and can be 0 to 65535"]),
+    ("drives 2\nset 1\npatterns 1 -2\n", ["3: the pattern number of drive 2 is '-2', which is no decimal number"]),
+    ("drives 6\nset 1\ndrives 7\n", ["3: a second line drives; the first is line 1"]),
+    ("drives 1\nset 1\npatterns 1\npatterns 1\n", ["4: a second line patterns; the first is line 3"]),
+    ("drives 65\nset 1\n", ["1: 65 drives, and there are 1 to 64"]),
+    ("drives 6\n", ["1: no set, and a table has 1 to 128"]),
+    ("drives 6\nset 0\nmembers 3 7 9\nset 40\n",
+     ["2: the set is empty", "3: drives 7 9 above the number of drives, 6",
+      "4: drive 7 above the number of drives, 6"]),
+    ("drives 1\n" + "set 1\n" * 129, ["130: set number 129, and a table has at most 128"]),
+    ("drives 22\n" + "".join(f"set {3 << 2 * pair:x}\n" for pair in range(11)),
+     ["12: with this set the table has more than 1024 cores"]),
+    ("drives 6\nset 1\nset 2\nset 3c\npatterns 1 2\nstop 2 4 6\nstop 2 1 0\nstop 4 1 1\nstop 9 1 1\n",
+     ["5: 2 pattern numbers for 6 drives", "6: round 4, and there are rounds 1 to 3, the chosen core's size",
+      "6: 6 sends, and drive 2 makes at most 5", "7: drive 2 after drive 2, and stops stand by rising drive",
+      "8: 1 send, and drive 4 listens and makes none", "9: drive 9, and there are drives 1 to 6"]),
+    ("drives 2\nset 1\npatterns 1 2\nstop 1 1 0\n", ["4: with this stop every survivor set has a drive that stops"]),
+    ("drives 2\nset 1\nstop 2 1 0\n", ["3: no line patterns for 2 drives"]),
+    ("refused 4\ndrives 65\nset 1\n",
+     ["1: refused 4, and the file is refused with 3: the number of drives is not 1 to 64",
+      "2: 65 drives, and there are 1 to 64"]),
+    ("refused 4\ndrives 6\nset 1\n", ["1: refused 4, and the file is not refused"]),
+    ("refused 12\ndrives 6\nset 1\n", ["1: no file is refused with 12"]),
+    ("drives 6\nset zz\nset 40\nstop 7 1 1\n",
+     ["2: the mask is 'zz', which is no hexadecimal number", "3: drive 7 above the number of drives, 6",
+      "4: no line patterns for 6 drives", "4: drive 7, and there are drives 1 to 6"]),
+]
+
+
+def mistakes(work: Path) -> Iterator[Case]:
+    """Each mistake is a line, nothing is written, and the status is 1."""
+    for index, (text, expected) in enumerate(MISTAKES):
+        made, found = texts.text_mistakes(text)
+        yield f"mistakes {index}", (made, [f"{line}: {message}" for line, message in found]), (None, expected)
+    path = work / "wrong.txt"
+    path.write_text(MISTAKES[3][0])
+    lines = "".join(f"{path}:{line}\n" for line in MISTAKES[3][1])
+    yield "make, mistakes", regdulyn("make", str(path)), (1, b"", lines)
+    yield "make, standard input", regdulyn("make", "-", given=b"drives 6\n"), (
+        1, b"", "standard input:1: no set, and a table has 1 to 128\n")
+    yield "make, made file", regdulyn("make", str(example("a.table"))), (
+        1, b"", f"{example('a.table')}:1: this is no text but a made file; ./regdulyn show prints its text\n")
+    yield "make, no text", regdulyn("make", "-", given=b"drives 6\nset \xff\n"), (
+        1, b"", "standard input:2: this is no text: byte ff\n")
+    yield "make, endless", regdulyn("make", "/dev/zero"), (
+        2, b"", "regdulyn: cannot read /dev/zero: a text of more than 1048576 bytes\n")
+
+
+def makes(_work: Path) -> Iterator[Case]:
+    """Texts that are not canonical, and what they make."""
+    a = example("a.table").read_bytes()
+    for name, text in (("members", "drives 6\nmembers 1\nmembers 2\nmembers 6 5 4 3\n"),
+                       ("layout", "\ufeff  drives\t06 # six\r\n\r\nset 0x1\r\nset 02\r\nset 3C"),
+                       ("order", "set 1\nset 2\nmembers 3 4 5 6\ndrives 6\n")):
+        yield f"make, {name}", regdulyn("make", "-", given=text.encode()), (0, a, "")
+    for number, (kind, data) in enumerate(refused_files(a), start=1):
+        try:
+            contents, _ = model.file_contents(data)
+        except model.Unreadable:
+            continue
+        text = texts.canonical_text(contents, number)
+        yield f"make, refused {number}", (text.split("\n")[0], texts.text_mistakes(text)), (
+            f"refused {number}", (data, []))

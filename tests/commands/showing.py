@@ -1,0 +1,133 @@
+"""Bytes to text and words: what is shown, made again and explained, and what is wrong with bytes that are not."""
+
+from itertools import chain, islice
+from pathlib import Path
+from random import Random
+from typing import Iterator
+
+import failures
+import generate
+import mistakes
+import texts
+
+from . import EXAMPLES, SAID, Case, model, regdulyn
+
+GENERATED = 500
+
+ONE = b"FR\1SV\1" + bytes(7) + b"EN\1"
+UNREADABLE = [
+    ("empty", b"", 0, "FR is due, and the file ends", 1),
+    ("half a mark", b"F", 0, "FR is due, and there is F", 1),
+    ("text", b"# a", 0, "FR is due, and there is hex 23 20", 2),
+    ("cut frame", b"FR", 0, "FR is cut: 1 bytes are due behind it, and there are 0", 1),
+    ("cut set", b"FR\6SV\1\0", 3, "SV is cut: 8 bytes are due behind it, and there are 2", 1),
+    ("PR in a table", b"FR\6PR", 3, "SV or EN is due, and there is PR", 2),
+    ("count", ONE[:-1] + b"\2", 13, "EN counts 2, and there are 1 SV", 6),
+    ("rest", ONE + b"\n", 16, "the table has ended, and what follows starts no run file: hex 0a", 7),
+    ("PR order", ONE + b"PR\2\0\0EN\0", 16, "PR of drive 2, and drive 1 is the next", 8),
+    ("PR behind CR", ONE + b"PR\1\0\0CR\1\1\0PR\2\0\0EN\0", 26, "CR or EN is due, and there is PR", 2),
+    ("stop count", ONE + b"PR\1\0\0EN\1", 21, "EN counts 1, and there are 0 CR", 6),
+    ("behind the run", ONE + b"PR\1\0\0EN\0EN", 24, "the run file has ended, and bytes follow", 7),
+]
+
+
+def shows(_work: Path) -> Iterator[Case]:
+    for name, data, offset, why, number in UNREADABLE:
+        said = f"standard input: byte {offset}: {why}\nregdulyn: {failures.refused(number)}\n"
+        for command in ("show", "explain"):
+            yield f"{command}, {name}", regdulyn(command, "-", given=data), (1, b"", said)
+    for made in EXAMPLES:
+        lines = Path(f"{made}.txt").read_text().splitlines(True)
+        text = "".join(line for line in lines if not line.startswith("#"))
+        status, printed, said = regdulyn("show", str(made))
+        yield f"show {made.name}", (status, printed.decode()), (int(text.startswith("refused")), text)
+        yield f"show {made.name}, made again", regdulyn("make", "-", given=printed), (0, made.read_bytes(), "")
+    wrong = model.table_bytes(model.Contents(6, [1, 0x7C, 0]))
+    yield "show, refused", regdulyn("show", "-", given=wrong), (
+        1, b"refused 4\ndrives 6\nset 1\nset 7c\nset 0\n",
+        "standard input: byte 13: drive 7 above the number of drives, 6\nstandard input: byte 23: the set is empty\n"
+        "regdulyn: refused 4: a set is empty, or has a drive above the number of drives\n")
+
+
+def round_trips(_work: Path) -> Iterator[Case]:
+    """Of generated files, damaged ones too: a file is shown or unreadable, the text makes the file and is canonical,
+    and there is something wrong exactly if the library refuses it."""
+    shown = unreadable = 0
+    for index, data in enumerate(chain(islice(generate.table_inputs(3, GENERATED), GENERATED),
+                                       islice(generate.run_inputs(3, GENERATED), GENERATED), random_files())):
+        number = model.refusal_of(model.kind_of(data), data)
+        if index % 10 == 0 and number != model.refusal_in(model.listing(model.kind_of(data), data)):
+            yield f"refusal of {index}", (data, number), None
+        try:
+            contents, offsets = model.file_contents(data)
+        except model.Unreadable as error:
+            unreadable += 1
+            if number == 0 or not 0 <= error.offset <= len(data):
+                yield f"unreadable {index}", (data, number, error.offset), None
+            continue
+        shown += 1
+        text = texts.canonical_text(contents, number)
+        wrong = list(mistakes.found_in(contents))
+        good = (texts.text_mistakes(text) == (data, []) and texts.read_text(text)[0].contents == contents
+                and bool(wrong) == (number != 0) and all(place in offsets for place, _ in wrong)
+                and contents.kind == model.kind_of(data))
+        if not good:
+            yield f"round trip {index}", (data, number, text, wrong), None
+    yield "files of both sorts", (shown > GENERATED, unreadable > GENERATED // 10), (True, True)
+
+
+def random_files() -> Iterator[bytes]:
+    """Contents of any numbers, in small frames so that many are nearly right."""
+    random = Random(7)
+    for _ in range(GENERATED):
+        n = random.choice((0, 1, 2, 3, 4, 6, 64, 65, 255))
+        sets = [random.getrandbits(random.choice((n, n, n, n + 1)) or 1) & (2 ** 64 - 1)
+                for _ in range(random.randrange(5))]
+        count = random.choice((n, n, 0, n % 255 + 1))
+        patterns = random.choice((None, [random.randrange(65536) for _ in range(count)]))
+        stops = [model.Stop(*(random.randrange(random.choice((3, 7, 256))) for _ in range(3)))
+                 for _ in range(random.randrange(3) if patterns is not None else 0)]
+        yield model.file_bytes(model.Contents(n, sets, patterns, stops))
+
+
+def explains(_work: Path) -> Iterator[Case]:
+    text = ("drives 7\nmembers 1 2\nmembers 2 3\nmembers 1 2 5\nset 3\nmembers 4\n"
+            "patterns 1 2 3 4 5 6 7\nstop 1 1 0\nstop 7 2 0\n")
+    expected = """\
+drives: 1 2 3 4 5 6 7
+
+survivor sets: 3
+  set 3: drives 1 2
+  set 6: drives 2 3
+  set 8: drive 4
+sets that the table drops: 2
+  set 13, the file's number 3: drives 1 2 5; it holds set 3
+  set 3, the file's number 4: drives 1 2; a repeat
+drives in no survivor set, and so in no core: 5 6 7
+
+cores: 2
+  core a: drives 2 4, the chosen one
+  core d: drives 1 3 4
+drives that talk, the chosen core: 2 4
+drives that listen: 1 3 5 6 7
+"""
+    run = """
+run:
+  drive 1: pattern number 1, stops in round 1 after 0 sends
+  drive 2: pattern number 2, stays up
+  drive 3: pattern number 3, stays up
+  drive 4: pattern number 4, stays up
+  drive 5: pattern number 5, stays up
+  drive 6: pattern number 6, stays up
+  drive 7: pattern number 7, stops in round 2 after 0 sends
+survivor sets in which no drive stops: set 6, set 8
+"""
+    data = texts.text_mistakes(text)[0]
+    yield "explain, run", regdulyn("--unproved", "explain", "-", given=data), (0, (expected + run).encode(), SAID)
+    table = data[:data.index(b"PR")]
+    yield "explain, table", regdulyn("explain", "-", given=table), (0, expected.encode(), "")
+    wrong = model.table_bytes(model.Contents(6, [1, 0x7C, 0]))
+    status, printed, said = regdulyn("--unproved", "explain", "-", given=wrong)
+    yield "explain, refused", (status, printed.decode(), said.splitlines()[-1]), (
+        1, "set 1: drive 1\nset 7c: drives 3 4 5 6 7, and drive 7 above the number of drives\nset 0: no drive\n",
+        "regdulyn: refused 4: a set is empty, or has a drive above the number of drives")

@@ -1,0 +1,126 @@
+"""Each way to use the command: wrong uses, help, listings and refusals, with status and lines."""
+
+import re
+import subprocess
+from pathlib import Path
+from typing import Iterator
+
+import failures
+import generate
+
+from . import EXAMPLES, ROOT, SAID, Case, example, model, refused_files, regdulyn
+
+SEE = "; see ./regdulyn --help\n"
+
+
+def wrong_uses(work: Path) -> Iterator[Case]:
+    a = str(example("a.table"))
+    (work / "locked").write_bytes(b"FR")
+    cases = [
+        ("nothing", [], "no command" + SEE),
+        ("unknown command", ["tabel", a], "unknown command tabel" + SEE),
+        ("unknown option", ["--fast", "table", a], "unknown option --fast" + SEE),
+        ("unknown option behind", ["table", "-x", a], "unknown option -x" + SEE),
+        ("no file", ["table"], "table takes one file, and here is none" + SEE),
+        ("two files", ["run", a, a], "run takes one file, and here are 2" + SEE),
+        ("unproved make", ["--unproved", "make", a],
+         "--unproved goes with table, run, explain, picture, and make needs no proved program" + SEE),
+        ("library with a file", ["library", a], "library takes no file and no option" + SEE),
+        ("help of an unknown command", ["tabel", "--help"], "unknown command tabel" + SEE),
+        ("directory", ["--unproved", "table", str(work)], f"cannot read {work}: it is a directory\n"),
+        ("directory to make", ["make", str(work)], f"cannot read {work}: it is a directory\n"),
+        ("missing", ["--unproved", "run", f"{work}/none"], f"cannot read {work}/none: No such file or directory\n"),
+        ("missing to show", ["show", f"{work}/none"], f"cannot read {work}/none: No such file or directory\n"),
+        ("unreadable", ["show", "/proc/self/mem"], "cannot read /proc/self/mem: Input/output error\n"),
+        ("missing, before any build", ["table", f"{work}/none"],
+         f"cannot read {work}/none: No such file or directory\n"),
+    ]
+    for name, words, line in cases:
+        yield name, regdulyn(*words), (2, b"", f"regdulyn: {line}")
+    closed = 'exec "$0" show - <&-'
+    done = subprocess.run(["sh", "-c", closed, ROOT / "regdulyn"], capture_output=True)
+    yield "closed input", (done.returncode, done.stdout, done.stderr), (
+        2, b"", b"regdulyn: cannot read standard input: it is closed\n")
+    done = subprocess.run(["sh", "-c", 'exec "$0" show "$1" >/dev/full', ROOT / "regdulyn", a], capture_output=True)
+    yield "full output", (done.returncode, done.stderr), (2, b"regdulyn: cannot write: No space left on device\n")
+    done = subprocess.run(["sh", "-c", 'exec "$0" show "$1" >&-', ROOT / "regdulyn", a], capture_output=True)
+    yield "closed output", (done.returncode, done.stderr), (2, b"regdulyn: cannot write: standard output is closed\n")
+
+
+def hints(work: Path) -> Iterator[Case]:
+    """What a refused file may have been meant for is said with the refusal."""
+    (work / "text").write_text("# a table\ndrives 6\nset 1\n")
+    cases = [
+        ("a text", "table", work / "text", 2, "; this looks like a text, of which ./regdulyn make makes a file"),
+        ("a run as a table", "table", example("b.run"), 7,
+         "; a run file stands behind the table, and ./regdulyn run reads both"),
+        ("a table as a run", "run", example("a.table"), 1, "; there is no run file behind the table"),
+    ]
+    for name, kind, path, number, hint in cases:
+        yield name, regdulyn("--unproved", kind, str(path)), (
+            1, f"refused {number}\n".encode(), f"{SAID}regdulyn: {failures.refused(number)}{hint}\n")
+    done = subprocess.run(["sh", "-c", 'exec "$0" table - <"$1"', ROOT / "regdulyn", work], capture_output=True)
+    yield "a directory as input", (done.returncode, done.stdout, done.stderr), (
+        2, b"", b"regdulyn: cannot read standard input: it is a directory\n")
+
+
+def helps(_work: Path) -> Iterator[Case]:
+    names = ("table", "run", "explain", "picture", "make", "show", "library")
+    for words in (["--help"], ["-h"], *([name, "--help"] for name in names)):
+        status, printed, said = regdulyn(*words)
+        yield f"{' '.join(words)}", (status, printed.startswith(b"usage: ./regdulyn "), said), (0, True, "")
+    lines = regdulyn("--help")[1].decode().splitlines()
+    yield "help is as wide as a page", [line for line in lines if len(line) > 120], []
+
+
+def listings(work: Path) -> Iterator[Case]:
+    """The second program's by --unproved; `refused N` is listed, said with its meaning, and status 1."""
+    for path in EXAMPLES:
+        kind = path.suffix[1:]
+        printed = model.listing(kind, path.read_bytes())
+        number = model.refusal_in(printed)
+        said = f"regdulyn: {failures.refused(number)}\n" if number else ""
+        status = 1 if number else 0
+        yield f"{path.name}, unproved", regdulyn("--unproved", kind, str(path)), (status, printed, SAID + said)
+        yield f"{path.name}, proved", regdulyn(kind, str(path)), (status, printed, said)
+    a = example("a.table").read_bytes()
+    for number, (kind, data) in enumerate(refused_files(a), start=1):
+        if kind:
+            yield f"refused {number}", regdulyn("--unproved", kind, "-", given=data), (
+                1, b"refused %d\n" % number, SAID + f"regdulyn: refused {number}: {failures.MEANINGS[number]}\n")
+    yield "a table as a run", regdulyn("--unproved", "run", "-", given=a)[:2], (1, b"refused 1\n")
+    yield "a long file", regdulyn("table", "/dev/zero")[:2], (1, b"refused 2\n")
+    yield "a reader that leaves", subprocess.run(
+        ["sh", "-c", '{ "$0" table "$1"; echo $? >"$2"; } | :', ROOT / "regdulyn", example("h.table"), work / "status"],
+        capture_output=True).stderr, b""
+    told = regdulyn("--unproved", "table", "a.table", root=ROOT, cwd=ROOT / "examples")
+    yield "from another folder", told[:2], (0, model.listing("table", a))
+    (work / "link").symlink_to(ROOT / "regdulyn")
+    (work / "link2").symlink_to("link")
+    done = subprocess.run([work / "link2", "--unproved", "table", example("a.table")], capture_output=True, cwd="/")
+    yield "through links", (done.returncode, done.stdout), (0, model.listing("table", a))
+
+
+def pictures(_work: Path) -> Iterator[Case]:
+    """A picture, or the refusal's meaning; what is drawn is the pictures' own matter."""
+    for path in EXAMPLES:
+        number = model.refusal_of(path.suffix[1:], path.read_bytes())
+        said = f"regdulyn: {failures.refused(number)}\n" if number else ""
+        status, printed, heard = regdulyn("--unproved", "picture", str(path))
+        yield f"{path.name}, picture", (status, b"<svg" in printed, heard), (
+            int(number != 0), number == 0, SAID + said)
+        yield f"{path.name}, picture, proved", regdulyn("picture", str(path)), (status, printed, said)
+
+
+def meanings(_work: Path) -> Iterator[Case]:
+    """The meanings are the README's, up to what only calls can meet; the header's are the README's."""
+    section = (ROOT / "README.md").read_text().split("\n## Refusals\n")[1].split("\n## ")[0]
+    rows = dict(re.findall(r"^\| (\d+) \| (.*) \|$", section, re.MULTILINE))
+    header = (ROOT / "include" / "regdulyn.h").read_text()
+    numbers = dict(re.findall(r"^    (REGDULYN_\w+) = (\d+),?$", header, re.MULTILINE))
+    texts = re.findall(r'^    case (\w+):\s+return "(.*)";$', header, re.MULTILINE)
+    yield "meanings in the header", {numbers[name]: text for name, text in texts}, {"0": "accepted", **rows}
+    yield "refusals of the header", set(numbers.values()), {"0", *rows}
+    for number, meaning in failures.MEANINGS.items():
+        yield f"meaning of {number}", rows.get(str(number), "").split("; ")[0], meaning
+    yield "refusals of files", set(failures.MEANINGS), set().union(*generate.REFUSALS.values())

@@ -1,0 +1,181 @@
+/*
+ * The table calls from C through the header alone, on the table of case A (six drives, sets 1, 2, 3c) and on what they
+ * refuse. What it prints is stored in tests/table_calls.out. It ends with 1 where lent memory changes that should not.
+ */
+#include <inttypes.h>
+#include <stdio.h>
+#include <stdlib.h>
+#include <string.h>
+
+#include "regdulyn.h"
+
+#define UNTOUCHED 0xa5
+
+static const uint64_t sets[] = {0x3c, 0x3e, 2, 1, 2};
+static const size_t count = sizeof sets / sizeof *sets;
+static uint64_t lent[REGDULYN_MAX_CORES];
+static uint8_t text[REGDULYN_MAX_LISTING + 8];
+
+static void fresh(void)
+{
+    memset(lent, UNTOUCHED, sizeof lent);
+    memset(text, UNTOUCHED, sizeof text);
+}
+
+/* Nothing but the bytes from `from` up to `to` has changed. */
+static void untouched(const void *memory, size_t size, size_t from, size_t to)
+{
+    const uint8_t *bytes = memory;
+    for (size_t i = 0; i < size; i++)
+        if ((i < from || to <= i) && bytes[i] != UNTOUCHED) {
+            printf("byte %zu has changed\n", i);
+            exit(1);
+        }
+}
+
+static void print_masks(const char *name, const uint64_t *masks, size_t size)
+{
+    printf("%s", name);
+    for (size_t i = 0; i < size; i++)
+        printf(" %" PRIx64, masks[i]);
+    printf("\n");
+}
+
+static void print_sets(const char *name, regdulyn_size_reply reply)
+{
+    printf("%s: %zu, refusal %" PRIu32, name, reply.size, reply.refusal);
+    print_masks(", sets", lent, reply.size);
+    untouched(lent, sizeof lent, 0, reply.size * sizeof *lent);
+}
+
+static void print_table(const char *name, regdulyn_table_reply reply)
+{
+    printf("%s: n %u, used %zu, %zu, refusal %" PRIu32, name, (unsigned)reply.n, reply.used, reply.count,
+           reply.refusal);
+    print_masks(", sets", lent, reply.count);
+    untouched(lent, sizeof lent, 0, reply.count * sizeof *lent);
+}
+
+static void print_text(const char *name, regdulyn_size_reply reply, size_t start)
+{
+    printf("%s: %zu, refusal %" PRIu32 "\n", name, reply.size, reply.refusal);
+    fwrite(text + start, 1, reply.size, stdout);
+    untouched(text, sizeof text, start, start + reply.size);
+}
+
+static void print_verdict(unsigned k, regdulyn_verdict_reply reply)
+{
+    printf("verdict on %u: shared %u, refusal %" PRIu32 ", positions", k, (unsigned)reply.shared, reply.refusal);
+    for (size_t i = 0; i < 4; i++)
+        printf(" %u", (unsigned)reply.positions[i]);
+    print_masks(", blocks", reply.blocks, 4);
+}
+
+static void print_simulation(const char *name, unsigned n, regdulyn_simulation_reply reply)
+{
+    printf("%s: core %" PRIx64 ", stops %u, refusal %" PRIu32 "\n", name, reply.core, (unsigned)reply.stops,
+           reply.refusal);
+    for (unsigned d = 1; d <= REGDULYN_MAX_DRIVES; d++) {
+        regdulyn_ending e = reply.drives[d - 1];
+        if (reply.refusal == 0 && d <= n)
+            printf("    drive %u: number %u, round %u, stopped %u\n", d, (unsigned)e.number, (unsigned)e.round,
+                   (unsigned)e.stopped);
+        else if (e.number != 0 || e.round != 0 || e.stopped != 0)
+            printf("    drive %u has no zeros\n", d);
+    }
+}
+
+/* Case B: the numbers 7, 5, 9, 1, 1, 1, and drive 2 stops in round 1 after one send. What no call may read is not 0. */
+static regdulyn_scenario case_b(void)
+{
+    static const uint16_t numbers[] = {7, 5, 9, 1, 1, 1};
+    regdulyn_scenario s;
+    memset(&s, UNTOUCHED, sizeof s);
+    memcpy(s.numbers, numbers, sizeof numbers);
+    s.stopped = 2;
+    s.rounds[1] = 1;
+    s.sends[1] = 1;
+    return s;
+}
+
+static const uint8_t run[] = {'P', 'R', 1, 7, 0, 'P', 'R', 2, 5, 0, 'P', 'R', 3, 9, 0, 'P', 'R', 4, 1, 0, 'P', 'R',
+                              5,   1,   0, 'P', 'R', 6, 1, 0, 'C', 'R', 2, 1, 1, 'E', 'N', 1};
+
+int main(void)
+{
+    fresh();
+    print_sets("cores", regdulyn_cores(6, sets, count, lent, REGDULYN_MAX_CORES));
+    uint64_t cores[4];
+    memcpy(cores, lent, sizeof cores);
+    fresh();
+    print_sets("cores, 3 places", regdulyn_cores(6, sets, count, lent, 3));
+    print_sets("cores, no sets", regdulyn_cores(6, NULL, 0, lent, REGDULYN_MAX_CORES));
+    print_sets("cores, 5 drives", regdulyn_cores(5, sets, count, lent, REGDULYN_MAX_CORES));
+    print_sets("back", regdulyn_back(6, cores, 4, lent, 3));
+    fresh();
+    print_sets("back, 2 places", regdulyn_back(6, cores, 4, lent, 2));
+    print_sets("back, no groups", regdulyn_back(6, NULL, 0, lent, REGDULYN_MAX_SETS));
+
+    for (unsigned k = 1; k <= 4; k++)
+        print_verdict(k, regdulyn_verdict((uint8_t)k, 6, sets, count));
+    static const uint64_t sharing[] = {7, 0xb};
+    print_verdict(2, regdulyn_verdict(2, 4, sharing, 2));
+
+    regdulyn_size_reply written = regdulyn_write_table(6, sets, count, text, 5 + 36, 5);
+    printf("write: %zu, refusal %" PRIu32 "\n   ", written.size, written.refusal);
+    for (size_t i = 0; i < written.size; i++)
+        printf(" %02x", (unsigned)text[5 + i]);
+    printf("\n");
+    untouched(text, sizeof text, 5, 5 + written.size);
+    uint8_t file[36 + sizeof run];
+    memcpy(file, text + 5, 36);
+    memcpy(file + 36, run, sizeof run);
+    fresh();
+    written = regdulyn_write_table(6, sets, count, text, 5 + 35, 5);
+    printf("write, a byte short: %zu, refusal %" PRIu32 "\n", written.size, written.refusal);
+    untouched(text, sizeof text, 0, 0);
+
+    print_table("read", regdulyn_read_table(file, sizeof file, lent, REGDULYN_MAX_SETS));
+    fresh();
+    print_table("read, 2 places", regdulyn_read_table(file, sizeof file, lent, 2));
+    print_table("read, a byte short", regdulyn_read_table(file, 35, lent, REGDULYN_MAX_SETS));
+    print_table("read whole, a run file behind", regdulyn_read_whole(file, sizeof file, lent, REGDULYN_MAX_SETS));
+    print_table("read whole", regdulyn_read_whole(file, 36, lent, 3));
+    fresh();
+
+    regdulyn_scenario s = case_b();
+    print_simulation("simulate", 6, regdulyn_simulate(6, sets, count, s));
+    s.sends[1] = 6;
+    print_simulation("simulate, too many sends", 6, regdulyn_simulate(6, sets, count, s));
+    print_simulation("simulate the file", 6, regdulyn_simulate_file(6, sets, count, file + 36, sizeof run));
+    print_simulation("simulate the file, a byte short", 6,
+                     regdulyn_simulate_file(6, sets, count, file + 36, sizeof run - 1));
+
+    print_text("listing of the table", regdulyn_table_listing(file, 36, text, sizeof text, 8), 8);
+    fresh();
+    print_text("listing of more than a table", regdulyn_table_listing(file, sizeof file, text, sizeof text, 8), 8);
+    fresh();
+    print_text("listing of the run", regdulyn_run_listing(file, sizeof file, text, sizeof text, 0), 0);
+    fresh();
+    print_text("listing of the run, 100 bytes", regdulyn_run_listing(file, sizeof file, text, 100, 0), 0);
+
+    /* no places, or no bytes, and NULL for them */
+    print_sets("cores, no places", regdulyn_cores(6, sets, count, NULL, 0));
+    print_sets("back, no places", regdulyn_back(6, cores, 4, NULL, 0));
+    print_text("write, no places", regdulyn_write_table(6, sets, count, NULL, 0, 0), 0);
+    print_text("write, no places from 1 on", regdulyn_write_table(6, sets, count, NULL, 0, 1), 0);
+    print_table("read, no places", regdulyn_read_table(file, sizeof file, NULL, 0));
+    print_table("read, no bytes", regdulyn_read_table(NULL, 0, lent, REGDULYN_MAX_SETS));
+    print_table("read whole, no places", regdulyn_read_whole(file, 36, NULL, 0));
+    print_table("read whole, no bytes and no places", regdulyn_read_whole(NULL, 0, NULL, 0));
+    print_verdict(2, regdulyn_verdict(2, 6, NULL, 0));
+    print_simulation("simulate, no sets", 6, regdulyn_simulate(6, NULL, 0, s));
+    print_simulation("simulate the file, no bytes", 6, regdulyn_simulate_file(6, sets, count, NULL, 0));
+    print_simulation("simulate the file, no sets and no bytes", 6, regdulyn_simulate_file(6, NULL, 0, NULL, 0));
+    print_text("listing of the table, no places", regdulyn_table_listing(file, 36, NULL, 0, 0), 0);
+    print_text("listing of the run, no bytes and no places", regdulyn_run_listing(NULL, 0, NULL, 0, 0), 0);
+    print_text("listing of a table of no bytes", regdulyn_table_listing(NULL, 0, text, sizeof text, 8), 8);
+    fresh();
+    print_text("listing of a run of no bytes", regdulyn_run_listing(NULL, 0, text, 10, 0), 0);
+    return 0;
+}

@@ -1,0 +1,79 @@
+"""A file in words, for who reads it against the wiring: each survivor set and core by drive numbers, which sets the
+normal table drops, which drives stand in no set, and which drives talk.
+
+Sets kept, cores and the chosen core are taken from the table's listing.
+"""
+
+from typing import Iterator
+
+from contents import Contents, counted, drive_list
+from regdulyn.masks import all_drives, drives, is_part, mask_of
+
+
+def listed(printed: bytes, word: str) -> list[int]:
+    """The masks of a listing's lines that start with a word."""
+    lines = (line.split() for line in printed.decode("ascii").splitlines())
+    return [int(line[1], 16) for line in lines if line[0] == word]
+
+
+def numbers(mask: int) -> str:
+    """The drives of a set, or none."""
+    return " ".join(map(str, drives(mask))) or "none"
+
+
+def set_lines(sets: list[int], n: int) -> Iterator[str]:
+    """The sets of a file that is refused, as they are listed."""
+    for mask in sets:
+        above = mask & ~all_drives(n)
+        wrong = f", and {drive_list(drives(above))} above the number of drives" if above else ""
+        yield f"set {mask:x}: {drive_list(drives(mask))}{wrong}"
+
+
+def table_lines(contents: Contents, printed: bytes) -> Iterator[str]:
+    """The table in words, from the file and its listing."""
+    kept, cores, [chosen] = listed(printed, "set"), listed(printed, "core"), listed(printed, "chosen")
+    frame = all_drives(contents.drives)
+    yield f"drives: {numbers(frame)}"
+    yield ""
+    yield f"survivor sets: {len(kept)}"
+    yield from (f"  set {mask:x}: {drive_list(drives(mask))}" for mask in kept)
+    dropped = list(dropped_lines(contents.sets, kept))
+    yield f"sets that the table drops: {len(dropped) or 'none'}"
+    yield from dropped
+    yield f"drives in no survivor set, and so in no core: {numbers(frame & ~union(kept))}"
+    yield ""
+    yield f"cores: {len(cores)}"
+    for mask in cores:
+        yield f"  core {mask:x}: {drive_list(drives(mask))}{', the chosen one' if mask == chosen else ''}"
+    yield f"drives that talk, the chosen core: {numbers(chosen)}"
+    yield f"drives that listen: {numbers(frame & ~chosen)}"
+
+
+def union(masks: list[int]) -> int:
+    total = 0
+    for mask in masks:
+        total |= mask
+    return total
+
+
+def dropped_lines(sets: list[int], kept: list[int]) -> Iterator[str]:
+    """The sets of the file that are not kept, with the reason; a kept set is there once."""
+    seen: set[int] = set()
+    for place, mask in enumerate(sets, start=1):
+        if mask in seen:
+            yield f"  set {mask:x}, the file's number {place}: {drive_list(drives(mask))}; a repeat"
+        elif mask not in kept:
+            smaller = next(small for small in kept if is_part(small, mask))
+            yield f"  set {mask:x}, the file's number {place}: {drive_list(drives(mask))}; it holds set {smaller:x}"
+        seen.add(mask)
+
+
+def run_lines(contents: Contents, printed: bytes) -> Iterator[str]:
+    """The run file in words, with its table's listing."""
+    stops = {stop.drive: stop for stop in contents.stops}
+    for drive, pattern in enumerate(contents.patterns, start=1):
+        stop = stops.get(drive)
+        end = "stays up" if stop is None else f"stops in round {stop.round} after {counted(stop.sends, 'send')}"
+        yield f"  drive {drive}: pattern number {pattern}, {end}"
+    untouched = [mask for mask in listed(printed, "set") if not mask & mask_of(stops)]
+    yield f"survivor sets in which no drive stops: {', '.join(f'set {mask:x}' for mask in untouched) or 'none'}"

@@ -1,0 +1,91 @@
+"""What `--help` prints, for the command and for each of its commands."""
+
+from texts import WORDS
+
+ALL = """\
+usage: ./regdulyn [--unproved] COMMAND FILE
+
+  table FILE       prints the listing of a survivor table: its sets, its cores and the verdicts on k
+  run FILE         prints the listing of an exchange tried out: a table with a run file behind it
+  explain FILE     says a table in words: each set and core by drive numbers, and what the table leaves out
+  picture FILE     draws a table, or an exchange tried out, as SVG
+  make FILE.txt    writes the bytes of a table, or of a table and a run file, from text
+  show FILE        prints the text from which make makes the file
+  library          builds the proved library for C and prints where it stands
+
+FILE - is standard input. ./regdulyn COMMAND --help says more of a command.
+
+--unproved answers at once from the second program, which is not proved; it goes with table, run, explain and
+picture. Without it the first use builds the proved program, which takes minutes; the prover's text goes to
+target/build.log.
+
+exit status: 0 done; 1 the file is refused, or the text has mistakes; 2 a wrong use, or a file that cannot be read or
+written; 3 the proved program cannot be built or run, or its listing is not of the file; 128 and a signal's number
+where that signal ended it
+"""
+
+TABLE = """\
+usage: ./regdulyn [--unproved] table FILE
+
+Prints what the proved table program prints: the number of drives, the survivor sets of the normal table, the cores, the
+chosen core and the verdicts on k 2, 3 and 4. A refused file prints `refused N`; standard error has the meaning of N,
+and the exit status is 1.
+"""
+
+RUN = """\
+usage: ./regdulyn [--unproved] run FILE
+
+Prints what the proved run program prints for a table with a run file behind it: what each drive decides and in which
+round, the chosen core and how many of its drives stop. A refused file prints `refused N`; standard error has the
+meaning of N, and the exit status is 1.
+"""
+
+EXPLAIN = """\
+usage: ./regdulyn [--unproved] explain FILE
+
+Says a table in words, to be read against the wiring: each survivor set and each core by drive numbers, the sets that
+the normal table drops and why, the drives that are in no set, which drives talk and which listen; and of a run file
+the pattern numbers and stops. Sets kept, cores and the chosen core are the proved table program's. Of a refused file
+it says the sets as they are listed; standard error has what is wrong, and the exit status is 1.
+"""
+
+PICTURE = """\
+usage: ./regdulyn [--unproved] picture FILE > FILE.svg
+
+Draws a table as drives by survivor sets and cores, or, where a run file stands behind the table, the exchange as drives
+by rounds. What is drawn as a set, core, verdict, decision or stop is what the proved program lists. A refused file
+gives no picture; standard error has the meaning of its refusal, and the exit status is 1.
+"""
+
+MAKE = """\
+usage: ./regdulyn make FILE.txt > FILE
+
+Writes the bytes of a table, or of a table and a run file, from lines of a word and numbers:
+
+""" + WORDS + """
+
+Each mistake is one line FILE:LINE: MESSAGE on standard error; then nothing is written and the exit status is 1. What
+the library would refuse is a mistake too, unless a line `refused N` names that very refusal.
+"""
+
+SHOW = """\
+usage: ./regdulyn show FILE > FILE.txt
+
+Prints the text from which make makes the very bytes of the file. It is canonical: `refused N` where the library refuses
+the file, `drives`, the sets as masks in the file's order, `patterns` and the stops; numbers without leading zeros,
+masks in lower case, no comments. A text is canonical exactly if show prints it for what make makes from it.
+
+Of a refused file standard error has what is wrong, each with the byte, from 0, at which its record starts, and the exit
+status is 1. Bytes that are no row of records are not shown: standard error has the first byte that does not fit.
+"""
+
+LIBRARY = """\
+usage: ./regdulyn library
+
+Proves and builds the library for C and C++, target/libregdulyn.a, which include/regdulyn.h declares, and prints its
+path. It is linked like any archive:
+
+  cc -std=c11 -Iinclude examples/controller.c target/libregdulyn.a -o controller
+
+docs/CONTROLLER.md says what it costs and what is proved of it.
+"""

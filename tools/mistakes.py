@@ -1,0 +1,74 @@
+"""What the library refuses in a file's contents: all of it and where, for who mends the file; the library itself gives
+the first refusal alone."""
+
+from typing import Iterator, NamedTuple
+
+import regdulyn
+from contents import Contents, Place, counted, drive_list
+from regdulyn.masks import MAX_DRIVES, all_drives, bit, drives, mask_of, size
+from regdulyn.tables import MAX_CORES, MAX_SETS
+
+
+class Mistake(NamedTuple):
+    """What the library refuses, and where."""
+
+    place: Place
+    text: str
+
+
+def found_in(contents: Contents, whole: bool = True) -> Iterator[Mistake]:
+    """All that the library refuses in the contents, not only the first: none exactly if it accepts the file. Where
+    the contents are not whole, what rests on the whole table is passed over."""
+    n = contents.drives
+    framed = n is not None and 1 <= n <= MAX_DRIVES
+    if n is not None and not framed:
+        yield Mistake(Place("drives"), f"{n} drives, and there are 1 to {MAX_DRIVES}")
+    in_sets = list(_set_mistakes(contents, n if framed else MAX_DRIVES))
+    yield from in_sets
+    if whole and not contents.sets:
+        yield Mistake(Place("drives"), f"no set, and a table has 1 to {MAX_SETS}")
+    core = 0
+    if whole and framed and contents.sets and not in_sets:
+        try:
+            core = regdulyn.chosen_core(n, contents.sets)
+        except regdulyn.Refusal:
+            last = Place("set", len(contents.sets) - 1)
+            yield Mistake(last, f"with this set the table has more than {MAX_CORES} cores")
+    if framed:
+        yield from _run_mistakes(contents, n, core)
+
+
+def _set_mistakes(contents: Contents, n: int) -> Iterator[Mistake]:
+    for index, mask in enumerate(contents.sets):
+        above = drives(mask & ~all_drives(n))
+        if index == MAX_SETS:
+            yield Mistake(Place("set", index), f"set number {index + 1}, and a table has at most {MAX_SETS}")
+        if mask == 0:
+            yield Mistake(Place("set", index), "the set is empty")
+        if above:
+            yield Mistake(Place("set", index), f"{drive_list(above)} above the number of drives, {n}")
+
+
+def _run_mistakes(contents: Contents, n: int, core: int) -> Iterator[Mistake]:
+    """`core` is 0 where it is not known."""
+    if contents.patterns is not None and len(contents.patterns) != n:
+        given = counted(len(contents.patterns), "pattern number") if contents.patterns else "no line patterns"
+        yield Mistake(Place("patterns"), f"{given} for {counted(n, 'drive')}")
+    last = 0
+    for index, stop in enumerate(contents.stops):
+        place = Place("stop", index)
+        if not 1 <= stop.drive <= n:
+            yield Mistake(place, f"drive {stop.drive}, and there are drives 1 to {n}")
+            continue
+        if stop.drive <= last:
+            yield Mistake(place, f"drive {stop.drive} after drive {last}, and stops stand by rising drive")
+        last = stop.drive
+        if core and not 1 <= stop.round <= size(core):
+            yield Mistake(place, f"round {stop.round}, and there are rounds 1 to {size(core)}, the chosen core's size")
+        if core and stop.sends > (n - 1 if core & bit(stop.drive) else 0):
+            yield Mistake(place, f"{counted(stop.sends, 'send')}, and drive {stop.drive} "
+                          + (f"makes at most {n - 1}" if core & bit(stop.drive) else "listens and makes none"))
+    stopped = mask_of(stop.drive for stop in contents.stops if 1 <= stop.drive <= n)
+    if core and all(mask & stopped for mask in contents.sets):
+        place = Place("stop", len(contents.stops) - 1)
+        yield Mistake(place, "with this stop every survivor set has a drive that stops")
