@@ -63,6 +63,11 @@ static void print_text(const char *name, regdulyn_size_reply reply, size_t start
     untouched(text, sizeof text, start, start + reply.size);
 }
 
+static void print_meeting(uint64_t group, regdulyn_meeting_reply reply)
+{
+    printf("group %" PRIx64 ": meets %u, refusal %" PRIu32 "\n", group, (unsigned)reply.meets, reply.refusal);
+}
+
 static void print_verdict(unsigned k, regdulyn_verdict_reply reply)
 {
     printf("verdict on %u: shared %u, refusal %" PRIu32 ", positions", k, (unsigned)reply.shared, reply.refusal);
@@ -116,6 +121,10 @@ int main(void)
     print_sets("back, 2 places", regdulyn_back(6, cores, 4, lent, 2));
     print_sets("back, no groups", regdulyn_back(6, NULL, 0, lent, REGDULYN_MAX_SETS));
 
+    static const uint64_t groups[] = {0xb, 0x3f, 0xc, 0, 0x40};
+    for (size_t i = 0; i < sizeof groups / sizeof *groups; i++)
+        print_meeting(groups[i], regdulyn_meets(6, sets, count, groups[i]));
+
     for (unsigned k = 1; k <= 4; k++)
         print_verdict(k, regdulyn_verdict((uint8_t)k, 6, sets, count));
     static const uint64_t sharing[] = {7, 0xb};
@@ -168,6 +177,7 @@ int main(void)
     print_table("read, no bytes", regdulyn_read_table(NULL, 0, lent, REGDULYN_MAX_SETS));
     print_table("read whole, no places", regdulyn_read_whole(file, 36, NULL, 0));
     print_table("read whole, no bytes and no places", regdulyn_read_whole(NULL, 0, NULL, 0));
+    print_meeting(0, regdulyn_meets(6, NULL, 0, 0));
     print_verdict(2, regdulyn_verdict(2, 6, NULL, 0));
     print_simulation("simulate, no sets", 6, regdulyn_simulate(6, NULL, 0, s));
     print_simulation("simulate the file, no bytes", 6, regdulyn_simulate_file(6, sets, count, NULL, 0));

@@ -1,16 +1,24 @@
-// The calls given n and sets or groups: the writer, the cores, the way back and the verdict.
+// The calls given n and sets or groups: the writer, the cores, the way back, the test of a group and the verdict.
 ghost use mathlib.Core.Path.{_≡_};
 ghost use lib.ListN.{length};
 ghost use Rattle.drive_sets.specs.Refusals.{andThen};
-ghost use Rattle.survivor_tables.specs.Tables.{coreList, survivorSets};
+ghost use Rattle.survivor_tables.specs.Tables.{coreList, meetsEvery, survivorSets};
 ghost use Rattle.table_writing.specs.Writing.{writeTable};
 ghost use Rattle.drive_sets.specs.Lent.{fitting, sizeWritten, bufferAfter};
 ghost use Rattle.verdicts.specs.Verdicts.{verdict};
 ghost use Rattle.c_replies.specs.Replies.{sizeReply};
-ghost use Rattle.table_calls.specs.Replies.{verdictReply};
+ghost use Rattle.table_calls.specs.Replies.{meetingReply, verdictReply};
 use crate::lists;
 use c_replies::SizeReply;
 use drive_sets::Answer;
+use tables::calls::Meeting;
+
+// Whether a group meets every set: `meets` is 1 for a yes.
+#[repr(C)]
+pub struct MeetingReply {
+    pub refusal: u32,
+    pub meets: u8,
+}
 
 // The verdict on k: `shared` is 1 for a yes. For a no the first k positions and blocks; all other places are 0.
 #[repr(C)]
@@ -66,6 +74,28 @@ pub extern "C" fn regdulyn_back(n: u8, groups: &[u64], out: &mut [u64]) -> SizeR
     match answer {
         Answer::Refused(r) => c_replies::refused_size(r),
         Answer::Accepted => lists::put_list(&sets, count, out),
+    }
+}
+
+// Does the group meet every set of the table of n drives and some sets? 3, 2, 5, 4, 13, then 4 of the group.
+#[no_mangle]
+pub extern "C" fn regdulyn_meets(n: u8, sets: &[u64], group: u64) -> MeetingReply
+    ensures { λ r. ⌜ r ≡ meetingReply (meetsEvery n (now (sets .entry)) group) ⌝ }
+{
+    let m = tables::calls::meets_every(n, sets, group);
+    match m {
+        Meeting::Refused(r) => MeetingReply {
+            refusal: r.number() as u32,
+            meets: 0,
+        },
+        Meeting::Meets => MeetingReply {
+            refusal: 0,
+            meets: 1,
+        },
+        Meeting::Misses => MeetingReply {
+            refusal: 0,
+            meets: 0,
+        },
     }
 }
 

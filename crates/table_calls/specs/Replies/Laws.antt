@@ -1,6 +1,6 @@
 -- No call about tables is refused with the number 0: so a reply has refusal 0 exactly where the call is accepted.
 use mathlib.Core.Path.{_≡_, refl}
-use mathlib.Core.Bool.{not, _&&_}
+use mathlib.Core.Bool.{Bool, not, _&&_}
 use mathlib.Core.List.{List, []}
 use Prim.Native.Nat.{ℕ}
 use lib.Dec.{leb}
@@ -15,19 +15,23 @@ use Rattle.records.specs.Fields.{fieldAt}
 use Rattle.records.specs.Marks.{headOf}
 use Rattle.records.specs.RecordLists.{readList}
 use Rattle.records.specs.RecordLists.Numbered.{record-numbered, list-numbered}
-use Rattle.survivor_tables.specs.Tables.{isFrame, isSet, isEmpty, withinCoreLimit, normalTable, coreList, survivorSets}
+use Rattle.survivor_tables.specs.Tables.{isFrame, isSet, isEmpty, withinCoreLimit, normalTable, coreList, meetsEvery, survivorSets}
 use Rattle.survivor_tables.specs.Tables.Numbered.{limit-numbered, normal-numbered, cores-numbered, back-numbered}
 use Rattle.table_files.specs.Files.{ReadTable, takenSet, setList, listedTable, readListed, accepted, readTable, readWhole, tableBytes}
 use Rattle.table_writing.specs.Writing.{writeTable}
 use Rattle.verdicts.specs.Verdicts.{verdictOn, verdict}
 use Rattle.c_replies.specs.Replies.{refusalOf}
-use Rattle.table_calls.specs.Replies.{fittingTable, tableReply}
+use Rattle.table_calls.specs.Replies.{fittingTable, tableReply, meetingReply}
 
 -- ---- a reply's refusal is the outcome's
 
 pub table-refusal : (s : List ℕ) (o : Outcome ReadTable) → tableReply s o .refusal ≡ refusalOf o
 table-refusal s (refused r) = refl
 table-refusal s (result t) = refl
+
+pub meeting-refusal : (o : Outcome Bool) → meetingReply o .refusal ≡ refusalOf o
+meeting-refusal (refused r) = refl
+meeting-refusal (result b) = refl
 
 -- ---- the calls given n and sets, or groups
 
@@ -47,6 +51,11 @@ write-numbered n sets start room =
     put-numbered (writeTable n sets)
     (then-numbered (normalTable n sets) (λ table. result (tableBytes n table)) (normal-numbered n sets) (λ table. result-numbered))
     start room
+
+pub meets-numbered : (n : ℕ) (sets : List ℕ) (group : ℕ) → Numbered (meetsEvery n sets group)
+unfolding meetsEvery
+meets-numbered n sets group =
+    then-numbered (normalTable n sets) _ (normal-numbered n sets) (λ table. if-numbered (not (isSet n group)) 4 refl result-numbered)
 
 pub verdict-numbered : (k n : ℕ) (sets : List ℕ) → Numbered (verdict k n sets)
 unfolding verdict
