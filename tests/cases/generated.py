@@ -27,7 +27,7 @@ def generator_cases() -> Iterator[Case]:
 
 TABLE_REFUSALS = {2, 3, 4, 5, 13}
 
-# What each operation of the call program can answer, and be refused with.
+# What each operation of a script can answer, and be refused with.
 CALL_ANSWERS = {
     "O": ({"accepted"}, TABLE_REFUSALS | {8}),
     "S": ({"written"}, {14, 23, 27, 28}),
@@ -37,8 +37,8 @@ CALL_ANSWERS = {
     "W": ({"written"}, TABLE_REFUSALS | {14}),
     "V": ({"yes", "no"}, TABLE_REFUSALS | {12}),
     "H": ({"meets", "misses"}, TABLE_REFUSALS),
-    "K": ({"core"}, TABLE_REFUSALS),
-    "R": ({"numbers"}, TABLE_REFUSALS | {1, 6, 7, 8, 9, 10, 11}),
+    "K": ({"cores"}, TABLE_REFUSALS),
+    "R": ({"core"}, TABLE_REFUSALS | {1, 6, 7, 8, 9, 10, 11}),
     "X": ({"core"}, TABLE_REFUSALS | {8, 9, 10, 11}),
 }
 

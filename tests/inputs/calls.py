@@ -1,15 +1,15 @@
-"""Scripts of the call program, with what it must print for them.
+"""Scripts of calls, with what tests/call_script.c must print for them.
 
 A `Script` makes each operation on the reference's state as it is added, so
 that a generator sees the state it has reached. The layout of the operations
-stands in crates/call_program/src/main.rt.
+stands in tests/call_script.c.
 """
 
 from typing import Callable, Iterable
 
-from regdulyn import (Crash, Exchange, Outcome, Refusal, Scenario, Verdict, back, chosen_core,
-                      close, meets_all, message, opening, read_run, send_into, simulate,
-                      stops_by_drive, verdict, write_table_into)
+from regdulyn import (Crash, Exchange, Outcome, Refusal, Verdict, back, close, cores, meets_all,
+                      message, opening, read_run, send_into, simulate, stops_by_drive, verdict,
+                      write_table_into)
 
 from .frames import MAX_DRIVES
 
@@ -53,18 +53,16 @@ def list_bytes(masks: list[int]) -> bytes:
     return field(len(masks), 2) + b"".join(field(mask, 8) for mask in masks)
 
 
+def list_line(word: str, masks: list[int]) -> str:
+    return " ".join([word, *(f"{mask:x}" for mask in masks)])
+
+
 def verdict_line(found: Verdict) -> str:
     """Four positions and four blocks, with zeros where there are none."""
     unused = [0] * (4 - len(found.positions))
     positions = " ".join(str(place) for place in [*found.positions, *unused])
     blocks = " ".join(f"{block:x}" for block in [*found.blocks, *unused])
     return f"{'yes' if found.yes else 'no'} sets {positions} blocks {blocks}"
-
-
-def scenario_line(found: Scenario) -> str:
-    """The numbers proposed, then drive, round and sends of each stop."""
-    return " ".join(["numbers", *map(str, found.proposals),
-                     *(f"stop {c.drive} {c.round} {c.sends}" for c in found.crashes)])
 
 
 def outcome_line(found: Outcome) -> str:
@@ -134,8 +132,8 @@ class Script:
         return self._call(b"C", lambda: close(self.state))
 
     def back(self, n: int, groups: list[int]) -> None:
-        self._add(b"B" + field(n, 1) + list_bytes(groups), answer(
-            lambda: " ".join(["found", *(f"{mask:x}" for mask in back(n, groups))])))
+        self._add(b"B" + field(n, 1) + list_bytes(groups),
+                  answer(lambda: list_line("found", back(n, groups))))
 
     def write(self, n: int, sets: list[int], length: int, start: int) -> None:
         self._fill(b"W" + field(n, 1) + field(length, 2) + field(start, 8) + list_bytes(sets),
@@ -149,13 +147,15 @@ class Script:
         self._add(b"H" + field(n, 1) + field(group, 8) + list_bytes(sets),
                   answer(lambda: "meets" if meets_all(n, sets, group) else "misses"))
 
-    def choose(self, n: int, sets: list[int]) -> None:
+    def cores(self, n: int, sets: list[int]) -> None:
         self._add(b"K" + field(n, 1) + list_bytes(sets),
-                  answer(lambda: f"core {chosen_core(n, sets):x}"))
+                  answer(lambda: list_line("cores", cores(n, sets))))
 
-    def read_run(self, n: int, sets: list[int], data: bytes) -> None:
-        self._add(b"R" + field(n, 1) + field(len(data), 2) + data + list_bytes(sets),
-                  answer(lambda: scenario_line(read_run(data, n, sets))))
+    def simulate_file(self, n: int, sets: list[int], data: bytes) -> None:
+        def play() -> str:
+            run = read_run(data, n, sets)
+            return outcome_line(simulate(n, sets, run.proposals, run.crashes))
+        self._add(b"R" + field(n, 1) + field(len(data), 2) + data + list_bytes(sets), answer(play))
 
     def simulate(self, n: int, sets: list[int], numbers: list[int], stops: Iterable[Crash],
                  unused: tuple[int, int, int] = (0, 1, 0)) -> None:

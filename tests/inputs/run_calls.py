@@ -1,5 +1,5 @@
-"""Operations of the run file reader and the simulated exchange: fixed ones at the
-limits, then random ones.
+"""Operations of the simulated exchange, of a run file and of a scenario: fixed ones at
+the limits, then random ones.
 """
 
 from functools import partial
@@ -22,9 +22,9 @@ COSTLY = 2000
 Call = Callable[[Script, int, list[int], list[int], Iterable[Crash]], None]
 
 
-def read_file(script: Script, n: int, sets: list[int], numbers: list[int],
+def play_file(script: Script, n: int, sets: list[int], numbers: list[int],
               stops: Iterable[Crash]) -> None:
-    script.read_run(n, sets, run(numbers, list(stops)))
+    script.simulate_file(n, sets, run(numbers, list(stops)))
 
 
 # At the limits
@@ -86,20 +86,20 @@ def file_samples(script: Script) -> None:
     """The samples; two stops, rising, of one drive, and falling; a run file cut at every
     place, with other counts and more behind it."""
     for n, sets, data, *_ in (*refused_runs(), *SAID):
-        script.read_run(n, sets, data)
+        script.simulate_file(n, sets, data)
     for drives in product((1, 2, 4, 6), repeat=2):
-        read_file(script, 6, A_SETS, PATTERNS, [Crash(drive, 1, 0) for drive in drives])
+        play_file(script, 6, A_SETS, PATTERNS, [Crash(drive, 1, 0) for drive in drives])
     whole = run(PATTERNS, [Crash(2, 1, 1), Crash(4, 2, 0)])
     for length in range(len(whole) + 1):
-        script.read_run(6, A_SETS, whole[:length])
+        script.simulate_file(6, A_SETS, whole[:length])
     touched = run(PATTERNS, [Crash(drive, 1, 0) for drive in (1, 2, 3)])
     for data in (whole, touched):
         for count, more in product((0, 1, 2, 3, 4, 255), (b"", b"\0", b"PR", data)):
-            script.read_run(6, A_SETS, data[:-3] + end(count) + more)
+            script.simulate_file(6, A_SETS, data[:-3] + end(count) + more)
 
 
 SCENARIOS = (stops_on_tables, stops_on_a, stops_on_others, two_stops, touched_sets)
-LIMITS = (file_samples, *(partial(made, call=call) for call in (read_file, Script.simulate)
+LIMITS = (file_samples, *(partial(made, call=call) for call in (play_file, Script.simulate)
                           for made in SCENARIOS))
 
 
@@ -132,7 +132,7 @@ def odd_file(rng: Random, script: Script) -> None:
     data = damaged(rng, records, RUN_DAMAGE) if rng.random() < 0.3 else b"".join(records)
     if rng.random() < 0.15:
         n, sets = refused_table(rng)
-    script.read_run(n, sets, data)
+    script.simulate_file(n, sets, data)
 
 
 def odd_simulation(rng: Random, script: Script) -> None:

@@ -1,5 +1,5 @@
-"""Scripts for the call program: seeded ones, with the samples, the limits of the calls
-given n and sets, then operations of every kind at random; and the stored one."""
+"""Scripts of calls: a few operations of each kind, the samples, the limits of the calls
+given n and sets, then seeded ones with operations of every kind at random."""
 
 from itertools import chain
 from random import Random
@@ -18,8 +18,51 @@ from .states import broken_states
 OPERATIONS = 400
 
 
+def refused_by_state(script: Script) -> None:
+    """15, 22, 26, 24, 25, 23 and 28 on states that are handed over."""
+    for x, data in ((CORE_DRIVE, kn(2, 1, 5, 7, 0, 9, 0)), (CORE_DRIVE, kn(1, 1, 1, 7, 0)),
+                    (CORE_DRIVE, kn(2, 2, 2, 5, 0)), (MISSED_2, kn(2, 2, 2, 5, 0)),
+                    (HEARD_2, kn(3, 1, 6, 6, 0, 9, 0))):
+        script.load(x)
+        script.message(data)
+    for own in (1, 7):
+        script.load(state(6, own, 7, 1, 7, 0, 1, 1, own == 1))
+        script.close()
+
+
+def each_kind(script: Script) -> None:
+    """A few operations of each kind, most on case A's table."""
+    refused_by_state(script)
+    script.open(6, A_SETS, 1, 7)
+    script.send(16, 1)
+    for data in (kn(3, 1, 4, 9, 0), kn(3, 1, 4, 9, 0), kn(2, 1, 2, 5, 0)):
+        script.message(data)
+    script.close()
+    script.send(6, 0)
+    script.open(6, A_SETS, 4, 1)
+    script.send(14, 0)
+    for data in (kn(1, 1, 1, 7, 0), kn(1, 1, 1, 7), kn(3, 1, 4, 9, 0)):
+        script.message(data)
+    script.close()
+    script.open(7, [0x80], 1, 7)
+    script.back(6, [7, 0xB, 0x13, 0x23])
+    script.back(6, [])
+    script.write(6, [3, *A_SETS], 40, 2)
+    script.write(6, A_SETS, 40, 5)
+    for k, n, sets in ((2, 6, A_SETS), (3, 4, [7, 0xB, 0xC]), (2, 4, [7, 0xB, 0xC]), (5, 6, A_SETS)):
+        script.judge(k, n, sets)
+    for group in (7, 6, 0x40):
+        script.meet(6, A_SETS, group)
+    for n, sets in ((6, A_SETS), (6, []), (22, set_calls.PAIRS)):
+        script.cores(n, sets)
+    for stops in (crash(2, 1, 1), crash(2, 1, 6), crash(2, 1, 1) + crash(4, 2, 0)):
+        script.simulate_file(6, A_SETS, PROPOSALS + stops + end(1))
+    for drives in ((2,), (1, 2), (1, 2, 3), (6, 7)):
+        script.simulate(6, A_SETS, PATTERNS, [Crash(drive, 1, 0) for drive in drives])
+
+
 def fixed_scripts() -> Iterator[Script]:
-    for fixed in (make_samples, *set_calls.LIMITS, *run_calls.LIMITS):
+    for fixed in (each_kind, make_samples, *set_calls.LIMITS, *run_calls.LIMITS):
         script = Script()
         fixed(script)
         yield script
@@ -54,48 +97,3 @@ def scripts(seed: int, count: int) -> Iterator[Script]:
             return
         count -= len(script.lines)
         yield script
-
-
-def refused_by_state(script: Script) -> None:
-    """15, 22, 26, 24, 25, 23 and 28 on states that are handed over."""
-    for x, data in ((CORE_DRIVE, kn(2, 1, 5, 7, 0, 9, 0)), (CORE_DRIVE, kn(1, 1, 1, 7, 0)),
-                    (CORE_DRIVE, kn(2, 2, 2, 5, 0)), (MISSED_2, kn(2, 2, 2, 5, 0)),
-                    (HEARD_2, kn(3, 1, 6, 6, 0, 9, 0))):
-        script.load(x)
-        script.message(data)
-    for own in (1, 7):
-        script.load(state(6, own, 7, 1, 7, 0, 1, 1, own == 1))
-        script.close()
-
-
-def stored_script() -> Script:
-    """A few operations of each kind, most on case A's table."""
-    script = Script()
-    refused_by_state(script)
-    script.open(6, A_SETS, 1, 7)
-    script.send(16, 1)
-    for data in (kn(3, 1, 4, 9, 0), kn(3, 1, 4, 9, 0), kn(2, 1, 2, 5, 0)):
-        script.message(data)
-    script.close()
-    script.send(6, 0)
-    script.open(6, A_SETS, 4, 1)
-    script.send(14, 0)
-    for data in (kn(1, 1, 1, 7, 0), kn(1, 1, 1, 7), kn(3, 1, 4, 9, 0)):
-        script.message(data)
-    script.close()
-    script.open(7, [0x80], 1, 7)
-    script.back(6, [7, 0xB, 0x13, 0x23])
-    script.back(6, [])
-    script.write(6, [3, *A_SETS], 40, 2)
-    script.write(6, A_SETS, 40, 5)
-    for k, n, sets in ((2, 6, A_SETS), (3, 4, [7, 0xB, 0xC]), (2, 4, [7, 0xB, 0xC]), (5, 6, A_SETS)):
-        script.judge(k, n, sets)
-    for group in (7, 6, 0x40):
-        script.meet(6, A_SETS, group)
-    for n, sets in ((6, A_SETS), (6, []), (22, set_calls.PAIRS)):
-        script.choose(n, sets)
-    for stops in (crash(2, 1, 1), crash(2, 1, 6), crash(2, 1, 1) + crash(4, 2, 0)):
-        script.read_run(6, A_SETS, PROPOSALS + stops + end(1))
-    for drives in ((2,), (1, 2), (1, 2, 3), (6, 7)):
-        script.simulate(6, A_SETS, PATTERNS, [Crash(drive, 1, 0) for drive in drives])
-    return script

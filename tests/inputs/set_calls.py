@@ -1,4 +1,4 @@
-"""Operations of the calls given n and sets or groups: the chosen core, the writer,
+"""Operations of the calls given n and sets or groups: the cores, the writer,
 the verdict, whether a group meets every set, and Back. First fixed ones at the
 limits, then random ones.
 """
@@ -35,12 +35,12 @@ def limit_tables() -> Iterator[Frame]:
 
 
 def table_limits(script: Script) -> None:
-    """The writer, the verdict, the chosen core and an opening on each table."""
+    """The writer, the verdict, the cores and an opening on each table."""
     for n, sets in limit_tables():
         script.open(n, sets, 1, 7)
         script.write(n, sets, BUFFER, 0)
         script.judge(2, n, sets)
-        script.choose(n, sets)
+        script.cores(n, sets)
 
 
 def group_limits(script: Script) -> None:
@@ -176,6 +176,6 @@ def set_calls(rng: Random, script: Script) -> None:
         elif kind == 2:
             script.meet(n, sets, odd_group(rng, n, sets))
         elif kind == 3:
-            script.choose(n, sets)
+            script.cores(n, sets)
         else:
             odd_back(rng, script, n, sets)
