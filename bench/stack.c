@@ -49,6 +49,7 @@ CALL(write_table, refusal = regdulyn_write_table(drives, sets, count, buffer, si
 CALL(cores, refusal = regdulyn_cores(drives, sets, count, lent, REGDULYN_MAX_CORES).refusal)
 CALL(back, refusal = regdulyn_back(drives, cores, found, lent, REGDULYN_MAX_SETS).refusal)
 CALL(back_of_sets, refusal = regdulyn_back(drives, sets, count, lent, REGDULYN_MAX_SETS).refusal)
+CALL(threshold, refusal = regdulyn_threshold(64, 63, lent, REGDULYN_MAX_SETS).refusal)
 CALL(meets, refusal = regdulyn_meets(drives, sets, count, 1).refusal)
 CALL(verdict, refusal = regdulyn_verdict(4, drives, sets, count).refusal)
 CALL(simulate, refusal = regdulyn_simulate(drives, sets, count, scenario).refusal)
@@ -72,6 +73,7 @@ static struct call of_tables[] = {
     {"regdulyn_cores", cores_call, 0},
     {"regdulyn_back of the cores", back_call, 0},
     {"regdulyn_back of the sets", back_of_sets_call, 0},
+    {"regdulyn_threshold", threshold_call, 0},
     {"regdulyn_meets", meets_call, 0},
     {"regdulyn_verdict", verdict_call, 0},
     {"regdulyn_simulate", simulate_call, 0},

@@ -66,7 +66,7 @@
  * return the refusal. Each makes one call of a function of the library, which takes the state by value and returns it:
  * the proof is of these.
  *
- * Stack: an opening, and each of the calls about tables and runs, takes 80 to 225 thousand bytes of stack; a message, a
+ * Stack: an opening, and each of the calls about tables and runs, takes up to 225 thousand bytes of stack; a message, a
  * close and a send take less than a thousand (docs/CONTROLLER.md).
  *
  * Pointers: `sets`, `bytes` and `buffer` must be valid for as many elements as the length beside them says; with
@@ -129,7 +129,11 @@ enum regdulyn_refusal {
     REGDULYN_REFUSED_PATTERN_DIFFERS = 25,
     REGDULYN_REFUSED_OTHER_ROUND = 26,
     REGDULYN_REFUSED_LISTENER_SENDS = 27,
-    REGDULYN_REFUSED_BROKEN_STATE = 28
+    REGDULYN_REFUSED_BROKEN_STATE = 28,
+
+    /* from n and t */
+    REGDULYN_REFUSED_THRESHOLD = 31,
+    REGDULYN_REFUSED_TOO_MANY_GROUPS = 32
 };
 
 /* What a refusal means, in English; "accepted" for 0, and a text for a number that is no refusal too. Never NULL. */
@@ -163,6 +167,8 @@ static inline const char *regdulyn_refusal_text(uint32_t refusal)
     case REGDULYN_REFUSED_OTHER_ROUND: return "the message is of another round";
     case REGDULYN_REFUSED_LISTENER_SENDS: return "a listener is told to send";
     case REGDULYN_REFUSED_BROKEN_STATE: return "the state breaks a rule";
+    case REGDULYN_REFUSED_THRESHOLD: return "the number of drives that may drop out is not below the number of drives";
+    case REGDULYN_REFUSED_TOO_MANY_GROUPS: return "more than 128 groups of n - t drives would be needed";
     default: return "no refusal has this number";
     }
 }
@@ -522,6 +528,18 @@ regdulyn_size_reply regdulyn_cores(uint8_t n, const uint64_t *sets, size_t count
 regdulyn_size_reply regdulyn_back(uint8_t n, const uint64_t *groups, size_t count, uint64_t *sets, size_t room);
 
 /*
+ * The table of a frame of n drives of which it is known only that at most t drop out: all groups of n - t drives. They
+ * are put into the first places of `sets`, as they rise as numbers; the reply's size is how many there are, and the
+ * other places stay as they were. `sets` has `room` places: REGDULYN_MAX_SETS are always enough. n with these sets is
+ * what the other calls and regdulyn_drive_open take. The cores of this table are all groups of t + 1 drives, and the
+ * chosen one is drives 1 to t + 1.
+ *
+ * Refusals: 3 n is not 1 to 64; 31 t is not below n; 32 more than 128 groups of n - t drives; 13 more than 1024 cores,
+ * which is so for t = 1 and n from 46 on; 14 more sets than `room`.
+ */
+regdulyn_size_reply regdulyn_threshold(uint8_t n, uint8_t t, uint64_t *sets, size_t room);
+
+/*
  * Whether a group of drives has a drive in common with every set of the table of n drives and `count` sets. Exactly
  * then it holds a core.
  *
@@ -567,8 +585,8 @@ regdulyn_simulation_reply regdulyn_simulate_file(uint8_t n, const uint64_t *sets
                                                  size_t length);
 
 /*
- * What the two programs print: the listing of a table, or of a table with a run file behind it, as text without a
- * final 0 into text[start], text[start + 1], ..; the reply's size is how many bytes. The buffer has `room` bytes in
+ * What the programs print for a file: the listing of a table, or of a table with a run file behind it, as text without
+ * a final 0 into text[start], text[start + 1], ..; the reply's size is how many bytes. The buffer has `room` bytes in
  * all, those before `start` among them: REGDULYN_MAX_LISTING from `start` on are always enough. No other byte of the
  * buffer changes.
  *

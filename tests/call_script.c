@@ -16,6 +16,7 @@
  *   V  k 1, n 1, list of sets: the verdict on k
  *   H  n 1, group 8, list of sets: whether the group meets every set
  *   K  n 1, list of sets: the cores, the chosen one first
+ *   T  n 1, t 1: the table of all groups of n - t drives
  *   R  n 1, length 2, then so many bytes, list of sets: the simulated exchange of a run file
  *   X  n 1, 64 pattern numbers of 2, mask of the drives that stop 8, 64 rounds of 1, 64 sends of 1, list of sets: the
  *      simulated exchange
@@ -273,6 +274,13 @@ static void meets(void)
         printf("%s\n", reply.meets ? "meets" : "misses");
 }
 
+static void threshold(void)
+{
+    uint8_t n = byte(), t = byte();
+    memset(lent, FILLING, sizeof lent);
+    print_sets("found", regdulyn_threshold(n, t, lent, REGDULYN_MAX_SETS));
+}
+
 static void simulate_file(void)
 {
     uint8_t n = byte();
@@ -311,6 +319,7 @@ int main(void)
         case 'V': verdict(); break;
         case 'H': meets(); break;
         case 'K': cores(); break;
+        case 'T': threshold(); break;
         case 'R': simulate_file(); break;
         case 'X': simulate(); break;
         }

@@ -1,11 +1,12 @@
-"""Seeded inputs for the two programs: accepted ones and damaged ones.
+"""Inputs for the programs: accepted ones and damaged ones.
 
 `table_inputs` and `run_inputs` yield bytes. Both start with a fixed list that
 covers every refusal number, every cut of a file and the limits, and go on at
 random. The same seed gives the same inputs. Somewhat more than half are
 accepted. `long_tables` and `long_runs` yield inputs about as long as the
 programs' buffers, and longer, and `hard_tables` tables on which the search for
-cores goes far.
+cores goes far. `threshold_inputs` yields n and t around every limit, and
+`fixed_thresholds` a few, with every refusal.
 """
 
 from itertools import chain, combinations, islice, product
@@ -19,7 +20,8 @@ from inputs.records import (MARKS, UNKNOWN_MARKS, Crash, Records, crash, frame,
 from inputs.scenarios import accepted_run, spoil_crash, touch_every_set
 
 # The refusals that each program can print.
-REFUSALS = {"table": {1, 2, 3, 4, 5, 6, 7, 13}, "run": {1, 2, 3, 4, 5, 6, 7, 8, 9, 10, 11, 13}}
+REFUSALS = {"table": {1, 2, 3, 4, 5, 6, 7, 13}, "run": {1, 2, 3, 4, 5, 6, 7, 8, 9, 10, 11, 13},
+            "threshold": {1, 3, 7, 13, 31, 32}}
 
 
 # Long inputs
@@ -251,3 +253,27 @@ def run_inputs(seed: int, count: int) -> Iterator[bytes]:
     """So many inputs of the run program."""
     fixed = chain(fixed_runs(), fixed_run_refusals())
     return islice(chain(fixed, random_runs(Random(seed))), count)
+
+
+# Threshold inputs
+
+def fixed_thresholds() -> Iterator[bytes]:
+    """Limits that are accepted; each refusal; then two faults at once."""
+    accepted = ((6, 2), (1, 0), (64, 0), (9, 4), (45, 1), (16, 2))
+    refused = ((0, 0), (65, 1), (5, 5), (5, 6), (10, 5), (17, 2), (46, 1), (64, 1))
+    yield from map(bytes, accepted)
+    yield from (b"", b"\6", b"\6\2\0")
+    yield from map(bytes, refused)
+    yield from (b"\0", b"\0\0\0", b"\5\5\0", bytes((65, 70)), bytes((64, 2)))
+
+
+def threshold_inputs() -> Iterator[bytes]:
+    """Too few bytes and too many, also where n or t is refused; then for each n the
+    lowest t, those around n, and the highest."""
+    yield b""
+    for pair in (b"\6\2", b"\0\0", b"\5\5", b"\x40\2", b"\x2e\1"):
+        yield pair[:1]
+        yield from (pair + more for more in (b"\0", pair, bytes(BUFFER), bytes(70_000)))
+    for n in (*range(67), 128, 255):
+        around = {t for t in (*range(6), *range(n - 5, n + 2), 254, 255) if 0 <= t <= 255}
+        yield from (bytes([n, t]) for t in sorted(around))

@@ -10,10 +10,10 @@ import sys
 from pathlib import Path
 
 ROOT = Path(__file__).resolve().parent.parent
-sys.path[:0] = [str(ROOT / "reference"), str(ROOT / "tests")]
+sys.path[:0] = [str(ROOT / "reference"), str(ROOT / "tests"), str(ROOT / "tools")]
 
 from cases import (calls, definitions, drives, exchanges, files, generated,  # noqa: E402
-                   marked, samples)
+                   marked, samples, thresholds)
 
 GROUPS = (
     marked.marked_cases, marked.example_cases,
@@ -21,6 +21,7 @@ GROUPS = (
     calls.call_refusals, calls.simulate_refusals, calls.back_refusals, calls.writer_cases,
     definitions.table_definitions, definitions.verdict_definitions, definitions.wide_tables,
     definitions.large_tables,
+    thresholds.threshold_samples, thresholds.threshold_pairs, thresholds.count_cases,
     drives.opening_cases, drives.state_refusals, drives.send_cases, drives.message_refusals,
     drives.message_cases, drives.close_cases,
     samples.call_samples, samples.run_samples,

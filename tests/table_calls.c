@@ -120,6 +120,12 @@ int main(void)
     fresh();
     print_sets("back, 2 places", regdulyn_back(6, cores, 4, lent, 2));
     print_sets("back, no groups", regdulyn_back(6, NULL, 0, lent, REGDULYN_MAX_SETS));
+    print_sets("threshold", regdulyn_threshold(4, 2, lent, 6));
+    fresh();
+    print_sets("threshold, 5 places", regdulyn_threshold(4, 2, lent, 5));
+    print_sets("threshold, none left", regdulyn_threshold(4, 4, lent, REGDULYN_MAX_SETS));
+    print_sets("threshold, too many groups", regdulyn_threshold(64, 2, lent, REGDULYN_MAX_SETS));
+    print_sets("threshold, too many cores", regdulyn_threshold(46, 1, lent, REGDULYN_MAX_SETS));
 
     static const uint64_t groups[] = {0xb, 0x3f, 0xc, 0, 0x40};
     for (size_t i = 0; i < sizeof groups / sizeof *groups; i++)
@@ -171,6 +177,10 @@ int main(void)
     /* no places, or no bytes, and NULL for them */
     print_sets("cores, no places", regdulyn_cores(6, sets, count, NULL, 0));
     print_sets("back, no places", regdulyn_back(6, cores, 4, NULL, 0));
+    print_sets("threshold, no places", regdulyn_threshold(4, 2, NULL, 0));
+    print_sets("threshold, none left and no places", regdulyn_threshold(4, 4, NULL, 0));
+    print_sets("threshold, too many groups and no places", regdulyn_threshold(64, 2, NULL, 0));
+    print_sets("threshold, too many cores and no places", regdulyn_threshold(46, 1, NULL, 0));
     print_text("write, no places", regdulyn_write_table(6, sets, count, NULL, 0, 0), 0);
     print_text("write, no places from 1 on", regdulyn_write_table(6, sets, count, NULL, 0, 1), 0);
     print_table("read, no places", regdulyn_read_table(file, sizeof file, NULL, 0));

@@ -265,7 +265,7 @@ def join(archives: list[Path], made: Path, ar: str, lock: int) -> None:
 
 
 def listing(kind: str, data: bytes) -> bytes:
-    """What the proved program of a kind, table or run, prints for a file."""
+    """What the proved program of a kind, table, run or threshold, prints for its input."""
     path = built(program_of(f"{kind}_program"))
     try:
         try:

@@ -1,6 +1,7 @@
 """The command `./regdulyn`: its words, and what each command does and how it ends."""
 
 import os
+import re
 import signal
 import stat
 import sys
@@ -58,6 +59,13 @@ def write(output: bytes) -> None:
         raise Failure(WRONG_USE, f"cannot write: {error.strerror}") from error
 
 
+def write_file(command: str, made: bytes) -> None:
+    """Writes the bytes of a file to standard output, unless a terminal would show them."""
+    if sys.stdout is not None and sys.stdout.isatty():
+        raise Failure(WRONG_USE, f"{command} writes bytes, and standard output is a terminal; add > FILE")
+    write(made)
+
+
 def drop_output() -> None:
     """What is still to be written goes nowhere, so that the end of the process does not try again."""
     os.dup2(os.open(os.devnull, os.O_WRONLY), sys.stdout.fileno())
@@ -74,6 +82,14 @@ def spoken(name: str) -> str:
 
 # Commands
 
+def answer(kind: str, data: bytes, unproved: bool) -> bytes:
+    """What the proved program of a kind prints, or the second program, which is said."""
+    if not unproved:
+        return building.listing(kind, data)
+    complain("regdulyn: not proved: the second program answers")
+    return model.listing(kind, data)
+
+
 class Use(NamedTuple):
     """A command's file, and whether the second program answers."""
 
@@ -81,10 +97,7 @@ class Use(NamedTuple):
     unproved: bool
 
     def listing(self, kind: str, data: bytes) -> bytes:
-        if not self.unproved:
-            return building.listing(kind, data)
-        complain("regdulyn: not proved: the second program answers")
-        return model.listing(kind, data)
+        return answer(kind, data, self.unproved)
 
 
 def end_of(number: int, hint: str = "") -> int:
@@ -139,9 +152,7 @@ def make(use: Use) -> int:
         complain(f"{name}:{line}: {message}")
     if made is None:
         return REFUSED
-    if sys.stdout is not None and sys.stdout.isatty():
-        raise Failure(WRONG_USE, "make writes bytes, and standard output is a terminal; add > FILE")
-    write(made)
+    write_file("make", made)
     return DONE
 
 
@@ -196,6 +207,14 @@ def picture(use: Use) -> int:
     return end_of(number, hint_for(kind, data, number))
 
 
+def threshold(n: int, t: int, unproved: bool) -> int:
+    printed = answer("threshold", bytes([n, t]), unproved)
+    number = model.refusal_in(printed)
+    if not number:
+        write_file("threshold", printed)
+    return end_of(number)
+
+
 def library() -> int:
     write(f"{building.library()}\n".encode())
     return DONE
@@ -205,15 +224,29 @@ COMMANDS: dict[str, tuple[Callable[[Use], int], str]] = {
     "table": (table, helps.TABLE), "run": (run, helps.RUN), "explain": (explain, helps.EXPLAIN),
     "picture": (picture, helps.PICTURE), "make": (make, helps.MAKE), "show": (show, helps.SHOW),
 }
-HELPS = {name: text for name, (_, text) in COMMANDS.items()} | {"library": helps.LIBRARY}
+HELPS = {name: text for name, (_, text) in COMMANDS.items()} | {"threshold": helps.THRESHOLD, "library": helps.LIBRARY}
 # The commands that a proved program answers.
-PROVED = ("table", "run", "explain", "picture")
+PROVED = ("table", "run", "explain", "picture", "threshold")
 
 
 # Words of the command line
 
 def wrong_use(what: str) -> NoReturn:
     raise Failure(WRONG_USE, f"{what}; see ./regdulyn --help")
+
+
+def one_byte(word: str, what: str) -> int:
+    """A decimal number; those above 255 count as 255, which is above every limit too."""
+    if not re.fullmatch("[0-9]+", word):
+        wrong_use(f"{what} is {word!r}, which is no decimal number")
+    return min(int(word.lstrip("0")[:4] or "0"), 255)
+
+
+def two_numbers(words: list[str]) -> tuple[int, int]:
+    """The numbers of drives that a frame has, and that may drop out."""
+    if len(words) != 2:
+        wrong_use(f"threshold takes two numbers, and here {'is' if len(words) < 2 else 'are'} {len(words) or 'none'}")
+    return one_byte(words[0], "the number of drives"), one_byte(words[1], "the number that may drop out")
 
 
 def main(words: list[str]) -> int:
@@ -236,6 +269,8 @@ def main(words: list[str]) -> int:
         if files or options:
             wrong_use("library takes no file and no option")
         return library()
+    if command == "threshold":
+        return threshold(*two_numbers(files), bool(options))
     if len(files) != 1:
         wrong_use(f"{command} takes one file, and here {'are' if files else 'is'} {len(files) or 'none'}")
     if options and command not in PROVED:

@@ -175,9 +175,12 @@ def kind_of(data: bytes) -> str:
 
 # The second program's answer
 
+PROGRAMS = {"table": regdulyn.table_program, "run": regdulyn.run_program, "threshold": regdulyn.threshold_program}
+
+
 def listing(kind: str, data: bytes) -> bytes:
-    """What the second program of a kind, table or run, prints for a file."""
-    return regdulyn.table_program(data) if kind == "table" else regdulyn.run_program(data)
+    """What the second program of a kind, table, run or threshold, prints for its input."""
+    return PROGRAMS[kind](data)
 
 
 def refusal_of(kind: str, data: bytes) -> int:

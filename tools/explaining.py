@@ -1,13 +1,14 @@
-"""A file in words, for who reads it against the wiring: each survivor set and core by drive numbers, which sets the
-normal table drops, which drives stand in no set, and which drives talk.
+"""A file in words, for who reads it against the wiring: each survivor set and core by drive numbers, whether the sets
+are all groups of one size, which sets the normal table drops, which drives stand in no set, and which drives talk.
 
 Sets kept, cores and the chosen core are taken from the table's listing.
 """
 
+from math import comb
 from typing import Iterator
 
 from contents import Contents, counted, drive_list
-from regdulyn.masks import all_drives, drives, is_part, mask_of
+from regdulyn.masks import all_drives, drives, is_part, mask_of, size
 
 
 def listed(printed: bytes, word: str) -> list[int]:
@@ -37,6 +38,7 @@ def table_lines(contents: Contents, printed: bytes) -> Iterator[str]:
     yield ""
     yield f"survivor sets: {len(kept)}"
     yield from (f"  set {mask:x}: {drive_list(drives(mask))}" for mask in kept)
+    yield from threshold_lines(contents.drives, kept)
     dropped = list(dropped_lines(contents.sets, kept))
     yield f"sets that the table drops: {len(dropped) or 'none'}"
     yield from dropped
@@ -47,6 +49,13 @@ def table_lines(contents: Contents, printed: bytes) -> Iterator[str]:
         yield f"  core {mask:x}: {drive_list(drives(mask))}{', the chosen one' if mask == chosen else ''}"
     yield f"drives that talk, the chosen core: {numbers(chosen)}"
     yield f"drives that listen: {numbers(frame & ~chosen)}"
+
+
+def threshold_lines(n: int, kept: list[int]) -> Iterator[str]:
+    """One line where the sets are all groups of one size, smaller than the frame."""
+    stay = size(kept[0])
+    if stay < n and len(kept) == comb(n, stay) and all(size(mask) == stay for mask in kept):
+        yield f"these are all groups of {counted(stay, 'drive')}: at most {n - stay} of the {n} drives may drop out"
 
 
 def union(masks: list[int]) -> int:

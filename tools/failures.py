@@ -1,7 +1,7 @@
 """How a command ends: the exit statuses, the failures that end it with one line, and what each refusal means."""
 
 DONE = 0
-REFUSED = 1      # the file is refused, or a text has mistakes
+REFUSED = 1      # the file or the numbers are refused, or a text has mistakes
 WRONG_USE = 2    # a wrong use, or a file that cannot be read or written
 NO_PROGRAM = 3   # a proved program cannot be built or run, or its listing is not of the file
 
@@ -16,7 +16,7 @@ class Failure(Exception):
 
 
 # The refusals that a file can meet, in the words of the README's table.
-MEANINGS = {
+OF_FILES = {
     1: "the bytes end too soon",
     2: "an unknown mark, or one in the wrong place",
     3: "the number of drives is not 1 to 64",
@@ -29,6 +29,12 @@ MEANINGS = {
     10: "a stop has more sends than the drive can make",
     11: "every survivor set has a drive that stops",
     13: "more than 1024 cores",
+}
+
+# All that a command can meet, those that only n and t can meet too.
+MEANINGS = OF_FILES | {
+    31: "the number of drives that may drop out is not below the number of drives",
+    32: "more than 128 groups of n - t drives would be needed",
 }
 
 

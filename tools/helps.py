@@ -4,6 +4,7 @@ from texts import WORDS
 
 ALL = """\
 usage: ./regdulyn [--unproved] COMMAND FILE
+       ./regdulyn [--unproved] threshold N T
 
   table FILE       prints the listing of a survivor table: its sets, its cores and the verdicts on k
   run FILE         prints the listing of an exchange tried out: a table with a run file behind it
@@ -11,17 +12,18 @@ usage: ./regdulyn [--unproved] COMMAND FILE
   picture FILE     draws a table, or an exchange tried out, as SVG
   make FILE.txt    writes the bytes of a table, or of a table and a run file, from text
   show FILE        prints the text from which make makes the file
+  threshold N T    writes the bytes of the table of N drives of which at most T drop out
   library          builds the proved library for C and prints where it stands
 
 FILE - is standard input. ./regdulyn COMMAND --help says more of a command.
 
---unproved answers at once from the second program, which is not proved; it goes with table, run, explain and
-picture. Without it the first use builds the proved program, which takes minutes; the prover's text goes to
+--unproved answers at once from the second program, which is not proved; it goes with table, run, explain, picture and
+threshold. Without it the first use builds the proved program, which takes minutes; the prover's text goes to
 target/build.log.
 
-exit status: 0 done; 1 the file is refused, or the text has mistakes; 2 a wrong use, or a file that cannot be read or
-written; 3 the proved program cannot be built or run, or its listing is not of the file; 128 and a signal's number
-where that signal ended it
+exit status: 0 done; 1 the file is refused, or N and T are, or the text has mistakes; 2 a wrong use, or a file that
+cannot be read or written; 3 the proved program cannot be built or run, or its listing is not of the file; 128 and a
+signal's number where that signal ended it
 """
 
 TABLE = """\
@@ -43,10 +45,11 @@ meaning of N, and the exit status is 1.
 EXPLAIN = """\
 usage: ./regdulyn [--unproved] explain FILE
 
-Says a table in words, to be read against the wiring: each survivor set and each core by drive numbers, the sets that
-the normal table drops and why, the drives that are in no set, which drives talk and which listen; and of a run file
-the pattern numbers and stops. Sets kept, cores and the chosen core are the proved table program's. Of a refused file
-it says the sets as they are listed; standard error has what is wrong, and the exit status is 1.
+Says a table in words, to be read against the wiring: each survivor set and each core by drive numbers, whether the sets
+are all groups of one size, the sets that the normal table drops and why, the drives that are in no set, which drives
+talk and which listen; and of a run file the pattern numbers and stops. Sets kept, cores and the chosen core are the
+proved table program's. Of a refused file it says the sets as they are listed; standard error has what is wrong, and the
+exit status is 1.
 """
 
 PICTURE = """\
@@ -77,6 +80,16 @@ masks in lower case, no comments. A text is canonical exactly if show prints it 
 
 Of a refused file standard error has what is wrong, each with the byte, from 0, at which its record starts, and the exit
 status is 1. Bytes that are no row of records are not shown: standard error has the first byte that does not fit.
+"""
+
+THRESHOLD = """\
+usage: ./regdulyn [--unproved] threshold N T > FILE
+
+Writes the bytes of a table for a frame of which only this is known: it has N drives, and at most T of them drop out.
+The survivor sets are all groups of N - T drives, and so the cores are all groups of T + 1. The bytes are the proved
+threshold program's. Where N and T are refused nothing is written; standard error has the refusal with its meaning, and
+the exit status is 1: 3 where N is not 1 to 64, then 31 where T is not below N, then 32 where there are more than 128
+groups of N - T drives, then 13 where there are more than 1024 cores.
 """
 
 LIBRARY = """\

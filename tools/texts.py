@@ -11,7 +11,7 @@ from typing import Callable, Iterator, NamedTuple, Optional
 import contents as model
 import mistakes
 from contents import Contents, Place, Stop
-from failures import MEANINGS
+from failures import OF_FILES
 from regdulyn.masks import MAX_DRIVES, mask_of
 
 WORDS = """\
@@ -120,7 +120,7 @@ LINES: dict[str, Callable[[Contents, list[str]], Place]] = {
 def _refused(values: list[str]) -> int:
     exactly(values, 1, "refused")
     number = whole_number(values[0], "the refusal", 1, 255)
-    if number not in MEANINGS:
+    if number not in OF_FILES:
         raise Wrong(f"no file is refused with {number}")
     return number
 
@@ -178,7 +178,7 @@ def text_mistakes(source: str) -> tuple[Optional[bytes], list[tuple[int, str]]]:
     if number == (text.refused or 0):
         return data, []
     if text.refused is not None:
-        how = f"refused with {number}: {MEANINGS[number]}" if number else "not refused"
+        how = f"refused with {number}: {OF_FILES[number]}" if number else "not refused"
         found.append((text.lines[Place("refused")], f"refused {text.refused}, and the file is {how}"))
     return None, by_line(found)
 

@@ -109,6 +109,14 @@ fn cores(input: Input) -> Case {
     )
 }
 
+fn threshold(n: u8, t: u8) -> Case {
+    Case::new(
+        format!("table from n {n}, t {t}"),
+        move |lent| library::threshold(black_box(n), t, &mut lent.sets),
+        move |lent| tables::threshold_sets(black_box(n), t).map(|sets| lent.put(&sets)),
+    )
+}
+
 fn verdict(what: &str, input: Input) -> Case {
     let Input { n, sets, .. } = input;
     let same = sets.clone();
@@ -236,6 +244,7 @@ pub fn all() -> Vec<Case> {
     ];
     cases.extend(inputs::hard_tables().into_iter().map(cores));
     cases.extend([
+        threshold(45, 1),
         verdict("128 sets that share a drive", inputs::one_of_each_pair(true)),
         verdict("120 sets, 14 of 16", inputs::all_but_two(16)),
         verdict("128 sets, 7 pairs", inputs::one_of_each_pair(false)),

@@ -1,20 +1,22 @@
-"""Survivor tables, verdicts and exchanges, written from document 01 and the decisions on it.
+"""Survivor tables, verdicts and exchanges, written from documents 01 and 02 and the decisions on
+them.
 
 The second program: its listings are compared with the proved programs'.
 """
 
 from .exchange import Exchange, close, message, opening, send, send_into
-from .listings import run_program, table_program
+from .listings import run_program, table_program, threshold_program
 from .refusals import Refusal
 from .runs import Crash, Outcome, Scenario, read_run, simulate, stops_by_drive
 from .tables import (back, chosen_core, cores, meets_all, normal_table, read_table,
                      read_table_with_rest, write_table, write_table_into)
+from .thresholds import threshold_table
 from .verdicts import Verdict, verdict
 
 __all__ = [
     "Crash", "Exchange", "Outcome", "Refusal", "Scenario", "Verdict", "back",
     "chosen_core", "close", "cores", "meets_all", "message", "normal_table",
     "opening", "read_run", "read_table", "read_table_with_rest", "run_program",
-    "send", "send_into", "simulate", "stops_by_drive", "table_program", "verdict",
-    "write_table", "write_table_into",
+    "send", "send_into", "simulate", "stops_by_drive", "table_program",
+    "threshold_program", "threshold_table", "verdict", "write_table", "write_table_into",
 ]

@@ -1,4 +1,4 @@
-"""The text that the two programs print.
+"""What the programs print: text, and of the threshold program a table's file.
 
 Masks are in hexadecimal without leading zeros, everything else in decimal;
 each line ends with one newline. A refusal prints one line and nothing else.
@@ -6,38 +6,48 @@ each line ends with one newline. A refusal prints one line and nothing else.
 
 from typing import Callable
 
+from .records import Reader
 from .refusals import Refusal
 from .runs import read_run, simulate
-from .tables import chosen_core, cores, read_table, read_table_with_rest
+from .tables import chosen_core, cores, read_table, read_table_with_rest, write_table
+from .thresholds import threshold_table
 from .verdicts import K_HIGH, K_LOW, Verdict, verdict
 
 
 def table_program(data: bytes) -> bytes:
     """Standard output of the table program for its standard input."""
-    return _text(_table_lines, data)
+    return _output(_table_listing, data)
 
 
 def run_program(data: bytes) -> bytes:
     """Standard output of the run program for its standard input."""
-    return _text(_run_lines, data)
+    return _output(_run_listing, data)
 
 
-def _text(lines: Callable[[bytes], list[str]], data: bytes) -> bytes:
+def threshold_program(data: bytes) -> bytes:
+    """Standard output of the threshold program for its standard input."""
+    return _output(_threshold_file, data)
+
+
+def _output(made: Callable[[bytes], bytes], data: bytes) -> bytes:
     try:
-        printed = lines(data)
+        return made(data)
     except Refusal as refusal:
-        printed = [f"refused {refusal.number}"]
-    return "".join(line + "\n" for line in printed).encode("ascii")
+        return _text([f"refused {refusal.number}"])
 
 
-def _table_lines(data: bytes) -> list[str]:
+def _text(lines: list[str]) -> bytes:
+    return "".join(line + "\n" for line in lines).encode("ascii")
+
+
+def _table_listing(data: bytes) -> bytes:
     n, sets = read_table(data)
     lines = [f"drives {n}"]
     lines += [f"set {mask:x}" for mask in sets]
     lines += [f"core {mask:x}" for mask in cores(n, sets)]
     lines += [f"chosen {chosen_core(n, sets):x}"]
     lines += [_verdict_line(verdict(k, n, sets)) for k in range(K_LOW, K_HIGH + 1)]
-    return lines
+    return _text(lines)
 
 
 def _verdict_line(found: Verdict) -> str:
@@ -48,13 +58,13 @@ def _verdict_line(found: Verdict) -> str:
     return f"k {found.k} no sets {positions} blocks {blocks}"
 
 
-def _run_lines(data: bytes) -> list[str]:
+def _run_listing(data: bytes) -> bytes:
     n, sets, rest = read_table_with_rest(data)
     scenario = read_run(rest, n, sets)
     outcome = simulate(n, sets, scenario.proposals, scenario.crashes)
     lines = [_drive_line(drive, decision)
              for drive, decision in enumerate(outcome.decisions, start=1)]
-    return lines + [f"core {outcome.core:x} stops {outcome.stops}"]
+    return _text(lines + [f"core {outcome.core:x} stops {outcome.stops}"])
 
 
 def _drive_line(drive: int, decision: tuple[int, int] | None) -> str:
@@ -62,3 +72,11 @@ def _drive_line(drive: int, decision: tuple[int, int] | None) -> str:
         return f"drive {drive} stopped"
     pattern, round_number = decision
     return f"drive {drive} decides {pattern} round {round_number}"
+
+
+def _threshold_file(data: bytes) -> bytes:
+    """The file of the table from n and t, one byte each: 1, 7, then the table's."""
+    reader = Reader(data)
+    n, t = reader.take(2)
+    reader.end()
+    return write_table(n, threshold_table(n, t))

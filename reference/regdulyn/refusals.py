@@ -1,4 +1,5 @@
-"""A refusal: one number from document 01's two lists, and nothing else.
+"""A refusal: one number from document 01's two lists or from document 02, and
+nothing else.
 
 Every call of this package raises it before it changes anything it was lent.
 """

@@ -23,6 +23,11 @@ def generator_cases() -> Iterator[Case]:
         yield (f"{name} refusals", {int(text.split()[1]) for text in refused},
                generate.REFUSALS[name])
         yield f"{name} inputs, half accepted", 2 * len(refused) < len(texts), True
+    texts = [regdulyn.threshold_program(data) for data in generate.threshold_inputs()]
+    refused = [text for text in texts if text.startswith(b"refused ")]
+    yield ("threshold refusals", {int(text.split()[1]) for text in refused},
+           generate.REFUSALS["threshold"])
+    yield "threshold inputs, accepted", len(texts) - len(refused), 207
 
 
 TABLE_REFUSALS = {2, 3, 4, 5, 13}
@@ -38,15 +43,16 @@ CALL_ANSWERS = {
     "V": ({"yes", "no"}, TABLE_REFUSALS | {12}),
     "H": ({"meets", "misses"}, TABLE_REFUSALS),
     "K": ({"cores"}, TABLE_REFUSALS),
+    "T": ({"found"}, {3, 13, 31, 32}),
     "R": ({"core"}, TABLE_REFUSALS | {1, 6, 7, 8, 9, 10, 11}),
     "X": ({"core"}, TABLE_REFUSALS | {8, 9, 10, 11}),
 }
 
 
 def script_cases() -> Iterator[Case]:
-    made = list(scripts(5, 3000))
+    made = list(scripts(5, 8200))
     yield ("scripts repeat", [script.data for script in made],
-           [script.data for script in scripts(5, 3000)])
+           [script.data for script in scripts(5, 8200)])
     yield "scripts fit", max(len(script.data) for script in made) <= MAX_BYTES, True
     words, refusals = defaultdict(set), defaultdict(set)
     for script in made:

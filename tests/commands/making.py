@@ -47,6 +47,7 @@ MISTAKES = [
       "2: 65 drives, and there are 1 to 64"]),
     ("refused 4\ndrives 6\nset 1\n", ["1: refused 4, and the file is not refused"]),
     ("refused 12\ndrives 6\nset 1\n", ["1: no file is refused with 12"]),
+    ("refused 31\ndrives 6\nset 1\n", ["1: no file is refused with 31"]),
     ("drives 6\nset zz\nset 40\nstop 7 1 1\n",
      ["2: the mask is 'zz', which is no hexadecimal number", "3: drive 7 above the number of drives, 6",
       "4: no line patterns for 6 drives", "4: drive 7, and there are drives 1 to 6"]),

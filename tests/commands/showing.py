@@ -126,6 +126,13 @@ survivor sets in which no drive stops: set 6, set 8
     yield "explain, run", regdulyn("--unproved", "explain", "-", given=data), (0, (expected + run).encode(), SAID)
     table = data[:data.index(b"PR")]
     yield "explain, table", regdulyn("explain", "-", given=table), (0, expected.encode(), "")
+    for n, sets, lines in (
+            (4, [12, 10, 6, 9, 5, 3, 7], ["these are all groups of 2 drives: at most 2 of the 4 drives may drop out"]),
+            (2, [1, 2], ["these are all groups of 1 drive: at most 1 of the 2 drives may drop out"]),
+            (4, [12, 10, 6, 9, 5], []), (4, [1, 6, 10, 12], []), (3, [7], [])):
+        printed = regdulyn("--unproved", "explain", "-", given=model.table_bytes(model.Contents(n, sets)))[1].decode()
+        found = [line for line in printed.splitlines() if "groups" in line]
+        yield f"explain, n {n} sets {sets}", found, lines
     wrong = model.table_bytes(model.Contents(6, [1, 0x7C, 0]))
     status, printed, said = regdulyn("--unproved", "explain", "-", given=wrong)
     yield "explain, refused", (status, printed.decode(), said.splitlines()[-1]), (

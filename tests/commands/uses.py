@@ -24,7 +24,15 @@ def wrong_uses(work: Path) -> Iterator[Case]:
         ("no file", ["table"], "table takes one file, and here is none" + SEE),
         ("two files", ["run", a, a], "run takes one file, and here are 2" + SEE),
         ("unproved make", ["--unproved", "make", a],
-         "--unproved goes with table, run, explain, picture, and make needs no proved program" + SEE),
+         "--unproved goes with table, run, explain, picture, threshold, and make needs no proved program" + SEE),
+        ("threshold of nothing", ["threshold"], "threshold takes two numbers, and here is none" + SEE),
+        ("threshold of one", ["threshold", "6"], "threshold takes two numbers, and here is 1" + SEE),
+        ("threshold of three", ["threshold", "6", "2", "1"], "threshold takes two numbers, and here are 3" + SEE),
+        ("threshold of words", ["threshold", "six", "2"],
+         "the number of drives is 'six', which is no decimal number" + SEE),
+        ("threshold, hexadecimal", ["threshold", "6", "0x2"],
+         "the number that may drop out is '0x2', which is no decimal number" + SEE),
+        ("threshold, negative", ["threshold", "6", "-1"], "unknown option -1" + SEE),
         ("library with a file", ["library", a], "library takes no file and no option" + SEE),
         ("help of an unknown command", ["tabel", "--help"], "unknown command tabel" + SEE),
         ("directory", ["--unproved", "table", str(work)], f"cannot read {work}: it is a directory\n"),
@@ -65,7 +73,7 @@ def hints(work: Path) -> Iterator[Case]:
 
 
 def helps(_work: Path) -> Iterator[Case]:
-    names = ("table", "run", "explain", "picture", "make", "show", "library")
+    names = ("table", "run", "explain", "picture", "make", "show", "threshold", "library")
     for words in (["--help"], ["-h"], *([name, "--help"] for name in names)):
         status, printed, said = regdulyn(*words)
         yield f"{' '.join(words)}", (status, printed.startswith(b"usage: ./regdulyn "), said), (0, True, "")
@@ -101,6 +109,24 @@ def listings(work: Path) -> Iterator[Case]:
     yield "through links", (done.returncode, done.stdout), (0, model.listing("table", a))
 
 
+def thresholds(_work: Path) -> Iterator[Case]:
+    """The bytes of a table; of refused numbers nothing, the refusal's meaning and status 1."""
+    cases = [("6", "2", 6, 2), ("1", "0", 1, 0), ("45", "1", 45, 1), ("16", "014", 16, 14), ("0", "0", 0, 0),
+             ("65", "70", 65, 70), ("5", "5", 5, 5), ("64", "2", 64, 2), ("46", "1", 46, 1), ("256", "2", 255, 2),
+             ("262", "258", 255, 255), ("6", "256", 6, 255), ("6", "9" * 5000, 6, 255), ("0" * 5000, "1", 0, 1)]
+    for first, second, n, t in cases:
+        made = model.listing("threshold", bytes([n, t]))
+        number = model.refusal_in(made)
+        expected = (1, b"", f"regdulyn: {failures.refused(number)}\n") if number else (0, made, "")
+        name = f"threshold {first[:9]} {second[:9]}"
+        yield f"{name}, unproved", regdulyn("--unproved", "threshold", first, second), (
+            *expected[:2], SAID + expected[2])
+        yield f"{name}, proved", regdulyn("threshold", first, second), expected
+    yield "threshold, refused", regdulyn("threshold", "6", "6"), (
+        1, b"", "regdulyn: refused 31: the number of drives that may drop out is not below the number of drives\n")
+    yield "threshold 6 2, read", regdulyn("table", "-", given=regdulyn("threshold", "6", "2")[1])[0], 0
+
+
 def pictures(_work: Path) -> Iterator[Case]:
     """A picture, or the refusal's meaning; what is drawn is the pictures' own matter."""
     for path in EXAMPLES:
@@ -123,4 +149,5 @@ def meanings(_work: Path) -> Iterator[Case]:
     yield "refusals of the header", set(numbers.values()), {"0", *rows}
     for number, meaning in failures.MEANINGS.items():
         yield f"meaning of {number}", rows.get(str(number), "").split("; ")[0], meaning
-    yield "refusals of files", set(failures.MEANINGS), set().union(*generate.REFUSALS.values())
+    yield "refusals of programs", set(failures.MEANINGS), set().union(*generate.REFUSALS.values())
+    yield "refusals of files", set(failures.OF_FILES), generate.REFUSALS["table"] | generate.REFUSALS["run"]

@@ -1,1 +1,1 @@
-"""Parts of the generator of inputs for the two programs."""
+"""Parts of the generator of inputs for the programs."""

@@ -8,8 +8,8 @@ stands in tests/call_script.c.
 from typing import Callable, Iterable
 
 from regdulyn import (Crash, Exchange, Outcome, Refusal, Verdict, back, close, cores, meets_all,
-                      message, opening, read_run, send_into, simulate, stops_by_drive, verdict,
-                      write_table_into)
+                      message, opening, read_run, send_into, simulate, stops_by_drive,
+                      threshold_table, verdict, write_table_into)
 
 from .frames import MAX_DRIVES
 
@@ -150,6 +150,10 @@ class Script:
     def cores(self, n: int, sets: list[int]) -> None:
         self._add(b"K" + field(n, 1) + list_bytes(sets),
                   answer(lambda: list_line("cores", cores(n, sets))))
+
+    def threshold(self, n: int, t: int) -> None:
+        self._add(b"T" + field(n, 1) + field(t, 1),
+                  answer(lambda: list_line("found", threshold_table(n, t))))
 
     def simulate_file(self, n: int, sets: list[int], data: bytes) -> None:
         def play() -> str:

@@ -55,6 +55,8 @@ def each_kind(script: Script) -> None:
         script.meet(6, A_SETS, group)
     for n, sets in ((6, A_SETS), (6, []), (22, set_calls.PAIRS)):
         script.cores(n, sets)
+    for n, t in ((6, 2), (65, 70), (6, 6), (64, 2), (46, 1)):
+        script.threshold(n, t)
     for stops in (crash(2, 1, 1), crash(2, 1, 6), crash(2, 1, 1) + crash(4, 2, 0)):
         script.simulate_file(6, A_SETS, PROPOSALS + stops + end(1))
     for drives in ((2,), (1, 2), (1, 2, 3), (6, 7)):

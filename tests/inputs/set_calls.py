@@ -1,11 +1,12 @@
 """Operations of the calls given n and sets or groups: the cores, the writer,
 the verdict, whether a group meets every set, and Back. First fixed ones at the
-limits, then random ones.
+limits, then random ones. And the table from n and t, for all small n and t.
 """
 
+from functools import partial
 from itertools import combinations, product
 from random import Random
-from typing import Iterator
+from typing import Iterable, Iterator
 
 from regdulyn import Refusal, cores, write_table
 
@@ -109,7 +110,17 @@ def hard_groups(script: Script) -> None:
         script.back(n, groups if 0 < len(groups) <= 512 else sets)
 
 
-LIMITS = (table_limits, group_limits, verdict_limits, writer_limits, back_limits, hard_groups)
+COUNTS = (*range(71), 255)
+
+
+def thresholds(script: Script, frames: Iterable[int]) -> None:
+    """The table from each of these n and every t."""
+    for n, t in product(frames, COUNTS):
+        script.threshold(n, t)
+
+
+LIMITS = (table_limits, group_limits, verdict_limits, writer_limits, back_limits, hard_groups,
+          *(partial(thresholds, frames=COUNTS[place::4]) for place in range(4)))
 
 
 # Random ones

@@ -58,6 +58,50 @@ pub fn accept(n: u8, sets: &[u64]) -> Answer<Table> {
     complete(n, sets)
 }
 
+/// How many groups of k out of n drives there are, held at 1025.
+fn group_count(n: u64, k: u64) -> u64 {
+    let mut count = 1;
+    for i in 0..k.min(n - k) {
+        count = count * (n - i) / (i + 1);
+        if count > 1024 {
+            return 1025;
+        }
+    }
+    count
+}
+
+/// The groups of k out of n drives, by mask, each from the one before; k is 1 to n.
+fn groups(n: u8, k: u8, count: u64) -> Vec<u64> {
+    let mut made = Vec::with_capacity(count as usize);
+    let (mut group, last) = (full(k), full(k) << (n - k));
+    while group != last {
+        made.push(group);
+        let low = group & group.wrapping_neg();
+        let up = group + low;
+        group = up | ((group ^ up) / low >> 2);
+    }
+    made.push(last);
+    made
+}
+
+/// All groups of n - t drives: 3, 31, 32, 13.
+pub fn threshold_sets(n: u8, t: u8) -> Answer<Vec<u64>> {
+    if !is_frame(n) {
+        return Err(3);
+    }
+    if t >= n {
+        return Err(31);
+    }
+    let count = group_count(n.into(), t.into());
+    if count > 128 {
+        return Err(32);
+    }
+    if group_count(n.into(), u64::from(t) + 1) > 1024 {
+        return Err(13);
+    }
+    Ok(groups(n, n - t, count))
+}
+
 /// The mark at the start of the bytes, and what stands behind it.
 pub fn mark(bytes: &[u8]) -> Answer<([u8; 2], &[u8])> {
     bytes.split_first_chunk::<2>().map(|(mark, rest)| (*mark, rest)).ok_or(1)

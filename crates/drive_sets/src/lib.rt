@@ -23,7 +23,7 @@ pub const MAX_DRIVES: u8 = 64;
 // How many bytes a pattern number takes.
 pub const PATTERN_BYTES: usize = 2;
 
-// Why a call is refused, by document 01's list; `number` has its numbers.
+// Why a call is refused, by the lists of documents 01 and 02; `number` has its numbers.
 pub enum Refusal {
     // From the input.
     EndsTooSoon,
@@ -50,6 +50,9 @@ pub enum Refusal {
     OtherRound,
     ListenerSends,
     BrokenState,
+    // From n and t.
+    Threshold,
+    TooManyGroups,
 }
 
 // What a call answers, where its result stands beside the answer.
@@ -86,6 +89,8 @@ impl Refusal {
             Refusal::OtherRound => 26,
             Refusal::ListenerSends => 27,
             Refusal::BrokenState => 28,
+            Refusal::Threshold => 31,
+            Refusal::TooManyGroups => 32,
         }
     }
 }

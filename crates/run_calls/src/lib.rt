@@ -1,3 +1,3 @@
-// The calls about runs for programs in C, as in `table_calls`: the simulated exchange, and what the two programs print.
+// The calls about runs for programs in C, as in `table_calls`: the simulated exchange, and the listings.
 mod listings;
 mod simulating;

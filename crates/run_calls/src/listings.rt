@@ -1,5 +1,5 @@
-// What the two programs print for the bytes on their input. A file that is refused has a listing too, the line with its
-// number: only 14 refuses a listing.
+// What the table program and the run program print for the bytes on their input. A file that is refused has a listing
+// too, the line with its number: only 14 refuses a listing.
 ghost use mathlib.Core.Path.{_≡_};
 ghost use lib.ListN.{length};
 ghost use Rattle.drive_sets.specs.Lent.{fitting, sizeWritten, bufferAfter};

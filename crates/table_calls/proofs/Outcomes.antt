@@ -12,10 +12,8 @@ use Rattle.drive_sets.specs.Refusals.{Outcome, refused, result, andThen, number
 use Rattle.drive_sets.specs.Lent.{fitting, sizeWritten, bufferAfter}
 use Rattle.drive_sets.specs.Lent.Laws.{has-room, no-room, after-copy, after-none}
 use Rattle.tables.specs.declared.completing.TableWithCores.{TableWithCores}
-use Rattle.tables.specs.declared.calls.SetList.{SetList}
-use Rattle.tables.specs.Answers.{listOutcome}
 use Rattle.tables.specs.Complete.{completeTable, completeOutcome}
-use Rattle.survivor_tables.specs.Tables.{cores, coreList, survivorSets}
+use Rattle.survivor_tables.specs.Tables.{cores, coreList}
 use Rattle.tables.proofs.Accepts.{accept-taken, asks-refused, asks-taken}
 use Rattle.verdicts.specs.declared.Verdict.{Verdict as Held}
 use Rattle.verdicts.specs.Held.{heldIn}
@@ -62,11 +60,6 @@ module _ (n : ℕ) (sets : List ℕ) (t : TableWithCores) (e : completeOutcome t
   cores-listed f =
       let u = accept-taken n sets t e f in
       ap (λ (l : List ℕ). result l) (u .list) ∙ asks-taken n sets t e (λ table. result (cores table)) u
-
-module _ (n : ℕ) (groups : List ℕ) (t : SetList) (e : listOutcome t ≡ survivorSets n groups) where
-  pub back-said : (answer : Answer) → t .answer ≡ answer → outcomeOf answer (take (t .count) (t .sets)) ≡ survivorSets n groups
-  unfolding listOutcome
-  back-said answer f = ap (λ (a : Answer). outcomeOf a (take (t .count) (t .sets))) (sym f) ∙ e
 
 -- ---- verdicts
 

@@ -1,9 +1,11 @@
-// The calls given n and sets or groups: the writer, the cores, the way back, the test of a group and the verdict.
+// The calls given n and sets or groups, and the one given n and t: the writer, the cores, the way back, the table from n
+// and t, the test of a group and the verdict.
 ghost use mathlib.Core.Path.{_≡_};
 ghost use lib.ListN.{length};
 ghost use Rattle.drive_sets.specs.Refusals.{andThen};
 ghost use Rattle.survivor_tables.specs.Tables.{coreList, meetsEvery, survivorSets};
 ghost use Rattle.table_writing.specs.Writing.{writeTable};
+ghost use Rattle.threshold.specs.Threshold.{thresholdList};
 ghost use Rattle.drive_sets.specs.Lent.{fitting, sizeWritten, bufferAfter};
 ghost use Rattle.verdicts.specs.Verdicts.{verdict};
 ghost use Rattle.c_replies.specs.Replies.{sizeReply};
@@ -71,6 +73,23 @@ pub extern "C" fn regdulyn_back(n: u8, groups: &[u64], out: &mut [u64]) -> SizeR
     let answer = t.answer;
     let sets = t.sets;
     let count = t.count;
+    match answer {
+        Answer::Refused(r) => c_replies::refused_size(r),
+        Answer::Accepted => lists::put_list(&sets, count, out),
+    }
+}
+
+// The table from n and t, all groups of n - t drives, over the first places of out; how many sets it has. 3, 31, 32, 13,
+// 14.
+#[no_mangle]
+pub extern "C" fn regdulyn_threshold(n: u8, t: u8, out: &mut [u64]) -> SizeReply
+    ensures { λ r. ⌜ r ≡ sizeReply (sizeWritten (andThen (thresholdList n t) (fitting 0 (length (now (out .entry)))))) ⌝ }
+    ensures { λ _. ⌜ now (out .exit) ≡ bufferAfter (andThen (thresholdList n t) (fitting 0 (length (now (out .entry))))) 0 (now (out .entry)) ⌝ }
+{
+    let made = threshold::threshold_sets(n, t);
+    let answer = made.answer;
+    let sets = made.sets;
+    let count = made.count;
     match answer {
         Answer::Refused(r) => c_replies::refused_size(r),
         Answer::Accepted => lists::put_list(&sets, count, out),

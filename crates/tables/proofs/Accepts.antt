@@ -25,6 +25,8 @@ use Rattle.survivor_tables.specs.Order.{byMask}
 use Rattle.set_orders.specs.Sorting.{precedes}
 use Rattle.survivor_tables.specs.Order.Sort.{length-sort}
 use Rattle.survivor_tables.specs.Hitting.Normal.{hits-normal}
+use Rattle.tables.specs.declared.calls.SetList.{SetList}
+use Rattle.tables.specs.Answers.{listOutcome}
 use Rattle.tables.specs.Complete.{setsOf, Complete, withCores, completeTable, completeOutcome}
 
 module _ {A B : Type 0} where
@@ -95,3 +97,9 @@ module _ {groups out new : List ℕ} {r : ℕ} (room : length out ≡ maxSets) (
   pub dual-found : r ≤ maxSets → (ltb maxSets (length (dual groups)) ≡ false) × (take r new ≡ dual groups)
   unfolding dual precedes
   dual-found m = (le-ltb maxSets (length (dual groups)) (omega (arith, found .total, length-sort byMask (minimals groups))), found-listed found (omega arith))
+
+-- an answer with a list of sets
+module _ (o : Outcome (List ℕ)) (t : SetList) (e : listOutcome t ≡ o) where
+  pub list-said : (answer : Answer) → t .answer ≡ answer → outcomeOf answer (take (t .count) (t .sets)) ≡ o
+  unfolding listOutcome
+  list-said answer f = ap (λ (a : Answer). outcomeOf a (take (t .count) (t .sets))) (sym f) ∙ e

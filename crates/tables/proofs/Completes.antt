@@ -12,8 +12,8 @@ use Rattle.drive_sets.specs.declared.Refusal.the-variants.{TooManyCores}
 use Rattle.drive_sets.specs.declared.Refusal.{Refusal}
 use Rattle.drive_sets.specs.declared.Answer.{Answer}
 use Rattle.drive_sets.specs.declared.Answer.the-variants as answers
-use Rattle.drive_sets.specs.Refusals.{Outcome, refused, result, refuseIf, andThen, number, outcomeOf}
-use Rattle.drive_sets.specs.Refusals.Laws.{refused-no-result, same-result}
+use Rattle.drive_sets.specs.Refusals.{Outcome, refused, result, andThen, number, outcomeOf}
+use Rattle.drive_sets.specs.Refusals.Laws.{refused-no-result, same-result, then-refuse}
 use Rattle.set_orders.specs.declared.normal_form.NormalForm.{NormalForm}
 use Rattle.set_orders.specs.declared.normal_form.NormalForm.the-variants as forms
 use Rattle.set_orders.specs.declared.sorting.Order.the-variants.{BySize}
@@ -81,13 +81,8 @@ module _ (n : ℕ) {part out out' : List ℕ} {found : ℕ} (table : List ℕ) (
 
 pub complete-normal : (n : ℕ) (sets : List ℕ) → completeNormal n (normal sets) ≡ completeSets n sets
 unfolding completeNormal completeSets withinCoreLimit
-complete-normal n sets = go (ltb maxCores (length (cores (normal sets))))
-  where
-    go : (b : Bool)
-        → refuseIf b TooManyCores (result (withCores n (normal sets)))
-        ≡ andThen (refuseIf b TooManyCores (result (normal sets))) (λ table. result (withCores n table))
-    go true = refl
-    go false = refl
+complete-normal n sets =
+    sym (then-refuse (ltb maxCores (length (cores (normal sets)))) TooManyCores (normal sets) (λ table. result (withCores n table)))
 
 -- the answer of the check, then the rest
 module _ (n : ℕ) (sets : List ℕ) (answer : Answer) (e : outcomeOf answer sets ≡ checkedSets n sets) where

@@ -73,7 +73,8 @@ pub fn meets_every(n: u8, sets: &[u64], group: u64) -> Meeting
     }
 }
 
-fn no_list(r: Refusal) -> SetList
+// The answer that is this refusal, and nothing else.
+pub fn no_list(r: Refusal) -> SetList
     ensures { λ t. ⌜ listOutcome t ≡ refused (number r) ⌝ }
     ensures within { λ t. ⌜ ListWithin t ⌝ }
 {

@@ -1,8 +1,8 @@
-// Runs stored inputs through the listings of both programs and prints every text, one after the other. The stored
-// output is what the second program prints for the same inputs; `tests/make_vectors` makes both.
+// Runs stored inputs through the calls of the three programs and prints all that they give, one after the other. The
+// stored output is what the second program prints for the same inputs; `tests/make_vectors` makes both.
 //
-// An input is: one byte, 0 for the table program and 1 for the run program; its length, 2 bytes, lowest first; its
-// bytes.
+// An input is: one byte, 0 for the table program, 1 for the run program and 2 for the threshold program; its length,
+// 2 bytes, lowest first; its bytes.
 ghost use Prim.Native.Nat.{_≤_};
 use libc::STDIN_FILENO;
 use libc::STDOUT_FILENO;
@@ -16,16 +16,20 @@ fn width(s: &[u8]) -> usize
     (records::field(s, 1, 2) % 65536) as usize
 }
 
-// The text of the input at the start.
+// What the input at the start gives.
 fn list(s: &[u8], text: &mut [u8]) -> Writing {
     let input = records::first(records::rest(s, 3), width(s));
-    if records::field(s, 0, 1) == 0 {
+    let kind = records::field(s, 0, 1);
+    if kind == 0 {
         return table_listing::programs::table_listing(input, text, 0);
     }
-    run_listing::programs::run_listing(input, text, 0)
+    if kind == 1 {
+        return run_listing::programs::run_listing(input, text, 0);
+    }
+    threshold_files::threshold_file(input, text, 0)
 }
 
-// Prints the text of the input at the start.
+// Prints what the input at the start gives.
 fn print(s: &[u8]) {
     let mut text = [0u8; MAX_TEXT];
     let w = list(s, &mut text);

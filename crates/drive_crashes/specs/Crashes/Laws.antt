@@ -9,10 +9,9 @@ use lib.ListN.{length, getD, set}
 use lib.Seq.{getD-set-same, getD-set-other}
 use borrow.Author.Tests.{lt-ltb}
 use Rattle.drive_sets.specs.declared.Round.{Round}
-use Rattle.drive_sets.specs.Bools.Laws.{and-intro, and-left, and-right}
 use Rattle.drive_sets.specs.Lists.{all, elem, ordered}
 use Rattle.drive_sets.specs.Lists.Places.{map-same}
-use Rattle.drive_sets.specs.Lists.Laws.{elem-head, elem-tail, elem-last, all-append}
+use Rattle.drive_sets.specs.Lists.Laws.{elem-one, elem-last, ordered-append}
 use Rattle.drive_sets.specs.Masks.{has, single, union, drives, ofDrives}
 use Rattle.drive_sets.specs.Masks.Laws.{has-bounds}
 use Rattle.drive_sets.specs.Masks.OneDrive.{has-insert, insert-lt}
@@ -25,11 +24,8 @@ use Rattle.drive_crashes.specs.Crashes.{noRound, roundAt, crashOfDrive, 
 
 ordered-last : (l : List ℕ) (d : ℕ) → ordered ltb l ≡ true → ((x : ℕ) → elem x l ≡ true → x < d) → ordered ltb (l ++ (d ∷ [])) ≡ true
 unfolding ordered all
-ordered-last [] d h below = refl
-ordered-last (x ∷ l) d h below =
-    and-intro
-    (all-append (ltb x) l (d ∷ []) ∙ and-intro (and-left (all (ltb x) l) (ordered ltb l) h) (and-intro (lt-ltb x d (below x (elem-head x l))) refl))
-    (ordered-last l d (and-right (all (ltb x) l) (ordered ltb l) h) (λ y i. below y (elem-tail y x l i)))
+ordered-last l d h below =
+    ordered-append ltb l (d ∷ []) h refl (λ x y i k. lt-ltb x y (omega (arith, below x i, elem-one y d k)))
 
 -- ---- the drives of a mask with one more above them
 

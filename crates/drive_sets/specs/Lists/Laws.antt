@@ -230,6 +230,17 @@ ordered-range a zero = refl
 ordered-range a (suc k) =
     and-intro (all-intro (ltb a) (range (suc a) k) (λ x h. let w = elem-range x (suc a) k h in lt-ltb a x (w .0))) (ordered-range (suc a) k)
 
+-- one list behind another, each of whose elements stands before its own
+pub ordered-append : (before : ℕ → ℕ → Bool) (l m : List ℕ) → ordered before l ≡ true → ordered before m ≡ true
+    → ((x y : ℕ) → elem x l ≡ true → elem y m ≡ true → before x y ≡ true) → ordered before (l ++ m) ≡ true
+unfolding ordered
+ordered-append before [] m p q f = q
+ordered-append before (x ∷ l) m p q f =
+    and-intro
+    (all-append (before x) l m
+    ∙ and-intro (and-left (all (before x) l) (ordered before l) p) (all-intro (before x) m (λ y h. f x y (elem-head x l) h)))
+    (ordered-append before l m (and-right (all (before x) l) (ordered before l) p) q (λ y z h k. f y z (elem-tail y x l h) k))
+
 -- two ordered lists with the same elements are equal
 module _ (before : ℕ → ℕ → Bool) (asym : (x y : ℕ) → before x y ≡ true → before y x ≡ true → ⊥) where
   pub ordered-unique : (l m : List ℕ) → ordered before l ≡ true → ordered before m ≡ true → ((x : ℕ) → elem x l ≡ elem x m) → l ≡ m

@@ -7,9 +7,9 @@ use Prim.Native.Nat.{ℕ, zero, suc, _+_, _<_, zero-le, suc-le-suc}
 use native.Mathlib.Nat.{add-zero}
 use native.Mathlib.Omega.{arith}
 use lib.ListN.{length, getD, take, drop, take-append-drop}
-use Rattle.drive_sets.specs.Bools.Laws.{clash, or-false-left}
-use Rattle.drive_sets.specs.Lists.{range, any, elem}
-use Rattle.drive_sets.specs.Lists.Laws.{elem-head, elem-tail, elem-cases, elem-none, any-append}
+use Rattle.drive_sets.specs.Bools.Laws.{clash, and-intro, and-left, and-right, or-false-left}
+use Rattle.drive_sets.specs.Lists.{range, all, any, elem, ordered}
+use Rattle.drive_sets.specs.Lists.Laws.{elem-head, elem-tail, elem-cases, elem-none, any-append, all-elem, all-intro}
 
 -- ---- by place
 
@@ -103,3 +103,17 @@ without-one x (z ∷ l) e = ⊎-elim (λ q. (l, first q)) (λ q. let w = without
           (λ p. ⊎-elim (λ o. inl o) (λ o. inr (elem-tail y z rest o)) (w .others y p))
           (elem-cases y z l i);
     }
+
+-- ---- the image of an ordered list under a function that keeps the order
+
+pub ordered-map : (before : ℕ → ℕ → Bool) (f : ℕ → ℕ) (l : List ℕ) → ordered before l ≡ true
+    → ((x y : ℕ) → elem x l ≡ true → elem y l ≡ true → before x y ≡ true → before (f x) (f y) ≡ true) → ordered before (map f l) ≡ true
+unfolding ordered
+ordered-map before f [] p up = refl
+ordered-map before f (x ∷ l) p up =
+    let first = and-left (all (before x) l) (ordered before l) p in
+    and-intro
+    (all-intro (before (f x)) (map f l) (λ z h.
+    let m = map-elem f z l h in
+    rw (m .2) (up x (m .0) (elem-head x l) (elem-tail (m .0) x l (m .1)) (all-elem (before x) l (m .0) first (m .1)))))
+    (ordered-map before f l (and-right (all (before x) l) (ordered before l) p) (λ y z h k. up y z (elem-tail y x l h) (elem-tail z x l k)))

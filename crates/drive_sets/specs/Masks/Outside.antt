@@ -1,11 +1,14 @@
--- The drives 1 to n outside a set: what is part of them misses the set, and what meets them is no part of it.
+-- The drives 1 to n outside a set: what is part of them misses the set, what meets them is no part of it, and how many
+-- they are.
 use mathlib.Core.Path.{_≡_, sym, ap, _∙_}
 use mathlib.Core.Bool.{true, false, not, _&&_}
-use Prim.Native.Nat.{ℕ, _^_, _≤_, _<_}
+use Prim.Native.Nat.{ℕ, _+_, _^_, _≤_, _<_}
+use native.Mathlib.Omega.{arith}
 use borrow.Author.Tests.{not-true}
 use Rattle.drive_sets.specs.Bools.Laws.{clash, false-of, same-test, and-intro, and-right}
-use Rattle.drive_sets.specs.Masks.{has, full, outside, meets, subset}
-use Rattle.drive_sets.specs.Masks.Laws.{has-minus, has-bounds, full-has, minus-lt, full-lt, subset-has, has-subset, subset-not, has-meets, meets-has, meets-not, not-meets}
+use Rattle.drive_sets.specs.Masks.{has, full, outside, meets, subset, size}
+use Rattle.drive_sets.specs.Masks.Laws.{has-minus, has-bounds, full-has, minus-lt, full-lt, subset-has, has-subset, subset-not, has-meets, meets-has, meets-not, not-meets, subset-full}
+use Rattle.drive_sets.specs.Masks.Sizes.{size-minus, size-full, common-subset}
 
 pub outside-lt : (n m : ℕ) → outside n m < 2 ^ n
 unfolding outside
@@ -35,3 +38,8 @@ module _ (n a m : ℕ) (frame : n ≤ 64) (lt : a < 2 ^ n) where
       (λ h. let w = meets-has n a (outside n m) lt h in
       ap not (false-of (subset a m) (λ e. clash (subset-has (w .0) a m e (w .1)) (outside-not (w .0) (w .2)))))
       (λ h. let w = subset-not n a m lt (not-true (subset a m) h) in has-meets (w .0) a (outside n m) (w .1) (not-outside (w .0) (w .1) (w .2)))
+
+-- how many drives are outside
+pub size-outside : (n m : ℕ) → n ≤ 64 → m < 2 ^ n → size (outside n m) + size m ≡ n
+unfolding outside
+size-outside n m frame lt = omega (arith, size-minus (full n) m, size-full n frame, ap size (common-subset m (full n) (subset-full n m frame lt)))

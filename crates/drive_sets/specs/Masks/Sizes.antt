@@ -18,7 +18,7 @@ use Rattle.drive_sets.specs.Lists.Laws.{elem-head, elem-tail, all-intro,
 use Rattle.drive_sets.specs.Lists.Distinct.{ordered-distinct}
 use Rattle.drive_sets.specs.Masks.{has, single, full, common, minus, subset, size, lowest, drives, ofDrives}
 use Rattle.drive_sets.specs.Masks.Bits.{bit, bit-lt, bit-zero, bit-suc, half-lt, and-odd, and-half, minus-half, minus-odd}
-use Rattle.drive_sets.specs.Masks.Laws.{has-none, has-union, has-minus, has-single, has-bounds, has-ext, union-lt, minus-lt, single-lt, full-lt, full-is, has-subset}
+use Rattle.drive_sets.specs.Masks.Laws.{has-none, has-union, has-minus, has-single, has-bounds, has-ext, union-lt, minus-lt, single-lt, full-lt, full-is, has-subset, subset-refl, subset-trans, subset-lt, subset-minus}
 
 -- ---- the count of ones
 
@@ -250,3 +250,18 @@ lowest-removed m h ne =
 pub drives-none : drives 0 ≡ []
 unfolding drives filter range has
 drives-none = refl
+
+-- a set of k drives or more holds one of k
+pub part-of-size : (j k m : ℕ) → m < 2 ^ 64 → size m ≡ k + j → (g : ℕ) × (subset g m ≡ true) × (size g ≡ k)
+part-of-size zero k m lt e = (m, subset-refl m, omega (arith, e))
+part-of-size (suc j) k m lt e =
+    let some : m ≡ 0 → ⊥ = λ z. omega (arith, e, ap size z, size-none) in
+    let own = lowest-has m lt some in
+    let bounds = has-bounds 64 (lowest m) m lt own in
+    let rest : ℕ = minus m (single (lowest m)) in
+    let less : rest < 2 ^ 64 = minus-lt 64 m (single (lowest m)) lt in
+    let found = part-of-size j k rest less (omega (arith, e, size-remove (lowest m) m (bounds .0) (bounds .1) own)) in (
+      found .0,
+      subset-trans 64 (found .0) rest m (subset-lt 64 (found .0) rest (found .1) less) (found .1) (subset-minus 64 m (single (lowest m)) lt),
+      found .2,
+    )

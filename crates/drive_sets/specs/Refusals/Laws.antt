@@ -13,6 +13,9 @@ module _ {A : Type 0} where
   pub refused-no-result : {r : ℕ} {a : A} → refused r ≡ result a → ⊥
   refused-no-result e = let z : _≡_ {A = ℕ} 0 1 = cc in omega arith
 
+  pub same-refused : {q r : ℕ} → _≡_ {A = Outcome A} (refused q) (refused r) → q ≡ r
+  same-refused e = cc
+
   pub same-result : {a b : A} → _≡_ {A = Outcome A} (result a) (result b) → a ≡ b
   same-result e = cc
 
@@ -26,6 +29,11 @@ module _ {A B : Type 0} where
   pub first-result : (o : Outcome A) (f : A → Outcome B) {b : B} → andThen o f ≡ result b → (a : A) × (o ≡ result a) × (f a ≡ result b)
   first-result (refused r) f e = absurd (refused-no-result e)
   first-result (result a) f e = (a, refl, e)
+
+  -- what comes after a refusal
+  pub then-refuse : (b : Bool) (r : Refusal) (a : A) (f : A → Outcome B) → andThen (refuseIf b r (result a)) f ≡ refuseIf b r (f a)
+  then-refuse true r a f = refl
+  then-refuse false r a f = refl
 
 -- ---- answers
 

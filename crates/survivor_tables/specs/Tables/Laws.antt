@@ -34,6 +34,10 @@ use Rattle.survivor_tables.specs.Tables.{Accepted, isFrame, isSet, isEmp
 
 -- ---- what it is for n and sets to meet no refusal
 
+pub frame-high : (n : ℕ) → isFrame n ≡ true → n ≤ maxDrives
+unfolding isFrame
+frame-high n e = leb-true n maxDrives (and-right (leb 1 n) (leb n maxDrives) e)
+
 not-empty : (l : List ℕ) → isEmpty l ≡ false → 1 ≤ length l
 unfolding isEmpty
 not-empty [] e = absurd (clash refl e)
@@ -63,7 +67,7 @@ table-accepted n sets table e =
     let same = same-result (good .1) in (
       record {
         low = leb-true 1 n (and-left (leb 1 n) (leb n maxDrives) (not-false (isFrame n) (frame .0)));
-        high = leb-true n maxDrives (and-right (leb 1 n) (leb n maxDrives) (not-false (isFrame n) (frame .0)));
+        high = frame-high n (not-false (isFrame n) (frame .0));
         some = not-empty sets (some .0);
         most = ltb-false maxSets (length sets) (most .0);
         good = λ s h. all-elem (isSet n) sets s (not-false (all (isSet n) sets) (good .0)) h;
@@ -190,7 +194,7 @@ survivor-sets-dual n groups sets e =
     let few = passed (ltb maxCores (length groups)) TooManyCores _ (some .1) in
     let good = passed (not (all (isSet n) groups)) BadSet _ (few .1) in
     let found = passed (ltb maxSets (length (dual groups))) TooManySets _ (good .1) in
-    let high = leb-true n maxDrives (and-right (leb 1 n) (leb n maxDrives) (not-false (isFrame n) (frame .0))) in (
+    let high = frame-high n (not-false (isFrame n) (frame .0)) in (
       (λ s h. lt-of-lt-of-le (set-lt n s (all-elem (isSet n) groups s (not-false (all (isSet n) groups) (good .0)) h)) (pow-mono {i = n} {j = 64} high)),
       sym (same-result (found .1)),
     )

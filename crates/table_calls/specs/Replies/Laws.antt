@@ -3,7 +3,7 @@ use mathlib.Core.Path.{_≡_, refl}
 use mathlib.Core.Bool.{Bool, not, _&&_}
 use mathlib.Core.List.{List, []}
 use Prim.Native.Nat.{ℕ}
-use lib.Dec.{leb}
+use lib.Dec.{leb, ltb}
 use lib.ListN.{length, drop}
 use Rattle.drive_sets.specs.Lent.{fitting}
 use Rattle.drive_sets.specs.Lent.Laws.{fitting-numbered}
@@ -19,6 +19,8 @@ use Rattle.survivor_tables.specs.Tables.{isFrame, isSet, isEmpty, withinCoreLim
 use Rattle.survivor_tables.specs.Tables.Numbered.{limit-numbered, normal-numbered, cores-numbered, back-numbered}
 use Rattle.table_files.specs.Files.{ReadTable, takenSet, setList, listedTable, readListed, accepted, readTable, readWhole, tableBytes}
 use Rattle.table_writing.specs.Writing.{writeTable}
+use Rattle.tables.specs.Complete.{completeTable}
+use Rattle.threshold.specs.Threshold.{thresholdSets, thresholdTable, thresholdList}
 use Rattle.verdicts.specs.Verdicts.{verdictOn, verdict}
 use Rattle.c_replies.specs.Replies.{refusalOf}
 use Rattle.table_calls.specs.Replies.{fittingTable, tableReply, meetingReply}
@@ -44,6 +46,18 @@ cores-put-numbered n sets old = put-numbered (coreList n sets) (cores-numbered n
 
 pub back-put-numbered : (n : ℕ) (groups old : List ℕ) → Numbered (andThen (survivorSets n groups) (fitting 0 (length old)))
 back-put-numbered n groups old = put-numbered (survivorSets n groups) (back-numbered n groups) 0 (length old)
+
+pub threshold-numbered : (n t : ℕ) (old : List ℕ) → Numbered (andThen (thresholdList n t) (fitting 0 (length old)))
+unfolding thresholdList thresholdTable completeTable
+threshold-numbered n t old =
+    put-numbered (thresholdList n t)
+    (then-numbered (thresholdTable n t) _
+    (if-numbered (not (isFrame n)) 3 refl
+    (if-numbered (leb n t) 31 refl
+    (if-numbered (ltb maxSets (length (thresholdSets n t))) 32 refl
+    (then-numbered (normalTable n (thresholdSets n t)) _ (normal-numbered n (thresholdSets n t)) (λ table. result-numbered)))))
+    (λ table. result-numbered))
+    0 (length old)
 
 pub write-numbered : (n : ℕ) (sets : List ℕ) (start room : ℕ) → Numbered (andThen (writeTable n sets) (fitting start room))
 unfolding writeTable

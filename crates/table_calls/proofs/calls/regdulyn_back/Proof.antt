@@ -1,6 +1,6 @@
 -- The refusal, or the groups that were found.
 use mathlib.Core.Path.{refl}
-use Rattle.table_calls.proofs.Outcomes.{back-said}
+use Rattle.tables.proofs.Accepts.{list-said}
 use borrow.Author.Needs.{needs}
 use Rattle.table_calls.proofs.calls.regdulyn_back.Statement.{statement}
 use Rattle.table_calls.proofs.calls.regdulyn_back.Tie as tie
@@ -10,6 +10,6 @@ regdulyn-back-spec =
     tie.close
     (tie.spec
     (λ c κs. search needs) (λ c. search needs) (λ c κs. search needs) (λ c. search needs) (λ c. search needs) (λ c κs. search needs)
-    (λ c. let a = c .before .before .before .before .before .before .before .before .args in let t = c .before .before .before .before .before .survivor-sets in rw (← back-said (a .n) (a .groups .now) (t .result) (t .ensures .0) _ (c .before .before .answer .given .1)) (c .refused-size .ensures, refl))
+    (λ c. let t = c .before .before .before .before .before .survivor-sets in rw (← list-said _ (t .result) (t .ensures .0) _ (c .before .before .answer .given .1)) (c .refused-size .ensures, refl))
     (λ c. search needs)
-    (λ c. let a = c .before .before .before .before .before .before .before .before .before .before .before .args in let t = c .before .before .before .before .before .before .before .before .survivor-sets in rw (← back-said (a .n) (a .groups .now) (t .result) (t .ensures .0) _ (c .before .before .before .before .before .enum-told .given .1)) (c .before .before .put-list .ensures)))
+    (λ c. let t = c .before .before .before .before .before .before .before .before .survivor-sets in rw (← list-said _ (t .result) (t .ensures .0) _ (c .before .before .before .before .before .enum-told .given .1)) (c .before .before .put-list .ensures)))

@@ -1,0 +1,2 @@
+-- What the threshold program writes.
+pub mod ThresholdFiles
