@@ -1,6 +1,6 @@
-"""Prints crates/threshold/src/group_counts.rt: the numbers of groups of t out of n drives, for n and t from 0 to 64, held at
-1025, each entry on a line of its own, as `rt fmt` lays out a long list. With --check it prints nothing, and says where
-the file differs, with exit status 1.
+"""Prints crates/threshold/src/group_counts.rt: the numbers of groups of t out of n drives, for n and t from 0 to 64,
+held at 1025, each entry on a line of its own, as `rt fmt` lays out a long list. With --check it prints nothing, and
+says where the file differs, with exit status 1.
 """
 
 import sys

@@ -1,5 +1,5 @@
-// The calls given n and sets or groups, and the one given n and t: the writer, the cores, the way back, the table from n
-// and t, the test of a group and the verdict.
+// The calls given n and sets or groups, and the one given n and t: the writer, the cores, the way back, the table from
+// n and t, the test of a group and the verdict.
 ghost use mathlib.Core.Path.{_≡_};
 ghost use lib.ListN.{length};
 ghost use Rattle.drive_sets.specs.Refusals.{andThen};
@@ -79,8 +79,8 @@ pub extern "C" fn regdulyn_back(n: u8, groups: &[u64], out: &mut [u64]) -> SizeR
     }
 }
 
-// The table from n and t, all groups of n - t drives, over the first places of out; how many sets it has. 3, 31, 32, 13,
-// 14.
+// The table from n and t, all groups of n - t drives, over the first places of out; how many sets it has. 3, 31, 32,
+// 13, 14.
 #[no_mangle]
 pub extern "C" fn regdulyn_threshold(n: u8, t: u8, out: &mut [u64]) -> SizeReply
     ensures { λ r. ⌜ r ≡ sizeReply (sizeWritten (andThen (thresholdList n t) (fitting 0 (length (now (out .entry)))))) ⌝ }

@@ -16,7 +16,8 @@ use Rattle.threshold.specs.Groups.Laws.{count-zero, count-sum, count-all
 both-added : (a b : ℕ) (l : List ℕ) → map (union a) (map (union b) l) ≡ map (union (union a b)) l
 both-added a b l = map-map (union a) (union b) l ∙ map-same (λ g. union a (union b g)) (union (union a b)) l (λ g h. sym (union-assoc a b g))
 
--- the groups of k out of n drives, each with the drives of a set, and their number: those without drive n, then the others
+-- the groups of k out of n drives, each with the drives of a set, and their number: those without drive n, then the
+-- others
 groups-with : (with n k : ℕ) → (k ≡ 0 → ⊥) → k ≤ n
     → map (union with) (groups k n) ≡ map (union with) (groups k (n - 1)) ++ map (union (union with (single n))) (groups (k - 1) (n - 1))
 unfolding groups

@@ -17,8 +17,8 @@ mod counts;
 mod group_counts;
 mod groups;
 
-// The survivor sets: all groups of n - t drives. 3, 31, 32, 13: the constant table tells the last two, so that nothing is
-// listed to refuse.
+// The survivor sets: all groups of n - t drives. 3, 31, 32, 13: the constant table tells the last two, so that nothing
+// is listed to refuse.
 pub fn threshold_sets(n: u8, t: u8) -> SetList
     ensures { λ r. ⌜ listOutcome r ≡ thresholdList n t ⌝ }
     ensures within { λ r. ⌜ ListWithin r ⌝ }

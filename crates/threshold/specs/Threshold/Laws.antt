@@ -180,8 +180,8 @@ module _ (n : ℕ) (frame : n ≤ 64) (t : ℕ) (below : t < n) where
       (then-refuse (ltb maxCores (length (groups (t + 1) n))) TooManyCores (thresholdSets n t) (λ table. result (withCores n table))
       ∙ ap (λ (l : List ℕ). refuseIf (ltb maxCores (length (groups (t + 1) n))) TooManyCores (result (record { n = n; sets = thresholdSets n t; cores = l }))) threshold-cores)
 
--- The call by the numbers of groups alone: 32 exactly where there are more than 128 groups of t out of n drives, and then
--- 13 exactly where there are more than 1024 of t + 1.
+-- The call by the numbers of groups alone: 32 exactly where there are more than 128 groups of t out of n drives, and
+-- then 13 exactly where there are more than 1024 of t + 1.
 pub threshold-by-counts : (n t : ℕ) → thresholdTable n t ≡
     refuseIf (not (isFrame n)) FrameSize
     (refuseIf (leb n t) Threshold
