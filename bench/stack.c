@@ -50,7 +50,7 @@ CALL(cores, refusal = regdulyn_cores(drives, sets, count, lent, REGDULYN_MAX_COR
 CALL(back, refusal = regdulyn_back(drives, cores, found, lent, REGDULYN_MAX_SETS).refusal)
 CALL(back_of_sets, refusal = regdulyn_back(drives, sets, count, lent, REGDULYN_MAX_SETS).refusal)
 CALL(threshold, refusal = regdulyn_threshold(64, 63, lent, REGDULYN_MAX_SETS).refusal)
-CALL(meets, refusal = regdulyn_meets(drives, sets, count, 1).refusal)
+CALL(missed, refusal = regdulyn_missed(drives, sets, count, 1).refusal)
 CALL(verdict, refusal = regdulyn_verdict(4, drives, sets, count).refusal)
 CALL(simulate, refusal = regdulyn_simulate(drives, sets, count, scenario).refusal)
 CALL(simulate_file,
@@ -74,7 +74,7 @@ static struct call of_tables[] = {
     {"regdulyn_back of the cores", back_call, 0},
     {"regdulyn_back of the sets", back_of_sets_call, 0},
     {"regdulyn_threshold", threshold_call, 0},
-    {"regdulyn_meets", meets_call, 0},
+    {"regdulyn_missed", missed_call, 0},
     {"regdulyn_verdict", verdict_call, 0},
     {"regdulyn_simulate", simulate_call, 0},
     {"regdulyn_simulate_file", simulate_file_call, 0},

@@ -406,11 +406,11 @@ typedef struct regdulyn_table_reply {
     uint8_t n; /* the drives of the frame */
 } regdulyn_table_reply;
 
-/* Whether a group meets every set. */
-typedef struct regdulyn_meeting_reply {
+/* The first set that a group misses. */
+typedef struct regdulyn_missed_reply {
+    size_t position; /* its position in the normal table, from 1; 0 where there is none */
     uint32_t refusal;
-    uint8_t meets; /* flag: it does */
-} regdulyn_meeting_reply;
+} regdulyn_missed_reply;
 
 /* A verdict. For a yes `shared` is 1 and the arrays are 0. For a no `shared` is 0. */
 typedef struct regdulyn_verdict_reply {
@@ -454,9 +454,9 @@ REGDULYN_PLACE(regdulyn_table_reply, count, 0);
 REGDULYN_PLACE(regdulyn_table_reply, used, 8);
 REGDULYN_PLACE(regdulyn_table_reply, refusal, 16);
 REGDULYN_PLACE(regdulyn_table_reply, n, 20);
-REGDULYN_SIZE(regdulyn_meeting_reply, 8);
-REGDULYN_PLACE(regdulyn_meeting_reply, refusal, 0);
-REGDULYN_PLACE(regdulyn_meeting_reply, meets, 4);
+REGDULYN_SIZE(regdulyn_missed_reply, 16);
+REGDULYN_PLACE(regdulyn_missed_reply, position, 0);
+REGDULYN_PLACE(regdulyn_missed_reply, refusal, 8);
 REGDULYN_SIZE(regdulyn_verdict_reply, 48);
 REGDULYN_PLACE(regdulyn_verdict_reply, blocks, 0);
 REGDULYN_PLACE(regdulyn_verdict_reply, positions, 32);
@@ -540,13 +540,13 @@ regdulyn_size_reply regdulyn_back(uint8_t n, const uint64_t *groups, size_t coun
 regdulyn_size_reply regdulyn_threshold(uint8_t n, uint8_t t, uint64_t *sets, size_t room);
 
 /*
- * Whether a group of drives has a drive in common with every set of the table of n drives and `count` sets. Exactly
- * then it holds a core.
+ * The first set of the normal table of n drives and `count` sets that a group of drives misses: with which it has no
+ * drive in common. There is none exactly where the group meets every set, and exactly then it holds a core.
  *
  * Refusals: 3 n is not 1 to 64; 2 no sets; 5 more than 128; 4 a set that is 0 or has a drive above n; 13 more than
  * 1024 cores; 4 the group is 0 or has a drive above n.
  */
-regdulyn_meeting_reply regdulyn_meets(uint8_t n, const uint64_t *sets, size_t count, uint64_t group);
+regdulyn_missed_reply regdulyn_missed(uint8_t n, const uint64_t *sets, size_t count, uint64_t group);
 
 /*
  * The verdict on k, 2 to 4, of the table of n drives and `count` sets: yes where any k sets of the normal table, the

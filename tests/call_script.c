@@ -14,7 +14,7 @@
  *   B  n 1, list of groups: the way back
  *   W  n 1, length 2, starting place 8, list of sets: writes the table into a buffer of that length, at most 1536
  *   V  k 1, n 1, list of sets: the verdict on k
- *   H  n 1, group 8, list of sets: whether the group meets every set
+ *   H  n 1, group 8, list of sets: the first set of the normal table that the group misses
  *   K  n 1, list of sets: the cores, the chosen one first
  *   T  n 1, t 1: the table of all groups of n - t drives
  *   R  n 1, length 2, then so many bytes, list of sets: the simulated exchange of a run file
@@ -264,14 +264,18 @@ static void verdict(void)
     print_verdict(regdulyn_verdict(k, n, masks, count));
 }
 
-static void meets(void)
+static void missed(void)
 {
     uint8_t n = byte();
     uint64_t group = field(8);
     size_t count = list();
-    regdulyn_meeting_reply reply = regdulyn_meets(n, masks, count, group);
-    if (accepted(reply.refusal))
-        printf("%s\n", reply.meets ? "meets" : "misses");
+    regdulyn_missed_reply reply = regdulyn_missed(n, masks, count, group);
+    if (!accepted(reply.refusal))
+        return;
+    if (reply.position == 0)
+        printf("none missed\n");
+    else
+        printf("missed %zu\n", reply.position);
 }
 
 static void threshold(void)
@@ -317,7 +321,7 @@ int main(void)
         case 'B': back(); break;
         case 'W': write_table(); break;
         case 'V': verdict(); break;
-        case 'H': meets(); break;
+        case 'H': missed(); break;
         case 'K': cores(); break;
         case 'T': threshold(); break;
         case 'R': simulate_file(); break;

@@ -12,6 +12,11 @@ def meets(group: int, sets: list[int]) -> bool:
     return all(group & mask for mask in sets)
 
 
+def first_missed(group: int, normal: list[int]) -> Optional[int]:
+    """The lowest of the positions, from 1, of the sets that share no drive with the group."""
+    return min((p for p, mask in enumerate(normal, 1) if group & mask == 0), default=None)
+
+
 def smallest_meeting(n: int, sets: list[int]) -> list[int]:
     """The groups that meet every set and of which no smaller part does."""
     meeting = [group for group in range(1 << n) if meets(group, sets)]

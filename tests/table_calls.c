@@ -63,9 +63,9 @@ static void print_text(const char *name, regdulyn_size_reply reply, size_t start
     untouched(text, sizeof text, start, start + reply.size);
 }
 
-static void print_meeting(uint64_t group, regdulyn_meeting_reply reply)
+static void print_missed(uint64_t group, regdulyn_missed_reply reply)
 {
-    printf("group %" PRIx64 ": meets %u, refusal %" PRIu32 "\n", group, (unsigned)reply.meets, reply.refusal);
+    printf("group %" PRIx64 ": missed %zu, refusal %" PRIu32 "\n", group, reply.position, reply.refusal);
 }
 
 static void print_verdict(unsigned k, regdulyn_verdict_reply reply)
@@ -127,9 +127,9 @@ int main(void)
     print_sets("threshold, too many groups", regdulyn_threshold(64, 2, lent, REGDULYN_MAX_SETS));
     print_sets("threshold, too many cores", regdulyn_threshold(46, 1, lent, REGDULYN_MAX_SETS));
 
-    static const uint64_t groups[] = {0xb, 0x3f, 0xc, 0, 0x40};
+    static const uint64_t groups[] = {0xb, 0x3f, 0xc, 3, 0, 0x40};
     for (size_t i = 0; i < sizeof groups / sizeof *groups; i++)
-        print_meeting(groups[i], regdulyn_meets(6, sets, count, groups[i]));
+        print_missed(groups[i], regdulyn_missed(6, sets, count, groups[i]));
 
     for (unsigned k = 1; k <= 4; k++)
         print_verdict(k, regdulyn_verdict((uint8_t)k, 6, sets, count));
@@ -187,7 +187,7 @@ int main(void)
     print_table("read, no bytes", regdulyn_read_table(NULL, 0, lent, REGDULYN_MAX_SETS));
     print_table("read whole, no places", regdulyn_read_whole(file, 36, NULL, 0));
     print_table("read whole, no bytes and no places", regdulyn_read_whole(NULL, 0, NULL, 0));
-    print_meeting(0, regdulyn_meets(6, NULL, 0, 0));
+    print_missed(0, regdulyn_missed(6, NULL, 0, 0));
     print_verdict(2, regdulyn_verdict(2, 6, NULL, 0));
     print_simulation("simulate, no sets", 6, regdulyn_simulate(6, NULL, 0, s));
     print_simulation("simulate the file, no bytes", 6, regdulyn_simulate_file(6, sets, count, NULL, 0));

@@ -8,14 +8,14 @@ from .exchange import Exchange, close, message, opening, send, send_into
 from .listings import run_program, table_program, threshold_program
 from .refusals import Refusal
 from .runs import Crash, Outcome, Scenario, read_run, simulate, stops_by_drive
-from .tables import (back, chosen_core, cores, meets_all, normal_table, read_table,
+from .tables import (back, chosen_core, cores, missed_set, normal_table, read_table,
                      read_table_with_rest, write_table, write_table_into)
 from .thresholds import threshold_table
 from .verdicts import Verdict, verdict
 
 __all__ = [
     "Crash", "Exchange", "Outcome", "Refusal", "Scenario", "Verdict", "back",
-    "chosen_core", "close", "cores", "meets_all", "message", "normal_table",
+    "chosen_core", "close", "cores", "message", "missed_set", "normal_table",
     "opening", "read_run", "read_table", "read_table_with_rest", "run_program",
     "send", "send_into", "simulate", "stops_by_drive", "table_program",
     "threshold_program", "threshold_table", "verdict", "write_table", "write_table_into",

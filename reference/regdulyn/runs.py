@@ -12,7 +12,7 @@ from .exchange import Exchange, check_drive, close, message, opening, send
 from .masks import all_drives, bit, drives, mask_of, size
 from .records import CRASH, END, PATTERN_WIDTH, PROPOSAL, Reader, number
 from .refusals import Refusal
-from .tables import chosen_core
+from .tables import chosen_core, first_missed
 
 
 @dataclass(frozen=True)
@@ -59,7 +59,7 @@ def _check_crash(n: int, core: int, crash: Crash, last: int) -> None:
 def _check_untouched(sets: Sequence[int], crashes: Sequence[Crash]) -> None:
     """11: every survivor set has a drive with a CR."""
     stopped = mask_of(crash.drive for crash in crashes)
-    if all(mask & stopped for mask in sets):
+    if first_missed(sets, stopped) is None:
         raise Refusal(11)
 
 

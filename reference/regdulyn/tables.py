@@ -25,6 +25,11 @@ def core_order(core: int) -> tuple[int, int]:
     return size(core), core
 
 
+def first_missed(sets: Sequence[int], group: int) -> int | None:
+    """The position, from 1, of the first of the sets that the group misses."""
+    return next((place for place, mask in enumerate(sets, 1) if not mask & group), None)
+
+
 @dataclass(frozen=True)
 class Table:
     """The normal table of an accepted list of sets, and its cores in order."""
@@ -86,11 +91,12 @@ def chosen_core(n: int, sets: Sequence[int]) -> int:
     return accept(n, sets).cores[0]
 
 
-def meets_all(n: int, sets: Sequence[int], group: int) -> bool:
-    """Whether the group meets every survivor set."""
+def missed_set(n: int, sets: Sequence[int], group: int) -> int | None:
+    """The position, from 1, of the first set of the normal table that the group
+    misses; none where it meets them all."""
     table = accept(n, sets)
     check_mask(n, group)
-    return all(mask & group for mask in table.normal)
+    return first_missed(table.normal, group)
 
 
 def back(n: int, groups: Sequence[int]) -> list[int]:

@@ -22,8 +22,8 @@ def call_refusals() -> Iterator[Case]:
                      regdulyn.write_table):
             yield f"{call.__name__}: {name}", refusal(call, n, sets), expected
         for group, last in ((1, 0), (0, 4), (1 << 63, 4), (1 << 22, 4)):
-            yield (f"meets_all {group:x}: {name}",
-                   refusal(regdulyn.meets_all, n, sets, group), expected or last)
+            yield (f"missed_set {group:x}: {name}",
+                   refusal(regdulyn.missed_set, n, sets, group), expected or last)
         yield f"verdict: {name}", refusal(regdulyn.verdict, 2, n, sets), expected
         yield f"verdict, k 5: {name}", refusal(regdulyn.verdict, 5, n, sets), 12
         yield f"verdict, k 1: {name}", refusal(regdulyn.verdict, 1, n, sets), 12

@@ -38,8 +38,9 @@ def table_definitions() -> Iterator[Case]:
         yield f"chosen: {name}", regdulyn.chosen_core(n, sets), cores[0]
         yield f"back: {name}", regdulyn.back(n, cores), normal
         some = rng.randint(1, full(n))
-        yield (f"meets {some:x}: {name}", regdulyn.meets_all(n, sets, some),
-               plain.meets(some, sets))
+        missed = regdulyn.missed_set(n, sets, some)
+        yield f"missed by {some:x}: {name}", missed, plain.first_missed(some, normal)
+        yield f"none missed by {some:x}: {name}", missed is None, plain.meets(some, sets)
         yield f"back of any: {name}", regdulyn.back(n, sets), sorted(cores)
         written = regdulyn.write_table(n, sets)
         yield f"write and read: {name}", regdulyn.read_table(written), (n, normal)

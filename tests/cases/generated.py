@@ -41,7 +41,7 @@ CALL_ANSWERS = {
     "B": ({"found"}, {3, 4, 5, 13}),
     "W": ({"written"}, TABLE_REFUSALS | {14}),
     "V": ({"yes", "no"}, TABLE_REFUSALS | {12}),
-    "H": ({"meets", "misses"}, TABLE_REFUSALS),
+    "H": ({"missed", "none"}, TABLE_REFUSALS),
     "K": ({"cores"}, TABLE_REFUSALS),
     "T": ({"found"}, {3, 13, 31, 32}),
     "R": ({"core"}, TABLE_REFUSALS | {1, 6, 7, 8, 9, 10, 11}),

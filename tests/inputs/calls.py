@@ -7,8 +7,8 @@ stands in tests/call_script.c.
 
 from typing import Callable, Iterable
 
-from regdulyn import (Crash, Exchange, Outcome, Refusal, Verdict, back, close, cores, meets_all,
-                      message, opening, read_run, send_into, simulate, stops_by_drive,
+from regdulyn import (Crash, Exchange, Outcome, Refusal, Verdict, back, close, cores, message,
+                      missed_set, opening, read_run, send_into, simulate, stops_by_drive,
                       threshold_table, verdict, write_table_into)
 
 from .frames import MAX_DRIVES
@@ -143,9 +143,11 @@ class Script:
         self._add(b"V" + field(k, 1) + field(n, 1) + list_bytes(sets),
                   answer(lambda: verdict_line(verdict(k, n, sets))))
 
-    def meet(self, n: int, sets: list[int], group: int) -> None:
-        self._add(b"H" + field(n, 1) + field(group, 8) + list_bytes(sets),
-                  answer(lambda: "meets" if meets_all(n, sets, group) else "misses"))
+    def miss(self, n: int, sets: list[int], group: int) -> None:
+        def look() -> str:
+            position = missed_set(n, sets, group)
+            return f"missed {position}" if position else "none missed"
+        self._add(b"H" + field(n, 1) + field(group, 8) + list_bytes(sets), answer(look))
 
     def cores(self, n: int, sets: list[int]) -> None:
         self._add(b"K" + field(n, 1) + list_bytes(sets),

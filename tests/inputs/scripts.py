@@ -52,7 +52,7 @@ def each_kind(script: Script) -> None:
     for k, n, sets in ((2, 6, A_SETS), (3, 4, [7, 0xB, 0xC]), (2, 4, [7, 0xB, 0xC]), (5, 6, A_SETS)):
         script.judge(k, n, sets)
     for group in (7, 6, 0x40):
-        script.meet(6, A_SETS, group)
+        script.miss(6, A_SETS, group)
     for n, sets in ((6, A_SETS), (6, []), (22, set_calls.PAIRS)):
         script.cores(n, sets)
     for n, t in ((6, 2), (65, 70), (6, 6), (64, 2), (46, 1)):

@@ -1,5 +1,5 @@
 """Operations of the calls given n and sets or groups: the cores, the writer,
-the verdict, whether a group meets every set, and Back. First fixed ones at the
+the verdict, the first set that a group misses, and Back. First fixed ones at the
 limits, then random ones. And the table from n and t, for all small n and t.
 """
 
@@ -48,7 +48,16 @@ def group_limits(script: Script) -> None:
     """A group that is empty, small, and above n, on each table."""
     for n, sets in limit_tables():
         for group in (0, 1, full(64)):
-            script.meet(n, sets, group)
+            script.miss(n, sets, group)
+
+
+def missed_positions(script: Script) -> None:
+    """Every group of case A's drives, and one too many; and groups that miss one set
+    alone, the first, the last and some between, of 128 that are handed over falling."""
+    for group in range(1 << 6 | 1):
+        script.miss(6, [0x3C, 2, 3, 1, 0x3E], group)
+    for missed in (*CHOICES[::9], CHOICES[-1]):
+        script.miss(14, CHOICES[::-1], full(14) & ~missed)
 
 
 def verdict_limits(script: Script) -> None:
@@ -119,7 +128,7 @@ def thresholds(script: Script, frames: Iterable[int]) -> None:
         script.threshold(n, t)
 
 
-LIMITS = (table_limits, group_limits, verdict_limits, writer_limits, back_limits, hard_groups,
+LIMITS = (table_limits, group_limits, missed_positions, verdict_limits, writer_limits, back_limits, hard_groups,
           *(partial(thresholds, frames=COUNTS[place::4]) for place in range(4)))
 
 
@@ -185,7 +194,7 @@ def set_calls(rng: Random, script: Script) -> None:
         elif kind == 1:
             script.judge(rng.choice((2, 3, 4) * 4 + NO_BLOCK_COUNTS), n, sets)
         elif kind == 2:
-            script.meet(n, sets, odd_group(rng, n, sets))
+            script.miss(n, sets, odd_group(rng, n, sets))
         elif kind == 3:
             script.cores(n, sets)
         else:

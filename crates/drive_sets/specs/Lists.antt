@@ -3,8 +3,10 @@
 use mathlib.Core.Bool.{Bool, true, false, not, _&&_, _||_, cond}
 use mathlib.Core.List.{List, [], _∷_}
 use mathlib.Core.Option.{Option, none, some, orElse}
-use Prim.Native.Nat.{ℕ, zero, suc, min}
+use Prim.Native.Nat.{ℕ, zero, suc, _+_, min}
 use lib.Dec.{eqb}
+use Rattle.drive_sets.specs.declared.Position.{Position}
+use Rattle.drive_sets.specs.declared.Position.the-variants.{None, At}
 pub mod Laws
 pub mod Distinct
 pub mod Counts
@@ -38,12 +40,13 @@ unfoldable pub any : (ℕ → Bool) → List ℕ → Bool
 any p [] = false
 any p (x ∷ l) = p x || any p l
 
--- the place of the first element that fails the test; the list's length where none does
-unfoldable pub firstFailing : (ℕ → Bool) → List ℕ → ℕ
-firstFailing p [] = 0
-firstFailing p (x ∷ l) =
-    let later = suc (firstFailing p l) in
-    cond (p x) later 0
+-- the position of the first element that fails the test, the list's first being at position i; none where all pass
+unfoldable pub firstFailing : ℕ → (ℕ → Bool) → List ℕ → Position
+firstFailing i p [] = None
+firstFailing i p (x ∷ l) =
+    let later = firstFailing (i + 1) p l in
+    let here = At i in
+    cond (p x) later here
 
 -- x stands in the list
 unfoldable pub elem : ℕ → List ℕ → Bool

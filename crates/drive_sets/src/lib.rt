@@ -4,6 +4,7 @@ ghost use mathlib.Core.Path.{_≡_};
 ghost use lib.Dec.{eqb};
 ghost use Rattle.drive_sets.specs.Counts.{isDrive, isRound};
 ghost use Rattle.drive_sets.specs.Masks.{has, single, full, union, minus, outside, meets, subset, size, lowest};
+ghost use Rattle.drive_sets.specs.Positions.{positionNumber};
 ghost use Rattle.drive_sets.specs.Refusals.{number};
 
 // A drive's number, from 1: a process. The three counts cross to C as the numbers that they are.
@@ -61,6 +62,12 @@ pub enum Answer {
     Refused(Refusal),
 }
 
+// A position in a list, counted from 1, or none.
+pub enum Position {
+    None,
+    At(usize),
+}
+
 impl Refusal {
     pub fn number(self) -> u8
         ensures { λ r. ⌜ r ≡ number self ⌝ }
@@ -91,6 +98,18 @@ impl Refusal {
             Refusal::BrokenState => 28,
             Refusal::Threshold => 31,
             Refusal::TooManyGroups => 32,
+        }
+    }
+}
+
+impl Position {
+    // The position itself, 0 for none.
+    pub fn number(self) -> usize
+        ensures { λ r. ⌜ r ≡ positionNumber self ⌝ }
+    {
+        match self {
+            Position::None => 0,
+            Position::At(position) => position,
         }
     }
 }

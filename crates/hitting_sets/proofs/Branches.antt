@@ -19,7 +19,7 @@ use Rattle.survivor_tables.specs.Hitting.SearchLaws.{below-now}
 use Rattle.hitting_sets.specs.LookAhead.Forbidden.{free-minimal, search-free}
 use Rattle.hitting_sets.specs.LookAhead.CannotExtend.{cannot-extend-search}
 use Rattle.hitting_sets.specs.LookAhead.{forbidden, cannotExtend}
-use Rattle.hitting_sets.specs.Missed.{Candidates}
+use Rattle.hitting_sets.specs.Candidates.{Candidates}
 
 -- m is a minimal hitting set of the sets before i, and misses the set at i
 module _ (sets : List ℕ) (i m : ℕ) (words : (k : ℕ) → getD sets k 0 < 2 ^ 64) (inside : i < length sets) (min : Minimal (take i sets) m) (missed : meets (getD sets i 0) m ≡ false) where

@@ -1,42 +1,61 @@
 -- The search at a place of the list of sets: those before it are seen, those from it on are to come.
 use mathlib.Core.Path.{_≡_, refl, sym, ap, _∙_, subst}
-use mathlib.Core.Bool.{true}
+use mathlib.Core.Bool.{true, false}
 use mathlib.Core.List.{List, [], _∷_}
 use Prim.Native.Nat.{ℕ, zero, suc, _+_, _-_, _≤_, _<_}
+use native.Mathlib.Nat.{le-refl}
 use native.Mathlib.Omega.{arith}
 use lib.Dec.{eqb}
 use lib.ListN.{length, getD, take, drop, drop-of-length-le, length-drop}
-use lib.Seq.{take-suc, take-all, drop-cons, getD-drop}
+use lib.Seq.{take-suc, drop-cons, getD-drop}
 use borrow.Author.Tests.{eqb-true, eqb-false}
 use Rattle.drive_sets.specs.Bools.Laws.{by-test}
-use Rattle.drive_sets.specs.Lists.{firstFailing}
-use Rattle.drive_sets.specs.Lists.FirstFailing.{failing-within, failing-before, failing-there}
+use Rattle.drive_sets.specs.declared.Position.the-variants.{None, At}
+use Rattle.drive_sets.specs.Lists.FirstFailing.{failing-none, failing-at}
+use Rattle.drive_sets.specs.Lists.Laws.{all-elem}
+use Rattle.drive_sets.specs.Lists.Places.{getD-elem}
 use Rattle.drive_sets.specs.Masks.{meets}
-use Rattle.survivor_tables.specs.Hitting.{firstMissed, Minimal, forEach, search}
+use Rattle.survivor_tables.specs.Hitting.{missedFrom, Minimal, forEach, search}
 use Rattle.survivor_tables.specs.Hitting.Laws.{hits-one, minimal-more}
 use Rattle.survivor_tables.specs.Hitting.SearchLaws.{search-met}
-use Rattle.hitting_sets.specs.Missed.{NextMissed}
 
 -- what is listed from m, one place behind i, with each of the drives ds
 abbrev pub Each : List ℕ → ℕ → ℕ → List ℕ → List ℕ
 Each sets i m ds = forEach (search (take (i + 1) sets) (drop (i + 1) sets)) m ds
 
--- the first set that is missed among those from a place on
-pub missed-from : (sets : List ℕ) (pos m r : ℕ) → pos ≤ length sets → r ≡ firstMissed (take (length sets - pos) (drop pos sets)) m → NextMissed sets pos m (pos + r)
-missed-from sets pos m r h e =
-    let rest = drop pos sets in
-    let is : r ≡ firstFailing (λ s. meets s m) rest = e ∙ ap (firstFailing (λ s. meets s m)) (take-all (length sets - pos) rest (omega (arith, length-drop pos sets))) in
-    record {
-      from = omega arith;
-      within = omega (arith, is, failing-within (λ s. meets s m) rest, length-drop pos sets);
-      met = λ i low high.
-          let at : pos + (i - pos) ≡ i = omega arith in
-          ap (λ (k : ℕ). meets (getD sets k 0) m) (sym at)
-          ∙ (ap (λ (s : ℕ). meets s m) (sym (getD-drop pos sets (i - pos) 0)) ∙ failing-before (λ s. meets s m) rest (i - pos) (omega (arith, is, low, high)));
-      missed = λ few.
-          ap (λ (s : ℕ). meets s m) (sym (getD-drop pos sets r 0))
-          ∙ (ap (λ (k : ℕ). meets (getD rest k 0) m) is ∙ failing-there (λ s. meets s m) rest (omega (arith, is, length-drop pos sets)));
-    }
+-- m meets the sets from the place pos up to the place r
+pub record Met (sets : List ℕ) (pos m r : ℕ) : Type 0 where
+  pub from : pos ≤ r
+  pub within : r ≤ length sets
+  pub met : (i : ℕ) → pos ≤ i → i < r → meets (getD sets i 0) m ≡ true
+
+-- the first set that m misses from a place on, at position k, or none
+module _ (sets : List ℕ) (pos m : ℕ) where
+  at-place : (j i : ℕ) → pos + j ≡ i → meets (getD sets i 0) m ≡ meets (getD (drop pos sets) j 0) m
+  at-place j i e = ap (λ (x : ℕ). meets (getD sets x 0) m) (sym e) ∙ ap (λ (s : ℕ). meets s m) (sym (getD-drop pos sets j 0))
+
+  pub missed-next : (k : ℕ) → missedFrom (pos + 1) (drop pos sets) m ≡ At k
+      → (1 ≤ k) × (k - 1 < length sets) × Met sets pos m (k - 1) × (meets (getD sets (k - 1) 0) m ≡ false)
+  missed-next k h =
+      let f = failing-at (λ s. meets s m) (pos + 1) (drop pos sets) k h in
+      let long = length-drop pos sets in
+      let met : Met sets pos m (k - 1) = record {
+        from = omega (arith, f .from);
+        within = omega (arith, f .within, long);
+        met = λ i low high. at-place (i - pos) i (omega arith) ∙ f .before (i - pos) (omega (arith, f .from));
+      } in
+      (omega (arith, f .from), omega (arith, f .within, f .from, long), met, at-place (k - (pos + 1)) (k - 1) (omega (arith, f .from)) ∙ f .there)
+
+  pub none-next : pos ≤ length sets → missedFrom (pos + 1) (drop pos sets) m ≡ None → Met sets pos m (length sets)
+  none-next le h =
+      let all-met = failing-none (λ s. meets s m) (pos + 1) (drop pos sets) .0 h in
+      record {
+        from = le;
+        within = le-refl (length sets);
+        met = λ i low high.
+            at-place (i - pos) i (omega arith)
+            ∙ all-elem (λ s. meets s m) (drop pos sets) _ all-met (getD-elem (drop pos sets) (i - pos) (omega (arith, length-drop pos sets)));
+      }
 
 module _ (sets : List ℕ) (m : ℕ) where
   -- what the search lists from the place i on
@@ -81,7 +100,7 @@ module _ (sets : List ℕ) (m : ℕ) where
         let hit = f i (omega arith) (omega arith) in
         (w .0 ∙ from-met i h hit, λ min. minimal-met i h hit (w .1 min)))
 
-    module _ (next : ℕ) (f : NextMissed sets pos m next) where
+    module _ (next : ℕ) (f : Met sets pos m next) where
       pub passed-search : From pos ≡ From next
       unfolding Passed
       passed-search = passed next (f .from) (f .within) (f .met) .0

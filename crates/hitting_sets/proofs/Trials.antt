@@ -14,14 +14,14 @@ use Rattle.drive_sets.specs.Masks.Sizes.{drives-none}
 use Rattle.drive_sets.specs.Filled.{Filled}
 use Rattle.drive_sets.specs.Filled.Laws.{filled-none, filled-one, filled-over, filled-then, filled-same}
 use Rattle.survivor_tables.specs.Hitting.{Minimal, forEach}
-use Rattle.hitting_sets.specs.Missed.{NextMissed, Candidates}
+use Rattle.hitting_sets.specs.Candidates.{Candidates}
 use Rattle.hitting_sets.specs.Fuel.{Searched}
 use Rattle.drive_sets.specs.Loops.Drives.{Taken, taken-has, taken-drives, taken-lt, taken-left}
-use Rattle.hitting_sets.proofs.Places.{From, Each, from-end, passed-search}
+use Rattle.hitting_sets.proofs.Places.{Met, From, Each, from-end, passed-search}
 
 -- ---- no set is missed: m alone is listed, if there is room
 
-module _ (sets : List ℕ) (m pos i : ℕ) (f : NextMissed sets pos m i) (e : i ≡ length sets) (out : List ℕ) (count : ℕ) (le : count ≤ length out) where
+module _ (sets : List ℕ) (m pos i : ℕ) (f : Met sets pos m i) (e : i ≡ length sets) (out : List ℕ) (count : ℕ) (le : count ≤ length out) where
   only : From sets m pos ≡ m ∷ []
   only = passed-search sets m pos i f ∙ from-end sets m i (omega arith)
 
@@ -44,6 +44,8 @@ module _ (sets : List ℕ) (m pos i : ℕ) (f : NextMissed sets pos m i) (e : i 
 
 -- `rest` is what is left of the drives; `found` are listed so far
 pub record Trying (limited : Bool) (fuel : ℕ) (sets : List ℕ) (m pos i : ℕ) (out₀ out : List ℕ) (count found left rest : ℕ) : Type 0 where
+  pub onward : pos ≤ i
+  pub inside : i < length sets
   pub word : rest < 2 ^ 64
   pub minimal : (d : ℕ) → has d rest ≡ true → Minimal (take (i + 1) sets) (union m (single d))
   pub bound : found ≤ suc (length out)
@@ -52,11 +54,13 @@ pub record Trying (limited : Bool) (fuel : ℕ) (sets : List ℕ) (m pos i : ℕ
   pub whole : 0 < left → (o' : List ℕ) (r : ℕ) → Filled out o' found r (Each sets i m (drives rest)) → Filled out₀ o' count r (From sets m pos)
   pub unspent : limited ≡ false → left ≡ fuel
 
-pub try-start : {limited : Bool} {sets : List ℕ} {m pos i : ℕ} (out : List ℕ) {count left rest : ℕ} → NextMissed sets pos m i → Candidates sets i m rest → rest < 2 ^ 64
+pub try-start : {limited : Bool} {sets : List ℕ} {m pos i : ℕ} (out : List ℕ) {count left rest : ℕ} → Met sets pos m i → i < length sets → Candidates sets i m rest → rest < 2 ^ 64
     → count ≤ length out → Trying limited left sets m pos i out out count count left rest
-try-start {sets = sets} {m = m} {pos = pos} {i = i} out f c w le =
+try-start {sets = sets} {m = m} {pos = pos} {i = i} out f few c w le =
     let same = passed-search sets m pos i f ∙ c .listed in
     record {
+      onward = f .from;
+      inside = few;
       word = w;
       minimal = c .minimal;
       bound = omega arith;
@@ -79,6 +83,8 @@ module _ {limited : Bool} {fuel : ℕ} {sets : List ℕ} {m pos i : ℕ} {out₀
     pub try-on : 0 < left → {o : List ℕ} {found' left' : ℕ} → Searched limited left out o found found' left' (From sets t (i + 1)) → length o ≡ length out
         → Trying limited fuel sets m pos i out₀ o count found' left' next
     try-on lt {o} {found'} {left'} s l = record {
+      onward = y .onward;
+      inside = y .inside;
       word = taken-lt w 64 (y .word);
       minimal = λ e h. y .minimal e (taken-left w e h);
       bound = omega (arith, s .bound);

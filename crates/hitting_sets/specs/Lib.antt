@@ -1,4 +1,4 @@
--- The search for minimal hitting sets: its fuel, its look-ahead, and the first set missed.
+-- The search for minimal hitting sets: its fuel, its look-ahead, and the drives with which it goes on.
 pub mod Fuel
 pub mod LookAhead
-pub mod Missed
+pub mod Candidates

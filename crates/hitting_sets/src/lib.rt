@@ -1,3 +1,2 @@
 // The search for the minimal hitting sets of a list of sets of drives, in one order of the sets and with limited fuel.
-pub mod missed;
 pub mod search;

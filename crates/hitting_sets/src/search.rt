@@ -9,11 +9,12 @@ ghost use Rattle.drive_sets.specs.Lists.{filter};
 ghost use Rattle.drive_sets.specs.Masks.{meets, drives};
 ghost use Rattle.survivor_tables.specs.Hitting.{hits, Minimal, critical, search, minimals};
 ghost use Rattle.hitting_sets.specs.LookAhead.{inAll, privates, forbidden, covered, cannotExtend};
-ghost use Rattle.hitting_sets.specs.Missed.{NextMissed, Candidates};
+ghost use Rattle.hitting_sets.specs.Candidates.{Candidates};
 ghost use Rattle.hitting_sets.specs.Fuel.{Searched};
-use crate::missed::first_missed;
 use drive_sets::Drive;
+use drive_sets::Position;
 use set_orders::MOST_COUNT;
+use survivor_tables::missed::next_missed;
 
 // ---- what is forbidden
 
@@ -115,14 +116,6 @@ fn cannot_extend(sets: &[u64], seen: usize, m: u64) -> bool
 
 // ---- the search
 
-// The place of the first set from `pos` on that m misses, or the number of sets.
-fn next_missed(sets: &[u64], pos: usize, m: u64) -> usize
-    requires { ⌜ pos ≤ length (now sets) ⌝ }
-    ensures { λ r. ⌜ NextMissed (now (sets .entry)) pos m r ⌝ }
-{
-    pos + first_missed(&sets[pos..], m)
-}
-
 // The drives of the set at `next`, which m misses, with which the search goes on from m, a minimal hitting set of the
 // sets before it: those that these sets do not forbid; none where the look-ahead is asked for and finds that m cannot
 // be extended.
@@ -213,10 +206,11 @@ fn search_from(
     ensures { λ r. ⌜ Searched (mode .limited) (tally .left) (now (out .entry)) (now (out .exit)) (tally .found) (r .found) (r .left) (search (take pos (now (sets .entry))) (drop pos (now (sets .entry))) m) ⌝ }
 {
     let room = out.len();
-    let next = next_missed(sets, pos, m);
-    if next == sets.len() {
+    let missed = next_missed(sets, pos, m);
+    let Position::At(at) = missed else {
         return put(out, m, tally);
-    }
+    };
+    let next = at - 1;
     let look_ahead = mode.look_ahead;
     let mut rest = candidates(look_ahead, sets, next, m);
     note(ends, next, rest);

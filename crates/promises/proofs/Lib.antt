@@ -3,6 +3,7 @@
 pub mod Tables
 pub mod Cores
 pub mod Back
+pub mod Missed
 pub mod RoundTrip
 pub mod Verdict
 pub mod Exchange

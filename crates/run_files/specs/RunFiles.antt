@@ -7,7 +7,8 @@ use lib.Dec.{eqb, leb}
 use lib.ListN.{length}
 use Rattle.drive_sets.specs.declared.Refusal.the-variants.{TrailingBytes, DriveNumber, NoneUntouched}
 use Rattle.drive_sets.specs.Refusals.{Outcome, result, refuseIf, andThen}
-use Rattle.survivor_tables.specs.Hitting.{hits}
+use Rattle.drive_sets.specs.Positions.{isNone}
+use Rattle.survivor_tables.specs.Hitting.{firstMissed}
 use Rattle.records.specs.declared.Kind.the-variants.{Proposal, Crash}
 use Rattle.records.specs.declared.Due.the-variants.{AtProposal, AtCrashOrEnd}
 use Rattle.records.specs.Fields.{fieldAt}
@@ -71,9 +72,9 @@ readRecords n core s =
     andThen (readList (crashList n core) noCrash (p .rest)) (λ c.
     result (record { file = record { numbers = p .list; crashes = c .list .crashes }; rest = c .rest })))
 
--- 11: every survivor set has a drive with a CR
+-- 11: every survivor set has a drive with a CR, and none is missed by these drives
 unfoldable pub untouchedLeft : List ℕ → RunFile → Outcome RunFile
-untouchedLeft sets f = refuseIf (hits sets (crashed (f .crashes))) NoneUntouched (result f)
+untouchedLeft sets f = refuseIf (isNone (firstMissed sets (crashed (f .crashes)))) NoneUntouched (result f)
 
 -- a run file and nothing more: 7, then 11
 unfoldable pub wholeRun : List ℕ → ReadRun → Outcome RunFile

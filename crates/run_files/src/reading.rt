@@ -12,7 +12,9 @@ use crate::proposals;
 use drive_crashes::Crashes;
 use drive_sets::Answer;
 use drive_sets::Pattern;
+use drive_sets::Position;
 use drive_sets::Refusal;
+use survivor_tables::missed::first_missed;
 use tables::calls::Chosen;
 
 // What a run file says, where it is accepted: the pattern numbers, drive 1 first, and the crashes by drive.
@@ -96,9 +98,10 @@ fn read_behind(n: u8, core: u64, sets: &[u64], s: &[u8]) -> RunFile
             if used < s.len() {
                 return refused_file(Refusal::TrailingBytes);
             }
-            if tables::calls::meets_all(sets, crashes.crashed) {
+            let untouched = first_missed(sets, crashes.crashed);
+            let Position::At(_) = untouched else {
                 return refused_file(Refusal::NoneUntouched);
-            }
+            };
             RunFile {
                 answer: Answer::Accepted,
                 numbers,

@@ -4,7 +4,8 @@ use mathlib.Core.List.{List, [], _∷_}
 use Prim.Native.Nat.{ℕ}
 use Rattle.drive_sets.specs.declared.Refusal.the-variants.{NoneUntouched}
 use Rattle.drive_sets.specs.Refusals.{Outcome, result, refuseIf, andThen}
-use Rattle.survivor_tables.specs.Hitting.{hits}
+use Rattle.drive_sets.specs.Positions.{isNone}
+use Rattle.survivor_tables.specs.Hitting.{firstMissed}
 use Rattle.survivor_tables.specs.Tables.{chosen, normalTable}
 use Rattle.runs.specs.Scenario.{Scenario, coreOf}
 use Rattle.runs.specs.CrashRecords.{CrashRecord, crashed, checkedCrash, scenario}
@@ -32,10 +33,10 @@ pub record Simulated : Type 0 where
 abbrev pub simulatedOf : Scenario → Simulated
 simulatedOf s = record { endings = endings s; core = coreOf s; stops = coreCrashes s }
 
--- 11, every survivor set has a drive with a CR; else what the scenario gives
+-- 11, every survivor set has a drive with a CR, and none is missed by these drives; else what the scenario gives
 abbrev pub unlessTouched : ℕ → List ℕ → List ℕ → List CrashRecord → Outcome Simulated
 unlessTouched n sets numbers crs =
-    refuseIf (hits sets (crashed crs)) NoneUntouched (result (simulatedOf (scenario n sets numbers crs)))
+    refuseIf (isNone (firstMissed sets (crashed crs))) NoneUntouched (result (simulatedOf (scenario n sets numbers crs)))
 
 unfoldable pub simulated : ℕ → List ℕ → List ℕ → List CrashRecord → Outcome Simulated
 simulated n sets numbers crs =

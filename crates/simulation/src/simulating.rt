@@ -18,8 +18,10 @@ use crate::running;
 use drive_crashes::Crashes;
 use drive_sets::Answer;
 use drive_sets::Pattern;
+use drive_sets::Position;
 use drive_sets::Refusal;
 use drive_sets::Round;
+use survivor_tables::missed::first_missed;
 use tables::calls::Chosen;
 
 // For each drive, drive 1 first, the round in which it decided, 0 where it has not, and the pattern number.
@@ -80,10 +82,11 @@ fn where_untouched(
     ensures { λ t. ⌜ simulatedOutcome n t ≡ unlessTouched n (now (sets .entry)) (take n (values numbers)) (crashesIn crashes) ⌝ }
     ensures alone { λ t. ⌜ Alone (λ (u : Simulated). u .answer) refusedSimulated t ⌝ }
 {
-    if tables::calls::meets_all(sets, crashes.crashed) {
-        return refused(Refusal::NoneUntouched);
+    let untouched = first_missed(sets, crashes.crashed);
+    match untouched {
+        Position::None => refused(Refusal::NoneUntouched),
+        Position::At(_) => result_on(n, core, numbers, crashes),
     }
-    result_on(n, core, numbers, crashes)
 }
 
 // The same, with 8, 9 and 10 of each crash.

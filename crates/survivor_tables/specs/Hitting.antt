@@ -6,6 +6,7 @@ use mathlib.Core.Bool.{Bool, true, cond}
 use mathlib.Core.List.{List, [], _∷_, _++_}
 use Prim.Native.Nat.{ℕ}
 use lib.Dec.{eqb}
+use Rattle.drive_sets.specs.declared.Position.{Position}
 use Rattle.drive_sets.specs.Lists.{all, firstFailing}
 use Rattle.drive_sets.specs.Masks.{single, union, common, meets, subset, size, drives}
 pub mod Laws
@@ -18,13 +19,17 @@ pub mod Distinct
 pub mod Listed
 pub mod Duality
 
--- the place of the first of the sets that m misses; how many they are where m meets them all
-abbrev pub firstMissed : List ℕ → ℕ → ℕ
-firstMissed sets m = firstFailing (λ s. meets s m) sets
-
--- m meets every one of the sets: there is no first that it misses (`none-missed`)
+-- m meets every one of the sets
 unfoldable pub hits : List ℕ → ℕ → Bool
 hits sets m = all (λ s. meets s m) sets
+
+-- the position of the first of the sets that m misses, their first being at position i
+abbrev pub missedFrom : ℕ → List ℕ → ℕ → Position
+missedFrom i sets m = firstFailing i (λ s. meets s m) sets
+
+-- its position in the whole list; none exactly where m meets every one of the sets (`none-missed`)
+abbrev pub firstMissed : List ℕ → ℕ → Position
+firstMissed sets m = missedFrom 1 sets m
 
 -- m meets every one of the sets, and no smaller part of m does
 pub record Minimal (sets : List ℕ) (m : ℕ) : Type 0 where

@@ -7,11 +7,12 @@ use mathlib.Core.List.{List, [], _∷_}
 use Prim.Native.Nat.{ℕ, _≤_}
 use lib.Dec.{eqb, leb, ltb}
 use lib.ListN.{length, getD}
+use Rattle.drive_sets.specs.declared.Position.{Position}
 use Rattle.drive_sets.specs.declared.Refusal.the-variants.{WrongMark, FrameSize, BadSet, TooManySets, TooManyCores}
 use Rattle.drive_sets.specs.Lists.{all, elem}
 use Rattle.drive_sets.specs.Masks.{full, subset}
 use Rattle.drive_sets.specs.Refusals.{Outcome, result, refuseIf, andThen}
-use Rattle.survivor_tables.specs.Hitting.{hits, minimals}
+use Rattle.survivor_tables.specs.Hitting.{firstMissed, minimals}
 use Rattle.survivor_tables.specs.Order.{byMask, bySize, sort, normal}
 use Rattle.drive_sets.specs.Limits.{maxDrives, maxSets, maxCores}
 pub mod Laws
@@ -79,10 +80,11 @@ coreList n sets = andThen (normalTable n sets) (λ table. result (cores table))
 unfoldable pub chosenCore : ℕ → List ℕ → Outcome ℕ
 chosenCore n sets = andThen (normalTable n sets) (λ table. result (chosen table))
 
--- do these drives meet every set? A group that is no set of the frame meets 4, after the table's own refusals
-unfoldable pub meetsEvery : ℕ → List ℕ → ℕ → Outcome Bool
-meetsEvery n sets group =
-    andThen (normalTable n sets) (λ table. refuseIf (not (isSet n group)) BadSet (result (hits table group)))
+-- the first set of the normal table that these drives miss, by its position, and none exactly where they meet them all. A
+-- group that is no set of the frame meets 4, after the table's own refusals
+unfoldable pub missedSet : ℕ → List ℕ → ℕ → Outcome Position
+missedSet n sets group =
+    andThen (normalTable n sets) (λ table. refuseIf (not (isSet n group)) BadSet (result (firstMissed table group)))
 
 -- Back: 3, 13 for no groups or more than 1024, 4, then 5 for more than 128 found
 unfoldable pub survivorSets : ℕ → List ℕ → Outcome (List ℕ)

@@ -1,6 +1,7 @@
 // Survivor tables: what they, their normal form, their cores and the way back are, with their laws, in specs/. The code
-// is the limits, and the tests of n and of one set.
+// is the limits, the tests of n and of one set, and the first set that some drives miss.
 pub mod frames;
+pub mod missed;
 
 // The most sets of a table, and the most cores.
 pub const MAX_SETS: usize = 128;

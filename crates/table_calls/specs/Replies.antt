@@ -1,9 +1,10 @@
 -- The replies of the calls as structs of numbers, from what the library's definitions give: the values of a result with
 -- refusal 0, and beside a refusal zeros.
-use mathlib.Core.Bool.{Bool}
 use mathlib.Core.List.{List}
 use Prim.Native.Nat.{ℕ, _-_}
 use lib.ListN.{length}
+use Rattle.drive_sets.specs.declared.Position.{Position}
+use Rattle.drive_sets.specs.Positions.{positionNumber}
 use Rattle.drive_sets.specs.Refusals.{Outcome, refused, result, andThen}
 use Rattle.drive_sets.specs.Lent.{fitting}
 use Rattle.table_files.specs.Files.{ReadTable}
@@ -11,7 +12,7 @@ use Rattle.verdicts.specs.Verdicts.{Verdict}
 use Rattle.verdicts.specs.Held.{heldIn}
 use Rattle.c_replies.specs.Replies.{refusalOf, flagOf}
 use Rattle.table_calls.specs.declared.reading.TableReply.{TableReply}
-use Rattle.table_calls.specs.declared.calls.MeetingReply.{MeetingReply}
+use Rattle.table_calls.specs.declared.calls.MissedReply.{MissedReply}
 use Rattle.table_calls.specs.declared.calls.VerdictReply.{VerdictReply}
 pub mod Laws
 
@@ -30,11 +31,11 @@ abbrev pub tableReply : List ℕ → Outcome ReadTable → TableReply
 tableReply s (refused r) = record { count = 0; used = 0; refusal = r; n = 0 }
 tableReply s (result t) = record { count = length (t .sets); used = length s - length (t .rest); refusal = 0; n = t .n }
 
--- ---- whether a group meets every set
+-- ---- the first set that a group misses
 
-abbrev pub meetingReply : Outcome Bool → MeetingReply
-meetingReply (refused r) = record { refusal = r; meets = 0 }
-meetingReply (result b) = record { refusal = 0; meets = flagOf b }
+abbrev pub missedReply : Outcome Position → MissedReply
+missedReply (refused r) = record { position = 0; refusal = r }
+missedReply (result p) = record { position = positionNumber p; refusal = 0 }
 
 -- ---- verdicts
 

@@ -1,25 +1,25 @@
 // The calls given n and sets or groups, and the one given n and t: the writer, the cores, the way back, the table from
-// n and t, the test of a group and the verdict.
+// n and t, the first set that a group misses and the verdict.
 ghost use mathlib.Core.Path.{_≡_};
 ghost use lib.ListN.{length};
 ghost use Rattle.drive_sets.specs.Refusals.{andThen};
-ghost use Rattle.survivor_tables.specs.Tables.{coreList, meetsEvery, survivorSets};
+ghost use Rattle.survivor_tables.specs.Tables.{coreList, missedSet, survivorSets};
 ghost use Rattle.table_writing.specs.Writing.{writeTable};
 ghost use Rattle.threshold.specs.Threshold.{thresholdList};
 ghost use Rattle.drive_sets.specs.Lent.{fitting, sizeWritten, bufferAfter};
 ghost use Rattle.verdicts.specs.Verdicts.{verdict};
 ghost use Rattle.c_replies.specs.Replies.{sizeReply};
-ghost use Rattle.table_calls.specs.Replies.{meetingReply, verdictReply};
+ghost use Rattle.table_calls.specs.Replies.{missedReply, verdictReply};
 use crate::lists;
 use c_replies::SizeReply;
 use drive_sets::Answer;
-use tables::calls::Meeting;
+use tables::calls::MissedSet;
 
-// Whether a group meets every set: `meets` is 1 for a yes.
+// The position of the first set that a group misses, 0 for none.
 #[repr(C)]
-pub struct MeetingReply {
+pub struct MissedReply {
+    pub position: usize,
     pub refusal: u32,
-    pub meets: u8,
 }
 
 // The verdict on k: `shared` is 1 for a yes. For a no the first k positions and blocks; all other places are 0.
@@ -96,24 +96,20 @@ pub extern "C" fn regdulyn_threshold(n: u8, t: u8, out: &mut [u64]) -> SizeReply
     }
 }
 
-// Does the group meet every set of the table of n drives and some sets? 3, 2, 5, 4, 13, then 4 of the group.
+// The first set of the normal table of n drives and some sets that a group misses. 3, 2, 5, 4, 13, then 4 of the group.
 #[no_mangle]
-pub extern "C" fn regdulyn_meets(n: u8, sets: &[u64], group: u64) -> MeetingReply
-    ensures { λ r. ⌜ r ≡ meetingReply (meetsEvery n (now (sets .entry)) group) ⌝ }
+pub extern "C" fn regdulyn_missed(n: u8, sets: &[u64], group: u64) -> MissedReply
+    ensures { λ r. ⌜ r ≡ missedReply (missedSet n (now (sets .entry)) group) ⌝ }
 {
-    let m = tables::calls::meets_every(n, sets, group);
+    let m = tables::calls::missed_set(n, sets, group);
     match m {
-        Meeting::Refused(r) => MeetingReply {
+        MissedSet::Refused(r) => MissedReply {
+            position: 0,
             refusal: r.number() as u32,
-            meets: 0,
         },
-        Meeting::Meets => MeetingReply {
+        MissedSet::First(p) => MissedReply {
+            position: p.number(),
             refusal: 0,
-            meets: 1,
-        },
-        Meeting::Misses => MeetingReply {
-            refusal: 0,
-            meets: 0,
         },
     }
 }

@@ -16,15 +16,14 @@ use Rattle.drive_sets.specs.declared.Answer.the-variants as answers
 use Rattle.tables.specs.declared.completing.TableWithCores.{TableWithCores}
 use Rattle.drive_sets.specs.Limits.{maxSets}
 use Rattle.survivor_tables.specs.Tables.{cores, chosen, dual, normalTable, chosenCore, Accepted}
-use Rattle.survivor_tables.specs.Tables.Laws.{table-accepted, sets-word, some-core, accepted-normal}
+use Rattle.survivor_tables.specs.Tables.Laws.{table-accepted, some-core, accepted-normal}
 use Rattle.set_orders.specs.declared.sorting.Order.the-variants.{ByMask}
-use Rattle.survivor_tables.specs.Hitting.{hits, minimals}
+use Rattle.survivor_tables.specs.Hitting.{minimals}
 use Rattle.core_search.specs.Found.{Found}
 use Rattle.core_search.specs.Found.Laws.{found-listed}
 use Rattle.survivor_tables.specs.Order.{byMask}
 use Rattle.set_orders.specs.Sorting.{precedes}
 use Rattle.survivor_tables.specs.Order.Sort.{length-sort}
-use Rattle.survivor_tables.specs.Hitting.Normal.{hits-normal}
 use Rattle.tables.specs.declared.calls.SetList.{SetList}
 use Rattle.tables.specs.Answers.{listOutcome}
 use Rattle.tables.specs.Complete.{setsOf, Complete, withCores, completeTable, completeOutcome}
@@ -72,12 +71,6 @@ module _ (n : ℕ) (sets : List ℕ) (t : TableWithCores) (e : completeOutcome t
       ap (λ (c : ℕ). result c)
       (sym (getD-take (t .found) (t .cores) 0 0 (omega (arith, some, ap length (u .list), length-take (t .found) (t .cores)))) ∙ ap (λ (l : List ℕ). getD l 0 0) (u .list))
       ∙ sym (ap (λ (o : Outcome (List ℕ)). andThen o (λ table. result (chosen table))) (u .table))
-
-  -- the sets listed and the normal table are met by the same drives
-  pub same-hits : (group : ℕ) → Taken → hits (setsOf (t .table)) group ≡ hits sets group
-  same-hits group u =
-      let a = table-accepted n sets (setsOf (t .table)) (u .table) in
-      ap (λ (l : List ℕ). hits l group) (a .1) ∙ hits-normal sets (sets-word n sets (a .0)) group
 
   -- any call that asks for the table is refused where it is
   pub asks-refused : {B : Type 0} (f : List ℕ → Outcome B) (q : Refusal) → t .answer ≡ answers.Refused q → refused (number q) ≡ andThen (normalTable n sets) f

@@ -1,28 +1,27 @@
-// The calls given n and sets or groups: the chosen core, whether some drives meet every set, and Back.
+// The calls given n and sets or groups: the chosen core, the first set that some drives miss, and Back.
 ghost use mathlib.Core.Path.{_≡_};
 ghost use Rattle.drive_sets.specs.Refusals.{refused, number};
-ghost use Rattle.survivor_tables.specs.Hitting.{hits};
-ghost use Rattle.survivor_tables.specs.Tables.{chosenCore, meetsEvery, survivorSets};
-ghost use Rattle.tables.specs.Answers.{chosenOutcome, meetingOutcome, listOutcome, ListWithin};
+ghost use Rattle.survivor_tables.specs.Tables.{chosenCore, missedSet, survivorSets};
+ghost use Rattle.tables.specs.Answers.{chosenOutcome, missedOutcome, listOutcome, ListWithin};
 use crate::completing;
 use crate::completing::all_sets;
 use drive_sets::Answer;
+use drive_sets::Position;
 use drive_sets::Refusal;
-use hitting_sets::missed::first_missed;
 use set_orders::sorting::Order;
 use survivor_tables::MAX_CORES;
 use survivor_tables::MAX_SETS;
 use survivor_tables::frames::is_frame;
 use survivor_tables::frames::is_set;
+use survivor_tables::missed::first_missed;
 
 pub enum Chosen {
     Core(u64),
     Refused(Refusal),
 }
 
-pub enum Meeting {
-    Meets,
-    Misses,
+pub enum MissedSet {
+    First(Position),
     Refused(Refusal),
 }
 
@@ -46,29 +45,23 @@ pub fn chosen_core(n: u8, sets: &[u64]) -> Chosen
     }
 }
 
-// m meets every one of the sets.
-pub fn meets_all(sets: &[u64], m: u64) -> bool
-    ensures { λ r. ⌜ r ≡ hits (now (sets .entry)) m ⌝ }
-{
-    first_missed(sets, m) == sets.len()
-}
-
-// Do these drives meet every set? A group that is no set of the frame meets 4, after the table's own refusals.
-pub fn meets_every(n: u8, sets: &[u64], group: u64) -> Meeting
-    ensures { λ r. ⌜ meetingOutcome r ≡ meetsEvery n (now (sets .entry)) group ⌝ }
+// The first set of the normal table that the drives of a group miss, by its position; none where they meet them all. A
+// group that is no set of the frame meets 4, after the table's own refusals.
+pub fn missed_set(n: u8, sets: &[u64], group: u64) -> MissedSet
+    ensures { λ r. ⌜ missedOutcome r ≡ missedSet n (now (sets .entry)) group ⌝ }
 {
     let t = completing::accept(n, sets);
     let answer = t.answer;
+    let table = t.table;
+    let normal = table.sets;
+    let count = table.count;
     match answer {
-        Answer::Refused(r) => Meeting::Refused(r),
+        Answer::Refused(r) => MissedSet::Refused(r),
         Answer::Accepted => {
             if !is_set(n, group) {
-                return Meeting::Refused(Refusal::BadSet);
+                return MissedSet::Refused(Refusal::BadSet);
             }
-            if meets_all(sets, group) {
-                return Meeting::Meets;
-            }
-            Meeting::Misses
+            MissedSet::First(first_missed(&normal[0..count], group))
         }
     }
 }

@@ -1,20 +1,28 @@
 -- The loops of the search: what is found from the place i on is what is found from the start on, since no set before i
 -- is the first.
-use mathlib.Core.Path.{_≡_, refl, sym, ap, ap₂, _∙_, subst}
+use mathlib.Core.Path.{_≡_, refl, sym, ap, _∙_, subst}
 use mathlib.Core.Bool.{true, false}
 use mathlib.Core.List.{List, [], _∷_}
 use mathlib.Core.Option.{Option, none, some}
 use Prim.Native.Nat.{ℕ, suc, _+_, _≤_, _<_}
+use native.Mathlib.Omega.{arith}
 use native.Mathlib.Numerals.{add-one}
-use lib.ListN.{length, getD, drop}
-use borrow.Author.Tests.{eq-eqb, ne-eqb, lt-ltb, le-ltb}
-use Rattle.drive_sets.specs.Bools.Laws.{clash, cond-true, cond-false}
+use lib.Dec.{eqb}
+use lib.ListN.{length, getD, drop, length-drop}
+use borrow.Author.Tests.{not-true, not-false}
+use Rattle.drive_sets.specs.declared.Position.{Position}
+use Rattle.drive_sets.specs.declared.Position.the-variants.{None, At}
+use Rattle.drive_sets.specs.Bools.Laws.{clash, by-test, cond-true, cond-false}
+use Rattle.drive_sets.specs.Lists.{firstFailing}
+use Rattle.drive_sets.specs.Lists.FirstFailing.{failing-later, failing-here, failing-at}
 use Rattle.drive_sets.specs.Loops.Scan.{drop-next, Scan, scan-next, scan-turn, scan-end}
-use Rattle.drive_sets.specs.Masks.{common}
+use Rattle.drive_sets.specs.Masks.{common, meets}
+use Rattle.drive_sets.specs.Masks.Laws.{meets-sym}
+use Rattle.survivor_tables.specs.Hitting.{missedFrom}
 use Rattle.verdicts.specs.Verdicts.{firstWith, disjoint}
 use Rattle.verdicts.specs.Verdicts.Search.{first-here, first-later}
 use Rattle.verdicts.specs.declared.Named.{Named}
-use Rattle.verdicts.specs.Held.{foundAt, foundIn, inFour}
+use Rattle.verdicts.specs.Held.{foundIn, inFour}
 use Rattle.verdicts.proofs.Fours.{in-front}
 
 -- the search for k sets from the place i on
@@ -45,34 +53,41 @@ module _ (k : ℕ) (table : List ℕ) (from m i : ℕ) (w : Searching (suc k) ta
   unfolding disjoint firstWith
   search-end h = scan-end w h
 
--- ---- one set
+-- ---- one set: the first that m misses
 
-module _ (table : List ℕ) (from m i : ℕ) (w : Searching 1 table from m i) where
-  pub apart-found : i < length table → common m (getD table i 0) ≡ 0 → foundAt i (length table) ≡ From 1 table m from
-  unfolding foundAt disjoint
-  apart-found h e = cond-true _ _ (lt-ltb i (length table) h) ∙ search-found 0 table from m i w h (cond-true _ _ (eq-eqb _ 0 e)) refl
+one : Position → Option (List ℕ)
+one None = none
+one (At p) = some (p ∷ [])
 
-  pub apart-turn : i < length table → (common m (getD table i 0) ≡ 0 → ⊥) → Searching 1 table from m (i + 1)
-  unfolding disjoint
-  apart-turn h e = search-turn 0 table from m i w h (cond-false _ _ (ne-eqb _ 0 e)) refl
-
-  pub apart-end : length table ≤ i → foundAt i (length table) ≡ From 1 table m from
-  unfolding foundAt
-  apart-end h = cond-false _ _ (le-ltb i (length table) h) ∙ search-end 0 table from m i w h
+one-missed : (p : ℕ) (sets : List ℕ) (m : ℕ) → disjoint 1 p sets m ≡ one (missedFrom p sets m)
+unfolding one disjoint firstWith firstFailing meets common
+one-missed p [] m = refl
+one-missed p (s ∷ sets) m =
+    by-test (meets s m)
+    (λ e. first-later (disjoint 0) p s m sets (cond-false (some []) none (not-true (eqb (common m s) 0) (meets-sym m s ∙ e)))
+    ∙ (one-missed (suc p) sets m
+    ∙ (ap (λ (q : ℕ). one (missedFrom q sets m)) (sym (add-one p)) ∙ ap one (sym (failing-later (λ x. meets x m) p s sets e)))))
+    (λ e. first-here (disjoint 0) p s m sets (cond-true (some []) none (not-false (eqb (common m s) 0) (meets-sym m s ∙ e))) ∙ ap one (sym (failing-here (λ x. meets x m) p s sets e)))
 
 -- ---- two sets
 
 module _ (table : List ℕ) (from m i : ℕ) (w : Searching 2 table from m i) where
-  module _ (place : ℕ) (h : i < length table) (e : foundAt place (length table) ≡ From 1 table (common m (getD table i 0)) i) where
-    pub pair-found : place < length table → record { any = true; positions = (i + 1) ∷ (place + 1) ∷ 0 ∷ 0 ∷ [] } ≡ foundIn (From 2 table m from)
-    unfolding foundIn inFour foundAt
-    pair-found lt =
-        ap₂ (λ (p q : ℕ). foundIn (some (p ∷ q ∷ []))) (add-one i) (add-one place)
-        ∙ ap foundIn (search-found 1 table from m i w h (sym e) (cond-true _ _ (lt-ltb place (length table) lt)))
+  module _ (h : i < length table) {o : Position} (e : o ≡ missedFrom (i + 1) (drop i table) (common m (getD table i 0))) where
+    first-one : From 1 table (common m (getD table i 0)) i ≡ one o
+    first-one =
+        let shared = common m (getD table i 0) in
+        one-missed (suc i) (drop i table) shared ∙ ap one (ap (λ (q : ℕ). missedFrom q (drop i table) shared) (sym (add-one i)) ∙ sym e)
 
-    pub pair-later : length table ≤ place → Searching 2 table from m (i + 1)
-    unfolding foundAt
-    pair-later ge = search-turn 1 table from m i w h (sym e) (cond-false _ _ (le-ltb place (length table) ge))
+    pub pair-found : {p : ℕ} → o ≡ At p → record { any = true; positions = (i + 1) ∷ p ∷ 0 ∷ 0 ∷ [] } ≡ foundIn (From 2 table m from)
+    unfolding foundIn inFour one
+    pair-found {p = p} f = ap (λ (q : ℕ). foundIn (some (q ∷ p ∷ []))) (add-one i) ∙ ap foundIn (search-found 1 table from m i w h first-one (ap one f))
+
+    pub pair-within : {p : ℕ} → o ≡ At p → p ≤ length table
+    pair-within {p = p} f = omega (arith, failing-at _ (i + 1) (drop i table) p (sym e ∙ f) .within, length-drop i table)
+
+    pub pair-later : o ≡ None → Searching 2 table from m (i + 1)
+    unfolding one
+    pair-later f = search-turn 1 table from m i w h first-one (ap one f)
 
   pub pair-end : length table ≤ i → foundIn none ≡ foundIn (From 2 table m from)
   pair-end h = ap foundIn (search-end 1 table from m i w h)

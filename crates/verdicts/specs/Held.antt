@@ -2,8 +2,7 @@
 use mathlib.Core.Bool.{true, false, cond}
 use mathlib.Core.List.{List, [], _∷_, _++_}
 use mathlib.Core.Option.{Option, some, none}
-use Prim.Native.Nat.{ℕ, suc}
-use lib.Dec.{ltb}
+use Prim.Native.Nat.{ℕ}
 use lib.ListN.{take}
 use Rattle.drive_sets.specs.Refusals.{Outcome, refused, result, outcomeOf}
 use Rattle.verdicts.specs.declared.Named.{Named}
@@ -32,10 +31,6 @@ answerOf (no positions blocks) = withBlocks (inFour positions) blocks
 unfoldable pub foundIn : Option (List ℕ) → Named
 foundIn none = record { any = false; positions = inFour [] }
 foundIn (some ps) = record { any = true; positions = inFour ps }
-
--- one position, from the place of a set; none where that is past the sets
-unfoldable pub foundAt : ℕ → ℕ → Option (List ℕ)
-foundAt place sets = cond (ltb place sets) (some (suc place ∷ [])) none
 
 -- what the answer of a call on k says
 unfoldable pub judgementOf : Judgement → ℕ → Outcome Verdict

@@ -8,8 +8,10 @@ ghost use lib.ListN.{length, take, drop};
 ghost use Rattle.drive_sets.specs.Lists.{elem};
 ghost use Rattle.verdicts.specs.Verdicts.{setsAt, disjoint, blocksOf, verdictOn};
 ghost use Rattle.verdicts.specs.Meaning.{inEvery};
-ghost use Rattle.verdicts.specs.Held.{verdictOf, answerOf, withBlocks, foundIn, foundAt};
+ghost use Rattle.verdicts.specs.Held.{verdictOf, answerOf, withBlocks, foundIn};
 ghost use Rattle.drive_sets.specs.Limits.{maxSets};
+use drive_sets::Position;
+use survivor_tables::missed::next_missed;
 
 pub mod calls;
 
@@ -32,22 +34,6 @@ struct Named {
     positions: [u8; 4],
 }
 
-// The first place from `from` on of a set with no drive of `shared`; the table's length where there is none.
-fn first_apart(table: &[u64], from: usize, shared: u64) -> usize
-    requires { ⌜ from ≤ length (now table) ⌝ }
-    ensures within { λ r. ⌜ r ≤ length (now (table .entry)) ⌝ }
-    ensures first { λ r. ⌜ foundAt r (length (now (table .entry))) ≡ disjoint 1 (suc from) (drop from (now (table .entry))) shared ⌝ }
-{
-    let mut i = from;
-    while i < table.len() {
-        if shared & table[i] == 0 {
-            return i;
-        }
-        i += 1;
-    }
-    i
-}
-
 fn nothing() -> Named
     ensures { λ r. ⌜ r ≡ foundIn none ⌝ }
 {
@@ -59,16 +45,16 @@ fn nothing() -> Named
 
 // The first two positions from the place `from` on, not falling, whose sets have no drive of `shared` in common.
 fn first_pair(table: &[u64], from: usize, shared: u64) -> Named
-    requires { ⌜ (from ≤ length (now table)) × (length (now table) ≤ maxSets) ⌝ }
+    requires { ⌜ length (now table) ≤ maxSets ⌝ }
     ensures { λ r. ⌜ r ≡ foundIn (disjoint 2 (suc from) (drop from (now (table .entry))) shared) ⌝ }
 {
     let mut i = from;
     while i < table.len() {
-        let place = first_apart(table, i, shared & table[i]);
-        if place < table.len() {
+        let apart = next_missed(table, i, shared & table[i]);
+        if let Position::At(position) = apart {
             return Named {
                 any: true,
-                positions: [(i + 1) as u8, (place + 1) as u8, 0, 0],
+                positions: [(i + 1) as u8, position as u8, 0, 0],
             };
         }
         i += 1;
@@ -80,7 +66,7 @@ fn first_pair(table: &[u64], from: usize, shared: u64) -> Named
 // innermost loops are those of `first_pair`, one `and` and one test a set. Where the common part is empty already, each
 // loop ends at its first set.
 fn disjoint(k: u8, table: &[u64], from: usize, shared: u64) -> Named
-    requires { ⌜ (2 ≤ k) × (from ≤ length (now table)) × (length (now table) ≤ maxSets) ⌝ }
+    requires { ⌜ (2 ≤ k) × (length (now table) ≤ maxSets) ⌝ }
     ensures { λ r. ⌜ r ≡ foundIn (disjoint k (suc from) (drop from (now (table .entry))) shared) ⌝ }
 {
     if k == 2 {

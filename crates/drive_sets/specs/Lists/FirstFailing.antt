@@ -1,51 +1,76 @@
--- The first element that fails a test: all before it pass, it fails, and there is none exactly if all pass.
+-- The first element that fails a test, by its position: all before it pass, it fails, and there is none exactly if all
+-- pass.
 use mathlib.Core.Path.{_≡_, refl, sym, ap, _∙_}
-use mathlib.Core.Bool.{Bool, true, false, _&&_}
+use mathlib.Core.Bool.{Bool, true, false}
+use mathlib.Core.Logic.{_↔_}
 use mathlib.Core.List.{List, [], _∷_}
-use Prim.Native.Nat.{ℕ, zero, suc, _≤_, _<_}
+use Prim.Native.Nat.{ℕ, zero, suc, _+_, _-_, _≤_, _<_}
 use native.Mathlib.Omega.{arith}
-use lib.Dec.{eqb, eqb·suc-suc}
 use lib.ListN.{length, getD}
-use borrow.Author.Tests.{ne-eqb}
-use Rattle.drive_sets.specs.Bools.Laws.{by-test, cond-true, cond-false}
+use Rattle.drive_sets.specs.declared.Position.the-variants.{None, At}
+use Rattle.drive_sets.specs.Bools.Laws.{by-test, and-intro, and-left, and-right, cond-true, cond-false}
+use Rattle.drive_sets.specs.Positions.Laws.{none-at, same-at}
 use Rattle.drive_sets.specs.Lists.{all, firstFailing}
 
 module _ (p : ℕ → Bool) where
-  pub failing-later : (x : ℕ) (l : List ℕ) → p x ≡ true → firstFailing p (x ∷ l) ≡ suc (firstFailing p l)
+  pub failing-later : (i x : ℕ) (l : List ℕ) → p x ≡ true → firstFailing i p (x ∷ l) ≡ firstFailing (i + 1) p l
   unfolding firstFailing
-  failing-later x l h = cond-true _ _ h
+  failing-later i x l h = cond-true _ _ h
 
-  pub failing-first : (x : ℕ) (l : List ℕ) → p x ≡ false → firstFailing p (x ∷ l) ≡ 0
+  pub failing-here : (i x : ℕ) (l : List ℕ) → p x ≡ false → firstFailing i p (x ∷ l) ≡ At i
   unfolding firstFailing
-  failing-first x l h = cond-false _ _ h
+  failing-here i x l h = cond-false _ _ h
 
-  pub failing-within : (l : List ℕ) → firstFailing p l ≤ length l
+  -- position k of the list, whose first is at position i, is the first that fails
+  pub record First (i : ℕ) (l : List ℕ) (k : ℕ) : Type 0 where
+    pub from : i ≤ k
+    pub within : k < i + length l
+    pub before : (j : ℕ) → i + j < k → p (getD l j 0) ≡ true
+    pub there : p (getD l (k - i) 0) ≡ false
+
+  pub failing-at : (i : ℕ) (l : List ℕ) (k : ℕ) → firstFailing i p l ≡ At k → First i l k
   unfolding firstFailing
-  failing-within [] = omega arith
-  failing-within (x ∷ l) =
+  failing-at i [] k h = absurd (none-at refl h)
+  failing-at i (x ∷ l) k h =
       by-test (p x)
-      (λ h. omega (arith, failing-later x l h, failing-within l))
-      (λ h. omega (arith, failing-first x l h))
+      (λ e. let f = failing-at (i + 1) l k (sym (failing-later i x l e) ∙ h) in
+      let low : i + 1 ≤ k = f .from in
+      record {
+        from = omega arith;
+        within = omega (arith, f .within);
+        before = λ j lt. passed x l e j (λ j' e'. f .before j' (omega arith));
+        there = ap (λ (d : ℕ). p (getD (x ∷ l) d 0)) (one-more low) ∙ f .there;
+      })
+      (λ e. let same : i ≡ k = same-at (failing-here i x l e) h in
+      record {
+        from = omega arith;
+        within = omega arith;
+        before = λ j lt. absurd (omega arith);
+        there = ap (λ (d : ℕ). p (getD (x ∷ l) d 0)) (none-more same) ∙ e;
+      })
+    where
+      passed : (x : ℕ) (l : List ℕ) → p x ≡ true → (j : ℕ) → ((j' : ℕ) → suc j' ≡ j → p (getD l j' 0) ≡ true) → p (getD (x ∷ l) j 0) ≡ true
+      passed x l e zero f = e
+      passed x l e (suc j) f = f j refl
 
-  pub failing-before : (l : List ℕ) (i : ℕ) → i < firstFailing p l → p (getD l i 0) ≡ true
-  failing-before [] i h = absurd (omega (arith, failing-within [], h))
-  failing-before (x ∷ l) zero h = by-test (p x) (λ e. e) (λ e. absurd (omega (arith, failing-first x l e)))
-  failing-before (x ∷ l) (suc i) h =
+      one-more : i + 1 ≤ k → k - i ≡ suc (k - (i + 1))
+      one-more h = omega arith
+
+      none-more : i ≡ k → k - i ≡ 0
+      none-more h = omega arith
+
+  none-all : (i : ℕ) (l : List ℕ) → firstFailing i p l ≡ None → all p l ≡ true
+  unfolding all
+  none-all i [] h = refl
+  none-all i (x ∷ l) h =
       by-test (p x)
-      (λ e. failing-before l i (omega (arith, failing-later x l e)))
-      (λ e. absurd (omega (arith, failing-first x l e)))
+      (λ e. and-intro e (none-all (i + 1) l (sym (failing-later i x l e) ∙ h)))
+      (λ e. absurd (none-at h (failing-here i x l e)))
 
-  pub failing-there : (l : List ℕ) → firstFailing p l < length l → p (getD l (firstFailing p l) 0) ≡ false
-  failing-there [] h = absurd (omega arith)
-  failing-there (x ∷ l) h =
-      by-test (p x)
-      (λ e. ap (λ (k : ℕ). p (getD (x ∷ l) k 0)) (failing-later x l e) ∙ failing-there l (omega (arith, failing-later x l e)))
-      (λ e. ap (λ (k : ℕ). p (getD (x ∷ l) k 0)) (failing-first x l e) ∙ e)
-
-  pub failing-none : (l : List ℕ) → eqb (firstFailing p l) (length l) ≡ all p l
+  all-none : (i : ℕ) (l : List ℕ) → all p l ≡ true → firstFailing i p l ≡ None
   unfolding all firstFailing
-  failing-none [] = refl
-  failing-none (x ∷ l) =
-      by-test (p x)
-      (λ e. ap (λ (k : ℕ). eqb k (suc (length l))) (failing-later x l e) ∙ (eqb·suc-suc (firstFailing p l) (length l) ∙ (failing-none l ∙ sym (ap (λ (b : Bool). b && all p l) e))))
-      (λ e. ap (λ (k : ℕ). eqb k (suc (length l))) (failing-first x l e) ∙ (ne-eqb 0 (suc (length l)) (λ z. absurd (omega (arith, z))) ∙ sym (ap (λ (b : Bool). b && all p l) e)))
+  all-none i [] h = refl
+  all-none i (x ∷ l) h = failing-later i x l (and-left (p x) (all p l) h) ∙ all-none (i + 1) l (and-right (p x) (all p l) h)
+
+  pub failing-none : (i : ℕ) (l : List ℕ) → (firstFailing i p l ≡ None) ↔ (all p l ≡ true)
+  failing-none i l = (none-all i l, all-none i l)

@@ -1,38 +1,37 @@
 -- A list gone through from the front, `while i < l.len() { .. i += 1 }`: what f makes of the rest is the whole. A turn
 -- may change f, as where the loop gathers something; a loop that returns early has found the whole. Tests of all and of
--- some elements are cases of it.
+-- some elements, and the first that fails one, are cases of it.
 use mathlib.Core.Path.{_≡_, refl, sym, ap, _∙_}
 use mathlib.Core.Bool.{Bool, true, false, _&&_, _||_}
 use mathlib.Core.List.{List, [], _∷_}
-use Prim.Native.Nat.{ℕ, _+_, _≤_, _<_, zero-le}
-use native.Mathlib.Omega.{arith}
+use Prim.Native.Nat.{ℕ, _+_, _≤_, _<_}
 use native.Mathlib.Numerals.{add-one}
 use lib.ListN.{length, getD, drop, drop-of-length-le}
 use lib.Seq.{drop-cons}
 use Rattle.drive_sets.specs.Lists.{all, any, firstFailing}
-use Rattle.drive_sets.specs.Lists.FirstFailing.{failing-later, failing-first, failing-within}
+use Rattle.drive_sets.specs.Lists.FirstFailing.{failing-later, failing-here}
+use Rattle.drive_sets.specs.declared.Position.{Position}
+use Rattle.drive_sets.specs.declared.Position.the-variants.{None, At}
 
 -- the next element in front of the rest
 pub drop-next : (l : List ℕ) (i : ℕ) → i < length l → drop i l ≡ getD l i 0 ∷ drop (i + 1) l
 drop-next l i h = drop-cons l i 0 h ∙ ap (λ (k : ℕ). getD l i 0 ∷ drop k l) (sym (add-one i))
 
 pub record Scan {A : Type 0} (whole : A) (f : List ℕ → A) (l : List ℕ) (i : ℕ) : Type 0 where
-  pub within : i ≤ length l
   pub rest : f (drop i l) ≡ whole
 
-pub scan-start : {A : Type 0} (f : List ℕ → A) (l : List ℕ) → Scan (f l) f l 0
-scan-start f l = record { within = zero-le; rest = refl }
+pub scan-from : {A : Type 0} (f : List ℕ → A) (l : List ℕ) (i : ℕ) → Scan (f (drop i l)) f l i
+scan-from f l i = record { rest = refl }
 
--- from a place on
-pub scan-from : {A : Type 0} (f : List ℕ → A) (l : List ℕ) (i : ℕ) → i ≤ length l → Scan (f (drop i l)) f l i
-scan-from f l i h = record { within = h; rest = refl }
+pub scan-start : {A : Type 0} (f : List ℕ → A) (l : List ℕ) → Scan (f l) f l 0
+scan-start f l = scan-from f l 0
 
 module _ {A : Type 0} {whole : A} {f : List ℕ → A} {l : List ℕ} {i : ℕ} (s : Scan whole f l i) where
   pub scan-next : i < length l → f (getD l i 0 ∷ drop (i + 1) l) ≡ whole
   scan-next h = ap f (sym (drop-next l i h)) ∙ s .rest
 
   pub scan-turn : i < length l → (g : List ℕ → A) → f (getD l i 0 ∷ drop (i + 1) l) ≡ g (drop (i + 1) l) → Scan whole g l (i + 1)
-  scan-turn h g e = record { within = omega arith; rest = sym e ∙ scan-next h }
+  scan-turn h g e = record { rest = sym e ∙ scan-next h }
 
   pub scan-end : length l ≤ i → f [] ≡ whole
   scan-end h = ap f (sym (drop-of-length-le l h)) ∙ s .rest
@@ -66,24 +65,15 @@ module _ (p : ℕ → Bool) {whole : Bool} {l : List ℕ} {i : ℕ} where
     unfolding all
     all-end h = scan-end s h
 
--- ---- the first element that fails the test: those before i pass
+-- ---- the first element that fails the test
 
-pub record Passed (p : ℕ → Bool) (l : List ℕ) (i : ℕ) : Type 0 where
-  pub within : i ≤ length l
-  pub rest : i + firstFailing p (drop i l) ≡ firstFailing p l
+module _ (p : ℕ → Bool) {whole : Position} {l : List ℕ} {i : ℕ} (s : Scan whole (firstFailing (i + 1) p) l i) where
+  pub failing-turn : i < length l → p (getD l i 0) ≡ true → Scan whole (firstFailing (i + 1 + 1) p) l (i + 1)
+  failing-turn h e = scan-turn s h (firstFailing (i + 1 + 1) p) (failing-later p (i + 1) (getD l i 0) (drop (i + 1) l) e)
 
-pub passed-start : (p : ℕ → Bool) (l : List ℕ) → Passed p l 0
-passed-start p l = record { within = zero-le; rest = omega arith }
+  pub failing-found : i < length l → p (getD l i 0) ≡ false → At (i + 1) ≡ whole
+  failing-found h e = sym (failing-here p (i + 1) (getD l i 0) (drop (i + 1) l) e) ∙ scan-next s h
 
-module _ {p : ℕ → Bool} {l : List ℕ} {i : ℕ} (s : Passed p l i) where
-  pub passed-turn : i < length l → p (getD l i 0) ≡ true → Passed p l (i + 1)
-  passed-turn h e = record {
-    within = omega arith;
-    rest = omega (arith, s .rest, ap (firstFailing p) (drop-next l i h), failing-later p (getD l i 0) (drop (i + 1) l) e);
-  }
-
-  pub passed-found : i < length l → p (getD l i 0) ≡ false → i ≡ firstFailing p l
-  passed-found h e = omega (arith, s .rest, ap (firstFailing p) (drop-next l i h), failing-first p (getD l i 0) (drop (i + 1) l) e)
-
-  pub passed-end : length l ≤ i → i ≡ firstFailing p l
-  passed-end h = omega (arith, s .rest, failing-within p (drop i l), ap length (drop-of-length-le l h))
+  pub failing-end : length l ≤ i → None ≡ whole
+  unfolding firstFailing
+  failing-end h = scan-end s h

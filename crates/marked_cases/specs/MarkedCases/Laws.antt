@@ -1,9 +1,8 @@
 -- The marked cases, by computation: one statement that the definitions give the text of every case.
 use mathlib.Core.Path.{refl}
 use mathlib.Core.Option.{orElse}
-use Rattle.drive_sets.specs.Lists.{elem, firstSome}
+use Rattle.drive_sets.specs.Lists.{elem, firstFailing, firstSome}
 use Rattle.drive_sets.specs.Masks.{outside, ofDrives}
-use Rattle.survivor_tables.specs.Hitting.{hits}
 use Rattle.survivor_tables.specs.Tables.{chosenCore}
 use Rattle.records.specs.RecordLists.{nextOf, widthOf, stepOf, readFrom, readList}
 use Rattle.table_files.specs.Files.{dueAfter, takenSet, readListed, accepted, readTable, readWhole}
@@ -24,5 +23,5 @@ use Rattle.run_listing.specs.RunListing.{endingText, driveLine, endingLines, co
 use Rattle.marked_cases.specs.MarkedCases.{AllGiven, sv, fileA, fileC, fileH, fileI, prs, cr, onA, fileJ, marked}
 
 pub marked-cases : AllGiven marked
-unfolding marked sv fileA fileC fileH fileI prs cr onA fileJ evaluated orElse elem firstSome outside ofDrives hits chosenCore dueAfter takenSet nextOf widthOf stepOf readFrom readList readListed accepted readTable readWhole firstWith disjoint blocksOf verdictOn start smallestOf sends reaches adds known announces announced heard unchanged stable ifStable decides halts closes closed step after frame coreOf goneBy hasCrash listOf cut reach crashed isNext isRound mostSends checkedCrash crashIn scenario coreCrashes endingAfter endingFrom endingOf endings takenProposal crashFields takenCrash readRecords untouchedLeft wholeRun readBehind readRunFile checkedCrashes simulated digit inBase digits joined field fields named line lines refusalLine noPart verdictLine verdictLines listing tableProgram endingText driveLine endingLines coreLine simulatedWith simulatedFile runProgram
+unfolding marked sv fileA fileC fileH fileI prs cr onA fileJ evaluated orElse elem firstSome outside ofDrives firstFailing chosenCore dueAfter takenSet nextOf widthOf stepOf readFrom readList readListed accepted readTable readWhole firstWith disjoint blocksOf verdictOn start smallestOf sends reaches adds known announces announced heard unchanged stable ifStable decides halts closes closed step after frame coreOf goneBy hasCrash listOf cut reach crashed isNext isRound mostSends checkedCrash crashIn scenario coreCrashes endingAfter endingFrom endingOf endings takenProposal crashFields takenCrash readRecords untouchedLeft wholeRun readBehind readRunFile checkedCrashes simulated digit inBase digits joined field fields named line lines refusalLine noPart verdictLine verdictLines listing tableProgram endingText driveLine endingLines coreLine simulatedWith simulatedFile runProgram
 marked-cases = (refl, (refl, (refl, (refl, (refl, (refl, (refl, (refl, (refl, (refl, tt))))))))))

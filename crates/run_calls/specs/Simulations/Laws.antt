@@ -8,7 +8,8 @@ use lib.ListN.{length}
 use Rattle.drive_sets.specs.Counts.{isRound}
 use Rattle.drive_sets.specs.Refusals.{Outcome, refused, result}
 use Rattle.drive_sets.specs.Refusals.Numbered.{Numbered, result-numbered, if-numbered, then-numbered}
-use Rattle.survivor_tables.specs.Hitting.{hits}
+use Rattle.drive_sets.specs.Positions.{isNone}
+use Rattle.survivor_tables.specs.Hitting.{firstMissed}
 use Rattle.records.specs.Fields.{fieldAt}
 use Rattle.records.specs.RecordLists.{readList}
 use Rattle.survivor_tables.specs.Tables.{isEmpty, chosen, normalTable, chosenCore}
@@ -46,7 +47,7 @@ pub simulated-numbered : (n : ℕ) (sets numbers : List ℕ) (crs : List CrashRe
 unfolding simulated
 simulated-numbered n sets numbers crs =
     then-numbered (normalTable n sets) _ (normal-numbered n sets)
-    (λ table. crashes-numbered n (chosen table) 0 crs (unlessTouched n sets numbers crs) (if-numbered (hits sets (crashed crs)) 11 refl result-numbered))
+    (λ table. crashes-numbered n (chosen table) 0 crs (unlessTouched n sets numbers crs) (if-numbered (isNone (firstMissed sets (crashed crs))) 11 refl result-numbered))
 
 -- ---- the run file
 
@@ -71,7 +72,7 @@ file-numbered n sets s =
     then-numbered (chosenCore n sets) _
     (then-numbered (normalTable n sets) (λ table. result (chosen table)) (normal-numbered n sets) (λ table. result-numbered))
     (λ core. then-numbered (readRecords n core s) (wholeRun sets) (records-numbered n core s)
-    (λ r. if-numbered (not (isEmpty (r .rest))) 7 refl (if-numbered (hits sets (crashed (r .file .crashes))) 11 refl result-numbered)))
+    (λ r. if-numbered (not (isEmpty (r .rest))) 7 refl (if-numbered (isNone (firstMissed sets (crashed (r .file .crashes)))) 11 refl result-numbered)))
 
 pub with-file-numbered : (n : ℕ) (sets run : List ℕ) → Numbered (simulatedWith n sets run)
 unfolding simulatedWith

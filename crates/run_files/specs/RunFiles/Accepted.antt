@@ -2,7 +2,7 @@
 -- rising, and a survivor set that no crash touches.
 use mathlib.Core.Path.{_≡_, refl, sym, ap, _∙_, subst}
 use mathlib.Core.Bool.{true, false, not, cond}
-use mathlib.Core.List.{List, [], _∷_, map}
+use mathlib.Core.List.{List, [], _∷_}
 use mathlib.Core.Logic.{⊎-elim}
 use mathlib.Core.Option.{none, some, Option}
 use Prim.Native.Nat.{ℕ, _-_, _≤_, _<_}
@@ -12,8 +12,8 @@ use lib.ListN.{length, getD}
 use borrow.Author.Tests.{leb-true, lt-ltb, eqb-true, eqb-false, ne-eqb}
 use Rattle.drive_sets.specs.Bools.Laws.{clash, by-test, and-intro, and-left, and-right, cond-true, cond-false}
 use Rattle.drive_sets.specs.Lists.{all, elem, ordered}
-use Rattle.drive_sets.specs.Lists.Laws.{elem-none, elem-head, elem-cases, any-false, all-intro, all-not}
-use Rattle.drive_sets.specs.Masks.{has, size, meets}
+use Rattle.drive_sets.specs.Lists.Laws.{elem-none, elem-head, elem-cases, any-false, all-intro}
+use Rattle.drive_sets.specs.Masks.{has, size}
 use Rattle.drive_sets.specs.Masks.Laws.{meets-not}
 use Rattle.drive_sets.specs.Masks.Sizes.{has-ofDrives}
 use Rattle.drive_sets.specs.Options.{isSome}
@@ -21,7 +21,9 @@ use Rattle.drive_sets.specs.Options.Laws.{none-some, same-some, none-of}
 use Rattle.drive_sets.specs.declared.Refusal.the-variants.{TrailingBytes, NoneUntouched}
 use Rattle.drive_sets.specs.Refusals.{result}
 use Rattle.drive_sets.specs.Refusals.Laws.{same-result, passed, first-result}
-use Rattle.survivor_tables.specs.Hitting.{hits}
+use Rattle.drive_sets.specs.Positions.{isNone}
+use Rattle.survivor_tables.specs.Hitting.{firstMissed}
+use Rattle.survivor_tables.specs.Hitting.Laws.{some-missed}
 use Rattle.survivor_tables.specs.Order.{normal}
 use Rattle.survivor_tables.specs.Tables.{isEmpty, chosen, chosenCore}
 use Rattle.survivor_tables.specs.Tables as tables
@@ -121,7 +123,7 @@ pub record Accepted (n : ℕ) (sets s : List ℕ) (f : RunFile) : Type 0 where
   pub untouched : (set : ℕ) × (elem set sets ≡ true) × ((d : ℕ) → has d set ≡ true → crashOf (f .crashes) d ≡ none)
 
 pub not-refused : (n : ℕ) (sets s : List ℕ) (f : RunFile) → readRunFile n sets s ≡ result f → Accepted n sets s f
-unfolding readRunFile readBehind readRecords wholeRun untouchedLeft hits
+unfolding readRunFile readBehind readRecords wholeRun untouchedLeft
 not-refused n sets s f e =
     let found = first-result (chosenCore n sets) (λ k. readBehind n k sets s) e in
     let given = core-given n sets (found .1) in
@@ -132,12 +134,12 @@ not-refused n sets s f e =
     let c = second .0 .list in
     let is = same-result (second .2) in
     let ended = passed (not (isEmpty (read .0 .rest))) TrailingBytes (untouchedLeft sets (read .0 .file)) (read .2) in
-    let left = passed (hits sets (crashed (c .crashes))) NoneUntouched _ (ap (λ (r : ReadRun). untouchedLeft sets (r .file)) is ∙ ended .1) in
+    let left = passed (isNone (firstMissed sets (crashed (c .crashes)))) NoneUntouched _ (ap (λ (r : ReadRun). untouchedLeft sets (r .file)) is ∙ ended .1) in
     let high = given .0 .high in
     let numbers = numbers-read n s (first .1) in
     let all = crashes-read n core (p .rest) (second .1) in
     let same = same-result (left .1) in
-    let set = all-not (λ x. meets x (crashed (c .crashes))) sets (left .0) in
+    let set = some-missed sets (crashed (c .crashes)) (left .0) in
     let whole : Accepted n sets s (record { numbers = p .list; crashes = c .crashes }) = record {
       table = given .0;
       many = numbers .many;

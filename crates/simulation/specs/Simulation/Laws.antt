@@ -2,7 +2,7 @@
 -- agreement, and every run of the scenario gives what it gives.
 use mathlib.Core.Path.{_≡_, refl, sym, ap, _∙_, subst}
 use mathlib.Core.Bool.{true, false, not}
-use mathlib.Core.List.{List, [], _∷_, map}
+use mathlib.Core.List.{List, [], _∷_}
 use mathlib.Core.Logic.{⊎-elim}
 use Prim.Native.Nat.{ℕ, _-_, _≤_, _<_}
 use native.Mathlib.Omega.{arith}
@@ -12,13 +12,15 @@ use borrow.Author.Tests.{ltb-false, eqb-true, leb-true, not-false}
 use Rattle.drive_sets.specs.declared.Refusal.the-variants.{DriveNumber, CrashRound, CrashSends, NoneUntouched}
 use Rattle.drive_sets.specs.Bools.Laws.{clash, by-test, false-of, and-left, and-right, cond-true, cond-false}
 use Rattle.drive_sets.specs.Lists.{elem}
-use Rattle.drive_sets.specs.Lists.Laws.{elem-head, elem-tail, elem-cases, elem-none, all-not}
-use Rattle.drive_sets.specs.Masks.{size, meets}
+use Rattle.drive_sets.specs.Lists.Laws.{elem-head, elem-tail, elem-cases, elem-none}
+use Rattle.drive_sets.specs.Masks.{size}
 use Rattle.drive_sets.specs.Masks.Laws.{meets-not}
 use Rattle.drive_sets.specs.Masks.Sizes.{has-ofDrives}
 use Rattle.drive_sets.specs.Refusals.{Outcome, result}
 use Rattle.drive_sets.specs.Refusals.Laws.{passed, first-result, same-result}
-use Rattle.survivor_tables.specs.Hitting.{hits}
+use Rattle.drive_sets.specs.Positions.{isNone}
+use Rattle.survivor_tables.specs.Hitting.{firstMissed}
+use Rattle.survivor_tables.specs.Hitting.Laws.{some-missed}
 use Rattle.survivor_tables.specs.Order.{normal}
 use Rattle.survivor_tables.specs.Tables.{chosen, normalTable, Accepted}
 use Rattle.survivor_tables.specs.Tables.Laws.{table-accepted}
@@ -134,7 +136,7 @@ module _ (n : ℕ) (sets numbers : List ℕ) (crs : List CrashRecord) {r : Simul
     accepted : normalTable n sets ≡ result (normal sets)
     table : Accepted n sets
     records : AllChecked n (chosen (normal sets)) crs
-    untouched : hits sets (crashed crs) ≡ false
+    untouched : isNone (firstMissed sets (crashed crs)) ≡ false
     gives : r ≡ simulatedOf given
 
   accept : Accept
@@ -143,7 +145,7 @@ module _ (n : ℕ) (sets numbers : List ℕ) (crs : List CrashRecord) {r : Simul
       let first = first-result (normalTable n sets) _ e in
       let table = table-accepted n sets (first .0) (first .1) in
       let checks = all-checked n (chosen (first .0)) _ 0 crs (first .2) in
-      let left = passed (hits sets (crashed crs)) NoneUntouched _ (checks .1) in
+      let left = passed (isNone (firstMissed sets (crashed crs))) NoneUntouched _ (checks .1) in
       record {
         accepted = first .1 ∙ ap result (table .1);
         table = table .0;
@@ -156,9 +158,9 @@ module _ (n : ℕ) (sets numbers : List ℕ) (crs : List CrashRecord) {r : Simul
   simulated-valid patterns = records-valid n sets numbers crs (accept .accepted) patterns (accept .records)
 
   pub simulated-untouched : Untouched given
-  unfolding scenario hits crashed
+  unfolding scenario crashed
   simulated-untouched =
-      let s = all-not (λ s. meets s (crashed crs)) sets (accept .untouched) in
+      let s = some-missed sets (crashed crs) (accept .untouched) in
       record {
         set = s .0;
         listed = s .1;

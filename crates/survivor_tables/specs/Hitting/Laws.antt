@@ -1,14 +1,19 @@
 -- Hitting sets and minimal ones: of more sets, of the same sets in another list, of sets of the drives 1 to n.
-use mathlib.Core.Path.{_≡_, refl, sym, _∙_, subst}
-use mathlib.Core.Bool.{true, _&&_}
+use mathlib.Core.Path.{_≡_, refl, sym, ap, _∙_, subst}
+use mathlib.Core.Bool.{true, false, _&&_}
+use mathlib.Core.Logic.{_↔_}
 use mathlib.Core.List.{List, [], _∷_, _++_}
-use Prim.Native.Nat.{ℕ, _^_, _≤_, _<_}
+use Prim.Native.Nat.{ℕ, _-_, _^_, _≤_, _<_}
 use native.Mathlib.Nat.{le-refl}
-use lib.Dec.{eqb}
-use lib.ListN.{length}
-use Rattle.drive_sets.specs.Bools.Laws.{and-intro, and-left, and-right}
+use native.Mathlib.Omega.{arith}
+use lib.ListN.{getD}
+use Rattle.drive_sets.specs.declared.Position.the-variants.{None, At}
+use Rattle.drive_sets.specs.Bools.Laws.{clash, and-intro, and-left, and-right}
 use Rattle.drive_sets.specs.Lists.{all, elem}
-use Rattle.drive_sets.specs.Lists.FirstFailing.{failing-none}
+use Rattle.drive_sets.specs.Lists.FirstFailing.{First, failing-none, failing-at}
+use Rattle.drive_sets.specs.Lists.Places.{getD-elem}
+use Rattle.drive_sets.specs.Positions.{isNone}
+use Rattle.drive_sets.specs.Positions.Laws.{by-position}
 use Rattle.drive_sets.specs.Lists.Laws.{all-elem, all-intro, all-append, all-same-elements}
 use Rattle.drive_sets.specs.Masks.{has, full, common, meets, subset, Below}
 use Rattle.drive_sets.specs.Masks.Laws.{has-common, has-bounds, full-has, common-lt, full-lt, has-subset, has-meets, meets-has, meets-subset}
@@ -16,10 +21,20 @@ use Rattle.survivor_tables.specs.Hitting.{firstMissed, hits, Minimal}
 
 -- ---- hitting sets
 
--- a group meets every set exactly if there is no first that it misses
-pub none-missed : (sets : List ℕ) (m : ℕ) → eqb (firstMissed sets m) (length sets) ≡ hits sets m
+-- there is no first set that a group misses exactly if it meets every one
+pub none-missed : (sets : List ℕ) (m : ℕ) → (firstMissed sets m ≡ None) ↔ (hits sets m ≡ true)
 unfolding hits
-none-missed sets m = failing-none (λ s. meets s m) sets
+none-missed sets m = failing-none (λ s. meets s m) 1 sets
+
+-- and the first that it misses stands at this position: it misses that one, and meets those before it
+pub missed-at : (sets : List ℕ) (m p : ℕ) → firstMissed sets m ≡ At p → First (λ s. meets s m) 1 sets p
+missed-at sets m p h = failing-at (λ s. meets s m) 1 sets p h
+
+pub some-missed : (sets : List ℕ) (m : ℕ) → isNone (firstMissed sets m) ≡ false → (s : ℕ) × (elem s sets ≡ true) × (meets s m ≡ false)
+some-missed sets m e =
+    by-position (firstMissed sets m)
+    (λ h. absurd (clash (ap isNone h) e))
+    (λ p h. let f = missed-at sets m p h in (getD sets (p - 1) 0, getD-elem sets (p - 1) (omega (arith, f .from, f .within)), f .there))
 
 pub hits-meets : (sets : List ℕ) (m s : ℕ) → hits sets m ≡ true → elem s sets ≡ true → meets s m ≡ true
 unfolding hits

@@ -1,10 +1,11 @@
 -- No call about tables is refused with the number 0: so a reply has refusal 0 exactly where the call is accepted.
 use mathlib.Core.Path.{_≡_, refl}
-use mathlib.Core.Bool.{Bool, not, _&&_}
+use mathlib.Core.Bool.{not, _&&_}
 use mathlib.Core.List.{List, []}
 use Prim.Native.Nat.{ℕ}
 use lib.Dec.{leb, ltb}
 use lib.ListN.{length, drop}
+use Rattle.drive_sets.specs.declared.Position.{Position}
 use Rattle.drive_sets.specs.Lent.{fitting}
 use Rattle.drive_sets.specs.Lent.Laws.{fitting-numbered}
 use Rattle.drive_sets.specs.Limits.{maxSets}
@@ -15,7 +16,7 @@ use Rattle.records.specs.Fields.{fieldAt}
 use Rattle.records.specs.Marks.{headOf}
 use Rattle.records.specs.RecordLists.{readList}
 use Rattle.records.specs.RecordLists.Numbered.{record-numbered, list-numbered}
-use Rattle.survivor_tables.specs.Tables.{isFrame, isSet, isEmpty, withinCoreLimit, normalTable, coreList, meetsEvery, survivorSets}
+use Rattle.survivor_tables.specs.Tables.{isFrame, isSet, isEmpty, withinCoreLimit, normalTable, coreList, missedSet, survivorSets}
 use Rattle.survivor_tables.specs.Tables.Numbered.{limit-numbered, normal-numbered, cores-numbered, back-numbered}
 use Rattle.table_files.specs.Files.{ReadTable, takenSet, setList, listedTable, readListed, accepted, readTable, readWhole, tableBytes}
 use Rattle.table_writing.specs.Writing.{writeTable}
@@ -23,7 +24,7 @@ use Rattle.tables.specs.Complete.{completeTable}
 use Rattle.threshold.specs.Threshold.{thresholdSets, thresholdTable, thresholdList}
 use Rattle.verdicts.specs.Verdicts.{verdictOn, verdict}
 use Rattle.c_replies.specs.Replies.{refusalOf}
-use Rattle.table_calls.specs.Replies.{fittingTable, tableReply, meetingReply}
+use Rattle.table_calls.specs.Replies.{fittingTable, tableReply, missedReply}
 
 -- ---- a reply's refusal is the outcome's
 
@@ -31,9 +32,9 @@ pub table-refusal : (s : List ℕ) (o : Outcome ReadTable) → tableReply s o .r
 table-refusal s (refused r) = refl
 table-refusal s (result t) = refl
 
-pub meeting-refusal : (o : Outcome Bool) → meetingReply o .refusal ≡ refusalOf o
-meeting-refusal (refused r) = refl
-meeting-refusal (result b) = refl
+pub missed-refusal : (o : Outcome Position) → missedReply o .refusal ≡ refusalOf o
+missed-refusal (refused r) = refl
+missed-refusal (result p) = refl
 
 -- ---- the calls given n and sets, or groups
 
@@ -66,9 +67,9 @@ write-numbered n sets start room =
     (then-numbered (normalTable n sets) (λ table. result (tableBytes n table)) (normal-numbered n sets) (λ table. result-numbered))
     start room
 
-pub meets-numbered : (n : ℕ) (sets : List ℕ) (group : ℕ) → Numbered (meetsEvery n sets group)
-unfolding meetsEvery
-meets-numbered n sets group =
+pub missed-numbered : (n : ℕ) (sets : List ℕ) (group : ℕ) → Numbered (missedSet n sets group)
+unfolding missedSet
+missed-numbered n sets group =
     then-numbered (normalTable n sets) _ (normal-numbered n sets) (λ table. if-numbered (not (isSet n group)) 4 refl result-numbered)
 
 pub verdict-numbered : (k n : ℕ) (sets : List ℕ) → Numbered (verdict k n sets)

@@ -48,7 +48,7 @@ unfolding common
 +disjoint-spec = close μ-disjoint λ t. disjoint-lts.spec (K t) (disjoint-at t) disjoint.Post disjoint-Inv-loop disjoint-μ-loop
     (λ c κs. search needs)
     (λ c. let a = c .before .before .before .args in pair-is (a .table .now) (a .k) (a .from) (a .shared) _ (c .before .if1 .taken) (c .first-pair .ensures))
-    (λ c. scan-from _ _ _ (c .before .before .pre .1 .1)) (λ c. search needs) (λ c. search needs) (λ c. search needs) (λ c κs. search needs)
+    (λ c. scan-from _ _ _) (λ c. search needs) (λ c. search needs) (λ c. search needs) (λ c κs. search needs)
     (λ c. search needs) (λ c. search needs) (λ c. search needs) (λ c. search needs) (λ c. search needs)
     (λ c. let a = c .before .before .before .before .before .before .before .before .args in found-more (a .k) (a .k - 1) (a .table .now) (a .from) (a .shared) (c .before .before .before .before .before .loop .i) (omega arith) (c .before .before .before .before .before .loop .inv) (c .before .before .disjoint .result) (c .before .before .before .before .loop-test .taken) (c .before .before .disjoint .ensures) (c .before .if2 .taken))
     (λ c. search needs) (λ c. search needs)

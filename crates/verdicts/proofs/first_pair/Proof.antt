@@ -1,11 +1,12 @@
 -- Two positions: for each set the first apart from what it shares; what is found from here on is what the whole gives.
 use borrow.Author.Needs.{needs}
 use Prim.Native.Nat.{_-_}
+use native.Mathlib.Omega.{arith}
 use lib.ListN.{length}
 use mathlib.Core.Path.{_∙_}
 use Rattle.drive_sets.specs.Loops.Scan.{scan-from}
 use Rattle.drive_sets.specs.Masks.{common}
-use Rattle.verdicts.proofs.Loops.{Searching, pair-found, pair-later, pair-end}
+use Rattle.verdicts.proofs.Loops.{Searching, pair-found, pair-within, pair-later, pair-end}
 use Rattle.verdicts.proofs.first_pair.Statement.{statement}
 use Rattle.verdicts.proofs.first_pair.Tie as tie
 
@@ -20,8 +21,11 @@ unfolding common
 first-pair-spec =
     tie.close
     (tie.spec
-    Inv-loop μ-loop (λ c. scan-from _ _ _ (c .before .pre .0)) (λ c. search needs) (λ c. search needs) (λ c κs. search needs) (λ c. search needs)
+    Inv-loop μ-loop (λ c. scan-from _ _ _) (λ c. search needs) (λ c. search needs) (λ c κs. search needs) (λ c. search needs)
+    (λ c. search needs) (λ c. search needs)
+    (λ c. omega (arith, pair-within _ _ _ _ (c .before .before .before .before .before .before .loop .inv) (c .before .before .before .before .before .loop-test .taken) (c .before .before .before .next-missed .ensures) (c .before .apart .given .1), c .before .before .before .before .before .before .before .before .pre))
+    (λ c. pair-found _ _ _ _ (c .before .before .before .before .before .before .loop .inv) (c .before .before .before .before .before .loop-test .taken) (c .before .before .before .next-missed .ensures) (c .before .apart .given .1))
     (λ c. search needs) (λ c. search needs) (λ c. search needs)
-    (λ c. pair-found _ _ _ _ (c .before .before .before .before .loop .inv) _ (c .before .before .before .loop-test .taken) (c .before .first-apart .ensures .1) (c .if1 .taken)) (λ c. search needs) (λ c. search needs)
-    (λ c. pair-later _ _ _ _ (c .before .before .before .before .loop .inv) _ (c .before .before .before .loop-test .taken) (c .before .first-apart .ensures .1) (c .if1 .left)) (λ c κs. search needs)
+    (λ c. pair-later _ _ _ _ (c .before .before .before .before .before .loop .inv) (c .before .before .before .before .loop-test .taken) (c .before .before .next-missed .ensures) (c .enum-told .given .1))
+    (λ c κs. search needs)
     (λ c. c .nothing .ensures ∙ pair-end _ _ _ _ (c .before .before .loop .inv) (c .before .loop-test .left)))

@@ -1,12 +1,12 @@
 -- The search: the sets still to come become fewer with each call; each return, and each turn of the loop over the
 -- drives with which it goes on, is a law of Trials.
-use mathlib.Core.Path.{_≡_, refl}
+use mathlib.Core.Path.{_≡_, refl, sym, _∙_}
 use Prim.Native.Nat.{ℕ, _-_, _<_}
 use native.Mathlib.Omega.{arith}
 use lib.ListN.{length}
 use borrow.Author.Needs.{needs}
 use Rattle.drive_sets.specs.Masks.{size}
-use Rattle.hitting_sets.proofs.Places.{passed-minimal}
+use Rattle.hitting_sets.proofs.Places.{missed-next, none-next, passed-minimal}
 use Rattle.drive_sets.specs.Loops.Drives.{taken, taken-fewer}
 use Rattle.hitting_sets.proofs.Trials.{Trying, try-start, try-minimal, try-on, try-end, try-stop, try-fuel, end-one, searched-from}
 use borrow.Fn.Kinds.{In}
@@ -20,7 +20,7 @@ use Rattle.drive_sets.proofs.without_lowest.Reads as without-lowest-reads
 use Rattle.hitting_sets.proofs.search.note.Reads as note-reads
 use Rattle.hitting_sets.proofs.search.candidates.Reads as candidates-reads
 use Rattle.hitting_sets.proofs.search.goes_on.Reads as goes-on-reads
-use Rattle.hitting_sets.proofs.search.next_missed.Reads as next-missed-reads
+use Rattle.survivor_tables.proofs.missed.next_missed.Reads as next-missed-reads
 use Rattle.hitting_sets.proofs.search.put.Reads as put-reads
 use Rattle.hitting_sets.proofs.search.spend.Reads as spend-reads
 use Rattle.hitting_sets.proofs.search.+search_from.{statement}
@@ -38,11 +38,11 @@ search-from-below t =
     and 3 search-from-kinds.ps (falls 3 search-from-kinds.ps _<_ μ-search-from t) search-from.Pre
 
 abbrev search-from-Inv-loop : search-from-lts.InvT-loop
-search-from-Inv-loop mode sets pos m out₀ ends₀ room next look-ahead rest₀ so-far₀ out ends rest so-far =
+search-from-Inv-loop mode sets pos m out₀ ends₀ room at next look-ahead rest₀ so-far₀ out ends rest so-far =
     Trying (mode .limited) (so-far₀ .left) sets m pos next out₀ out (so-far₀ .found) (so-far .found) (so-far .left) rest × (length ends ≡ length ends₀)
 
 abbrev search-from-μ-loop : search-from-lts.MeasureT-loop
-search-from-μ-loop mode sets pos m out₀ ends₀ room next look-ahead rest₀ so-far₀ out ends rest so-far = size rest
+search-from-μ-loop mode sets pos m out₀ ends₀ room at next look-ahead rest₀ so-far₀ out ends rest so-far = size rest
 
 abbrev K : ℕ → search-from-lts.Claims
 K t = (
@@ -70,25 +70,31 @@ K t = (
 
 search-from-returns : (t : ℕ) → search-from-lts.Need-returns (K t) (search-from-at t) search-from.Post search-from-Inv-loop search-from-μ-loop
 search-from-returns t c =
-    let a = c .before .before .before .before .before .before .before .before .before .args in
-    end-one (a .sets .now) (a .m) (a .pos) _ (c .before .before .before .before .before .next-missed .ensures) (c .before .before .before .before .if1 .taken) (a .out .now) (a .tally .found) (search needs) (c .before .before .put .ensures .0) (c .before .before .put .ensures .1) (c .before .before .put .ensures .2)
+    let start = c .before .before .before .before .before .before .before .before .before .before in
+    let a = start .args in
+    let f = none-next (a .sets .now) (a .pos) (a .m) (start .pre .1 .0) (sym (c .before .before .before .before .before .before .next-missed .ensures) ∙ c .before .before .before .before .enum-told .given .1) in
+    end-one (a .sets .now) (a .m) (a .pos) _ f refl (a .out .now) (a .tally .found) (search needs) (c .before .before .put .ensures .0) (c .before .before .put .ensures .1) (c .before .before .put .ensures .2)
+
+search-from-sub-next : (t : ℕ) → search-from-lts.Need-sub-next (K t) (search-from-at t) search-from.Post search-from-Inv-loop search-from-μ-loop
+search-from-sub-next t c = missed-next _ _ _ _ (sym (c .before .before .before .next-missed .ensures) ∙ c .before .missed .given .1) .0
 
 search-from-candidates-requires : (t : ℕ) → search-from-lts.Need-candidates-requires (K t) (search-from-at t) search-from.Post search-from-Inv-loop search-from-μ-loop
 search-from-candidates-requires t c = λ κs.
-    let a = c .before .before .before .before .before .args in
-    let f = c .before .next-missed .ensures in
-    let inside : c .before .next-missed .result < length (a .sets .now) = omega (arith, f .within) in
-    (inside, passed-minimal (a .sets .now) (a .m) (a .pos) _ f (c .before .before .before .before .before .pre .1 .2), f .missed inside)
+    let start = c .before .before .before .before .before .before .before in
+    let a = start .args in
+    let f = missed-next (a .sets .now) (a .pos) (a .m) _ (sym (c .before .before .before .next-missed .ensures) ∙ c .before .missed .given .1) in
+    (f .1, passed-minimal (a .sets .now) (a .m) (a .pos) _ (f .2) (start .pre .1 .2), f .3)
 
 search-from-loop-holds : (t : ℕ) → search-from-lts.Need-loop-holds (K t) (search-from-at t) search-from.Post search-from-Inv-loop search-from-μ-loop
 search-from-loop-holds t c =
-    let a = c .before .before .before .before .before .before .before .before .before .before .before .args in
-    (try-start (a .out .now) (c .before .before .before .before .before .before .before .next-missed .ensures) (c .before .before .before .before .before .candidates .ensures) (c .before .before .before .before .before .candidates .ok) (omega (arith, c .spend .ensures .0)), refl)
+    let a = c .before .before .before .before .before .before .before .before .before .before .before .before .before .args in
+    let f = missed-next (a .sets .now) (a .pos) (a .m) _ (sym (c .before .before .before .before .before .before .before .before .before .next-missed .ensures) ∙ c .before .before .before .before .before .before .before .missed .given .1) in
+    (try-start (a .out .now) (f .2) (f .1) (c .before .before .before .before .before .candidates .ensures) (c .before .before .before .before .before .candidates .ok) (omega (arith, c .spend .ensures .0)), refl)
 
 search-from-search-from-requires : (t : ℕ) → search-from-lts.Need-search-from-requires (K t) (search-from-at t) search-from.Post search-from-Inv-loop search-from-μ-loop
 search-from-search-from-requires t c = λ κs.
     let y = c .before .before .before .before .before .before .before .loop .inv .0 in
-    (search needs, (search needs, try-fuel y (c .before .before .before .before .before .goes-on .ensures) (c .before .before .before .before .if2 .taken) .0, try-minimal y (taken (y .word) (c .before .before .before .before .before .before .loop-test .taken) (c .before .before .before .lowest .ensures) refl) _ (c .before .before .insert .ensures)))
+    (search needs, (search needs, try-fuel y (c .before .before .before .before .before .goes-on .ensures) (c .before .before .before .before .if1 .taken) .0, try-minimal y (taken (y .word) (c .before .before .before .before .before .before .loop-test .taken) (c .before .before .before .lowest .ensures) refl) _ (c .before .before .insert .ensures)))
 
 search-from-loop-less : (t : ℕ) → search-from-lts.Need-loop-less (K t) (search-from-at t) search-from.Post search-from-Inv-loop search-from-μ-loop
 search-from-loop-less t c = taken-fewer (taken (c .before .before .before .before .before .before .before .before .before .before .before .before .before .loop .inv .0 .word) (c .before .before .before .before .before .before .before .before .before .before .before .before .loop-test .taken) (c .before .before .before .before .before .before .before .before .before .lowest .ensures) (c .without-lowest .ensures))
@@ -96,17 +102,18 @@ search-from-loop-less t c = taken-fewer (taken (c .before .before .before .befor
 search-from-loop-again : (t : ℕ) → search-from-lts.Need-loop-again (K t) (search-from-at t) search-from.Post search-from-Inv-loop search-from-μ-loop
 search-from-loop-again t c =
     let y = c .before .before .before .before .before .before .before .before .before .before .before .before .before .loop .inv .0 in
-    (try-on y (taken (y .word) (c .before .before .before .before .before .before .before .before .before .before .before .before .loop-test .taken) (c .before .before .before .before .before .before .before .before .before .lowest .ensures) (c .without-lowest .ensures)) _ (c .before .before .before .before .before .before .before .before .insert .ensures) (try-fuel y (c .before .before .before .before .before .before .before .before .before .before .before .goes-on .ensures) (c .before .before .before .before .before .before .before .before .before .before .if2 .taken) .1) (c .before .before .before .before .before .search-from .ensures) (search needs), search needs)
+    (try-on y (taken (y .word) (c .before .before .before .before .before .before .before .before .before .before .before .before .loop-test .taken) (c .before .before .before .before .before .before .before .before .before .lowest .ensures) (c .without-lowest .ensures)) _ (c .before .before .before .before .before .before .before .before .insert .ensures) (try-fuel y (c .before .before .before .before .before .before .before .before .before .before .before .goes-on .ensures) (c .before .before .before .before .before .before .before .before .before .before .if1 .taken) .1) (c .before .before .before .before .before .search-from .ensures) (search needs), search needs)
 
 search-from-returns-2 : (t : ℕ) → search-from-lts.Need-returns-2 (K t) (search-from-at t) search-from.Post search-from-Inv-loop search-from-μ-loop
-search-from-returns-2 t c = searched-from (c .before .before .before .before .spend .ensures .0) (c .before .before .before .before .spend .ensures .1) (try-stop (c .before .before .before .loop .inv .0) (c .before .goes-on .ensures) (c .if2 .left))
+search-from-returns-2 t c = searched-from (c .before .before .before .before .spend .ensures .0) (c .before .before .before .before .spend .ensures .1) (try-stop (c .before .before .before .loop .inv .0) (c .before .goes-on .ensures) (c .if1 .left))
 
 search-from-returns-3 : (t : ℕ) → search-from-lts.Need-returns-3 (K t) (search-from-at t) search-from.Post search-from-Inv-loop search-from-μ-loop
 search-from-returns-3 t c = searched-from (c .before .before .spend .ensures .0) (c .before .before .spend .ensures .1) (try-end (c .before .loop .inv .0) (c .loop-test .left))
 
 pub +search-from-spec : {M : Type 1} → statement M
 +search-from-spec = close μ-search-from λ t. search-from-lts.spec (K t) (search-from-at t) search-from.Post search-from-Inv-loop search-from-μ-loop
-    (λ c κs. search needs) (λ c κs. search needs) (λ c. search needs) (search-from-returns t) (search-from-candidates-requires t)
-    (λ c κs. search needs) (λ c κs. search needs) (search-from-loop-holds t) (λ c κs. search needs) (λ c κs. search needs) (λ c κs. search needs)
-    (λ c. search needs) (search-from-search-from-requires t) (λ c κs. search needs) (search-from-loop-less t) (search-from-loop-again t)
-    (λ c. search needs) (λ c. search needs) (search-from-returns-2 t) (λ c. search needs) (λ c. search needs) (search-from-returns-3 t)
+    (λ c κs. search needs) (λ c. search needs) (λ c. search needs) (λ c κs. search needs) (λ c. search needs) (search-from-returns t) (search-from-sub-next t)
+    (search-from-candidates-requires t) (λ c κs. search needs) (λ c κs. search needs) (search-from-loop-holds t) (λ c κs. search needs)
+    (λ c κs. search needs) (λ c κs. search needs) (λ c. search needs) (search-from-search-from-requires t) (λ c κs. search needs)
+    (search-from-loop-less t) (search-from-loop-again t) (λ c. search needs) (λ c. search needs) (search-from-returns-2 t) (λ c. search needs)
+    (λ c. search needs) (search-from-returns-3 t)

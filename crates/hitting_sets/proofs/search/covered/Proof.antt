@@ -1,6 +1,6 @@
 -- The first set that covers p decides.
 use mathlib.Core.Path.{sym, ap, _∙_}
-use Prim.Native.Nat.{ℕ, _-_, zero-le}
+use Prim.Native.Nat.{ℕ, _-_}
 use lib.ListN.{length}
 use borrow.Author.Needs.{needs}
 use Rattle.drive_sets.specs.Lists.{any}
@@ -18,7 +18,7 @@ abbrev μ-loop : tie.MeasureT-loop
 
 loop-holds : tie.Need-loop-holds Inv-loop μ-loop
 unfolding covered union
-loop-holds c = record { within = zero-le; rest = ap (λ (w : ℕ). any (λ s. subset s w) (c .before .before .args .sets .now)) (c .minus .ensures) }
+loop-holds c = record { rest = ap (λ (w : ℕ). any (λ s. subset s w) (c .before .before .args .sets .now)) (c .minus .ensures) }
 
 returns : tie.Need-returns Inv-loop μ-loop
 returns c = any-found _ (c .before .before .before .before .loop .inv) (c .before .before .before .loop-test .taken) (sym (c .before .subset .ensures) ∙ c .if1 .taken)

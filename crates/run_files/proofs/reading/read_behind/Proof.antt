@@ -16,7 +16,8 @@ read-behind-spec =
     tie.close
     (tie.spec
     (λ c κs. search needs) (λ c. search needs) (λ c κs. search needs) (λ c. search needs) (λ c κs. search needs)
-    (λ c. (rw (c .refused-file2 .ensures, ← c .before .before .before .before .before .before .read-records .ensures .0, c .before .before .enum-told .given .1, rest-some _ _ (c .before .if1 .taken)), file-refused (c .refused-file2 .ensures))) (λ c κs. search needs) (λ c κs. search needs)
-    (λ c. let r = c .before .before .before .before .before .before .before .before .read-records in let word : r .result .crashes .crashed < 2 ^ 64 = search needs in (rw (c .refused-file3 .ensures, ← r .ensures .0, c .before .before .before .before .enum-told .given .1, rest-none _ _ (c .before .before .before .if1 .left), crashed-in (r .result .crashes) word, ← c .before .before .meets-all .ensures, c .before .if2 .taken), file-refused (c .refused-file3 .ensures)))
+    (λ c. (rw (c .refused-file2 .ensures, ← c .before .before .before .before .before .before .read-records .ensures .0, c .before .before .enum-told .given .1, rest-some _ _ (c .before .if1 .taken)), file-refused (c .refused-file2 .ensures)))
+    (λ c κs. search needs) (λ c. search needs) (λ c. search needs) (λ c κs. search needs)
+    (λ c. let r = c .before .before .before .before .before .before .before .before .before .read-records in let word : r .result .crashes .crashed < 2 ^ 64 = search needs in (rw (c .refused-file3 .ensures, ← r .ensures .0, c .before .before .before .before .before .enum-told .given .1, rest-none _ _ (c .before .before .before .before .if1 .left), crashed-in (r .result .crashes) word, ← c .before .before .before .first-missed .ensures, c .before .enum-told3 .given .1), file-refused (c .refused-file3 .ensures)))
     (λ c. (rw (c .refused-file .ensures, ← c .before .before .before .before .before .before .read-records .ensures .0, c .before .before .answer .given .1), file-refused (c .refused-file .ensures)))
-    (λ c. let r = c .before .before .before .before .before .before .before .read-records in let word : r .result .crashes .crashed < 2 ^ 64 = search needs in (rw (← r .ensures .0, c .before .before .before .enum-told .given .1, rest-none _ _ (c .before .before .if1 .left), crashed-in (r .result .crashes) word, ← c .before .meets-all .ensures, c .if2 .left), file-accepted refl)))
+    (λ c. let r = c .before .before .before .before .before .before .before .before .read-records in let word : r .result .crashes .crashed < 2 ^ 64 = search needs in (rw (← r .ensures .0, c .before .before .before .before .enum-told .given .1, rest-none _ _ (c .before .before .before .if1 .left), crashed-in (r .result .crashes) word, ← c .before .before .first-missed .ensures, c .enum-told2 .given .1), file-accepted refl)))
