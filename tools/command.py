@@ -215,6 +215,19 @@ def threshold(n: int, t: int, unproved: bool) -> int:
     return end_of(number)
 
 
+def missed(use: Use, given: list[int]) -> int:
+    data = read_file(use.file, MOST_BYTES)
+    printed = use.listing("table", data)
+    number = model.refusal_in(printed)
+    if number:
+        return end_of(number, hint_for("table", data, number))
+    line = explaining.missed_line(printed, given)
+    if not line:
+        return end_of(4)
+    write(f"{line}\n".encode())
+    return DONE
+
+
 def library() -> int:
     write(f"{building.library()}\n".encode())
     return DONE
@@ -224,9 +237,10 @@ COMMANDS: dict[str, tuple[Callable[[Use], int], str]] = {
     "table": (table, helps.TABLE), "run": (run, helps.RUN), "explain": (explain, helps.EXPLAIN),
     "picture": (picture, helps.PICTURE), "make": (make, helps.MAKE), "show": (show, helps.SHOW),
 }
-HELPS = {name: text for name, (_, text) in COMMANDS.items()} | {"threshold": helps.THRESHOLD, "library": helps.LIBRARY}
+HELPS = {name: text for name, (_, text) in COMMANDS.items()} | {
+    "missed": helps.MISSED, "threshold": helps.THRESHOLD, "library": helps.LIBRARY}
 # The commands that a proved program answers.
-PROVED = ("table", "run", "explain", "picture", "threshold")
+PROVED = ("table", "run", "explain", "missed", "picture", "threshold")
 
 
 # Words of the command line
@@ -271,6 +285,10 @@ def main(words: list[str]) -> int:
         return library()
     if command == "threshold":
         return threshold(*two_numbers(files), bool(options))
+    if command == "missed":
+        if len(files) < 2:
+            wrong_use(f"missed takes a file and drives, and here is {'only a file' if files else 'none'}")
+        return missed(Use(files[0], bool(options)), [one_byte(word, "a drive") for word in files[1:]])
     if len(files) != 1:
         wrong_use(f"{command} takes one file, and here {'are' if files else 'is'} {len(files) or 'none'}")
     if options and command not in PROVED:

@@ -1,5 +1,6 @@
 """A file in words, for who reads it against the wiring: each survivor set and core by drive numbers, whether the sets
-are all groups of one size, which sets the normal table drops, which drives stand in no set, and which drives talk.
+are all groups of one size, which sets the normal table drops, which drives stand in no set, and which drives talk; and
+which set some drives miss.
 
 Sets kept, cores and the chosen core are taken from the table's listing.
 """
@@ -75,6 +76,19 @@ def dropped_lines(sets: list[int], kept: list[int]) -> Iterator[str]:
             smaller = next(small for small in kept if is_part(small, mask))
             yield f"  set {mask:x}, the file's number {place}: {drive_list(drives(mask))}; it holds set {smaller:x}"
         seen.add(mask)
+
+
+def missed_line(printed: bytes, given: list[int]) -> str:
+    """The first set of a table's listing with none of these drives, by its position, or a core that they hold; empty
+    where one of them is no drive of the frame."""
+    if not all(1 <= drive <= int(printed.split()[1]) for drive in given):
+        return ""
+    group = mask_of(given)
+    for position, mask in enumerate(listed(printed, "set"), start=1):
+        if not mask & group:
+            return f"missed {position}, set {mask:x}: {drive_list(drives(mask))}"
+    core = next(mask for mask in listed(printed, "core") if is_part(mask, group))
+    return f"none missed; the drives hold core {core:x}: {drive_list(drives(core))}"
 
 
 def run_lines(contents: Contents, printed: bytes) -> Iterator[str]:

@@ -4,26 +4,28 @@ from texts import WORDS
 
 ALL = """\
 usage: ./regdulyn [--unproved] COMMAND FILE
+       ./regdulyn [--unproved] missed FILE DRIVE..
        ./regdulyn [--unproved] threshold N T
 
-  table FILE       prints the listing of a survivor table: its sets, its cores and the verdicts on k
-  run FILE         prints the listing of an exchange tried out: a table with a run file behind it
-  explain FILE     says a table in words: each set and core by drive numbers, and what the table leaves out
-  picture FILE     draws a table, or an exchange tried out, as SVG
-  make FILE.txt    writes the bytes of a table, or of a table and a run file, from text
-  show FILE        prints the text from which make makes the file
-  threshold N T    writes the bytes of the table of N drives of which at most T drop out
-  library          builds the proved library for C and prints where it stands
+  table FILE           prints the listing of a survivor table: its sets, its cores and the verdicts on k
+  run FILE             prints the listing of an exchange tried out: a table with a run file behind it
+  explain FILE         says a table in words: each set and core by drive numbers, and what the table leaves out
+  missed FILE DRIVE..  says which survivor set is the first that has none of these drives
+  picture FILE         draws a table, or an exchange tried out, as SVG
+  make FILE.txt        writes the bytes of a table, or of a table and a run file, from text
+  show FILE            prints the text from which make makes the file
+  threshold N T        writes the bytes of the table of N drives of which at most T drop out
+  library              builds the proved library for C and prints where it stands
 
 FILE - is standard input. ./regdulyn COMMAND --help says more of a command.
 
---unproved answers at once from the second program, which is not proved; it goes with table, run, explain, picture and
-threshold. Without it the first use builds the proved program, which takes minutes; the prover's text goes to
-target/build.log.
+--unproved answers at once from the second program, which is not proved; it goes with table, run, explain, missed,
+picture and threshold. Without it the first use builds the proved program, which takes minutes; the prover's text goes
+to target/build.log.
 
-exit status: 0 done; 1 the file is refused, or N and T are, or the text has mistakes; 2 a wrong use, or a file that
-cannot be read or written; 3 the proved program cannot be built or run, or its listing is not of the file; 128 and a
-signal's number where that signal ended it
+exit status: 0 done; 1 the file is refused, or the drives or N and T are, or the text has mistakes; 2 a wrong use, or a
+file that cannot be read or written; 3 the proved program cannot be built or run, or its listing is not of the file; 128
+and a signal's number where that signal ended it
 """
 
 TABLE = """\
@@ -50,6 +52,15 @@ are all groups of one size, the sets that the normal table drops and why, the dr
 talk and which listen; and of a run file the pattern numbers and stops. Sets kept, cores and the chosen core are the
 proved table program's. Of a refused file it says the sets as they are listed; standard error has what is wrong, and the
 exit status is 1.
+"""
+
+MISSED = """\
+usage: ./regdulyn [--unproved] missed FILE DRIVE..
+
+Says which survivor set of a table is the first that has none of these drives: its position, as the table program lists
+the sets, its mask and its drives. Where the drives are in every set it says so, and a core that they hold. The sets,
+their order and the cores are the proved table program's. Of a refused file standard error has the refusal with its
+meaning, and the exit status is 1; so it has 4 where one of the drives is not of the frame.
 """
 
 PICTURE = """\

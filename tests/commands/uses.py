@@ -5,6 +5,7 @@ import subprocess
 from pathlib import Path
 from typing import Iterator
 
+import explaining
 import failures
 import generate
 
@@ -24,7 +25,8 @@ def wrong_uses(work: Path) -> Iterator[Case]:
         ("no file", ["table"], "table takes one file, and here is none" + SEE),
         ("two files", ["run", a, a], "run takes one file, and here are 2" + SEE),
         ("unproved make", ["--unproved", "make", a],
-         "--unproved goes with table, run, explain, picture, threshold, and make needs no proved program" + SEE),
+         "--unproved goes with table, run, explain, missed, picture, threshold, and make needs no proved program"
+         + SEE),
         ("threshold of nothing", ["threshold"], "threshold takes two numbers, and here is none" + SEE),
         ("threshold of one", ["threshold", "6"], "threshold takes two numbers, and here is 1" + SEE),
         ("threshold of three", ["threshold", "6", "2", "1"], "threshold takes two numbers, and here are 3" + SEE),
@@ -33,6 +35,9 @@ def wrong_uses(work: Path) -> Iterator[Case]:
         ("threshold, hexadecimal", ["threshold", "6", "0x2"],
          "the number that may drop out is '0x2', which is no decimal number" + SEE),
         ("threshold, negative", ["threshold", "6", "-1"], "unknown option -1" + SEE),
+        ("missed of nothing", ["missed"], "missed takes a file and drives, and here is none" + SEE),
+        ("missed of no drive", ["missed", a], "missed takes a file and drives, and here is only a file" + SEE),
+        ("missed of words", ["missed", a, "1", "two"], "a drive is 'two', which is no decimal number" + SEE),
         ("library with a file", ["library", a], "library takes no file and no option" + SEE),
         ("help of an unknown command", ["tabel", "--help"], "unknown command tabel" + SEE),
         ("directory", ["--unproved", "table", str(work)], f"cannot read {work}: it is a directory\n"),
@@ -73,7 +78,7 @@ def hints(work: Path) -> Iterator[Case]:
 
 
 def helps(_work: Path) -> Iterator[Case]:
-    names = ("table", "run", "explain", "picture", "make", "show", "threshold", "library")
+    names = ("table", "run", "explain", "missed", "picture", "make", "show", "threshold", "library")
     for words in (["--help"], ["-h"], *([name, "--help"] for name in names)):
         status, printed, said = regdulyn(*words)
         yield f"{' '.join(words)}", (status, printed.startswith(b"usage: ./regdulyn "), said), (0, True, "")
@@ -125,6 +130,26 @@ def thresholds(_work: Path) -> Iterator[Case]:
     yield "threshold, refused", regdulyn("threshold", "6", "6"), (
         1, b"", "regdulyn: refused 31: the number of drives that may drop out is not below the number of drives\n")
     yield "threshold 6 2, read", regdulyn("table", "-", given=regdulyn("threshold", "6", "2")[1])[0], 0
+
+
+def missed(_work: Path) -> Iterator[Case]:
+    """A position or a core for every group of case A's drives; the table's refusals before 4 of the drives."""
+    a, sets, cores = example("a.table"), {1: 1, 2: 2, 3: 0x3C}, (7, 0xB, 0x13, 0x23)
+    printed = model.listing("table", a.read_bytes())
+    for group in range(1, 1 << 6):
+        position = next((place for place, mask in sets.items() if not mask & group), 0)
+        said = (f"missed {position}, set {sets[position]:x}: " if position else
+                f"none missed; the drives hold core {next(core for core in cores if core & ~group == 0):x}: ")
+        found = explaining.missed_line(printed, [drive for drive in range(6, 0, -1) if group >> drive - 1 & 1])
+        yield f"missed {group:x}", found.startswith(said), True
+    yield "missed, the line", regdulyn("missed", str(a), "1", "2", "1"), (0, b"missed 3, set 3c: drives 3 4 5 6\n", "")
+    yield "none missed, the line", regdulyn("--unproved", "missed", str(a), "1", "2", "5"), (
+        0, b"none missed; the drives hold core 13: drives 1 2 5\n", SAID)
+    for drive in (0, 7, 64, 65, 255):
+        yield f"missed, drive {drive}", explaining.missed_line(printed, [1, drive]), ""
+    yield "missed, refused", regdulyn("missed", str(a), "1", "300"), (1, b"", f"regdulyn: {failures.refused(4)}\n")
+    yield "missed, the table first", regdulyn("missed", str(example("i.table")), "99"), (
+        1, b"", f"regdulyn: {failures.refused(3)}\n")
 
 
 def pictures(_work: Path) -> Iterator[Case]:

@@ -128,7 +128,8 @@ def thresholds(script: Script, frames: Iterable[int]) -> None:
         script.threshold(n, t)
 
 
-LIMITS = (table_limits, group_limits, missed_positions, verdict_limits, writer_limits, back_limits, hard_groups,
+LIMITS = (table_limits, group_limits, missed_positions, verdict_limits, writer_limits,
+          back_limits, hard_groups,
           *(partial(thresholds, frames=COUNTS[place::4]) for place in range(4)))
 
 

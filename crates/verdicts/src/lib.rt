@@ -52,9 +52,11 @@ fn first_pair(table: &[u64], from: usize, shared: u64) -> Named
     while i < table.len() {
         let apart = next_missed(table, i, shared & table[i]);
         if let Position::At(position) = apart {
+            let first = (i + 1) as u8;
+            let second = position as u8;
             return Named {
                 any: true,
-                positions: [(i + 1) as u8, position as u8, 0, 0],
+                positions: [first, second, 0, 0],
             };
         }
         i += 1;
