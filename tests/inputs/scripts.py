@@ -63,8 +63,11 @@ def each_kind(script: Script) -> None:
         script.simulate(6, A_SETS, PATTERNS, [Crash(drive, 1, 0) for drive in drives])
 
 
+FIXED = (each_kind, make_samples, *set_calls.LIMITS, *run_calls.LIMITS)
+
+
 def fixed_scripts() -> Iterator[Script]:
-    for fixed in (each_kind, make_samples, *set_calls.LIMITS, *run_calls.LIMITS):
+    for fixed in FIXED:
         script = Script()
         fixed(script)
         yield script

@@ -15,8 +15,8 @@ use Rattle.runs.specs.Statement.{Valid, Untouched, Up, DecidesAfter, callsBefor
 use Rattle.agreement.specs.Document01.{applyAll, refusedIn, sendingOf, Run}
 use Rattle.exchange.specs.Steps.{mayName, keepAll}
 use Rattle.c_replies.specs.Replies.{sizeReply}
-use Rattle.controller.specs.declared.State.{State}
-use Rattle.controller.specs.Crossing.{isFlagged, stateOf}
+use Rattle.c_states.specs.declared.State.{State}
+use Rattle.c_states.specs.Crossing.{isFlagged, stateOf}
 use Rattle.controller.specs.Replies.{unopenedState, openReply, messageReply, closeReply, sendReply, sendBuffer}
 pub mod Laws
 

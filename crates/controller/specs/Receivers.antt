@@ -12,8 +12,8 @@ use Rattle.drive_states.specs.State.{inCore, broken}
 use Rattle.agreement.specs.Sends.{receivers}
 use Rattle.c_replies.specs.declared.SizeReply.{SizeReply}
 use Rattle.c_replies.specs.Replies.{sizeReply}
-use Rattle.controller.specs.declared.State.{State}
-use Rattle.controller.specs.Crossing.{exchangeOf}
+use Rattle.c_states.specs.declared.State.{State}
+use Rattle.c_states.specs.Crossing.{exchangeOf}
 pub mod Laws
 
 -- the drives to which the message of a core drive in this state goes, in the order of the sends

@@ -2,16 +2,14 @@
 use mathlib.Core.List.{List}
 use Prim.Native.Nat.{ℕ}
 use lib.ListN.{length}
-use Rattle.drive_sets.specs.Refusals.{Outcome, refused, result}
 use Rattle.drive_sets.specs.Lent.{sizeWritten, bufferAfter}
-use Rattle.drive_states.specs.declared.Exchange.{Exchange}
 use Rattle.agreement.specs.Calls.{opening, sending, receiving, closing}
 use Rattle.exchange.specs.Replies.{notOpened}
-use Rattle.controller.specs.declared.State.{State}
-use Rattle.controller.specs.declared.StateReply.{StateReply}
+use Rattle.c_states.specs.declared.State.{State}
+use Rattle.c_states.specs.declared.StateReply.{StateReply}
 use Rattle.c_replies.specs.declared.SizeReply.{SizeReply}
 use Rattle.c_replies.specs.Replies.{sizeReply}
-use Rattle.controller.specs.Crossing.{exchangeOf, stateOf}
+use Rattle.c_states.specs.Crossing.{exchangeOf, stateOf, answered}
 pub mod Laws
 
 -- the version of the state's layout
@@ -21,11 +19,6 @@ stateVersion = 1
 -- the state of a drive that was never opened
 unfoldable pub unopenedState : State
 unopenedState = stateOf notOpened
-
--- an accepted call gives the new state; a refused one its number, and the state as it was handed
-abbrev pub answered : State → Outcome Exchange → StateReply
-answered s (refused r) = record { state = s; refusal = r }
-answered s (result x) = record { state = stateOf x; refusal = 0 }
 
 -- ---- the four calls
 

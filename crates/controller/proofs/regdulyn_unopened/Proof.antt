@@ -1,6 +1,6 @@
 -- The state that was never opened, as numbers.
 use mathlib.Core.Path.{ap, _∙_}
-use Rattle.controller.specs.Crossing.{stateOf}
+use Rattle.c_states.specs.Crossing.{stateOf}
 use Rattle.controller.specs.Replies.{unopenedState}
 use borrow.Author.Needs.{needs}
 use Rattle.controller.proofs.regdulyn_unopened.Statement.{statement}

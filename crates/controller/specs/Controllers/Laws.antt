@@ -23,11 +23,11 @@ use Rattle.exchange.specs.Replies.Laws.{not-opened-sending, not-opened-receivin
 use Rattle.exchange.specs.Steps.{held, mayName, leaves}
 use Rattle.exchange.specs.Steps.Laws.{opening-named, not-open, size-refused}
 use Rattle.exchange.specs.Steps.Kept.{kept-held, kept-open, decided-open}
-use Rattle.controller.specs.declared.State.{State}
-use Rattle.controller.specs.Crossing.{isFlagged, exchangeOf, decidedFlag, decidedNumber, stateOf}
-use Rattle.controller.specs.Crossing.Laws.{there-and-back}
+use Rattle.c_states.specs.declared.State.{State}
+use Rattle.c_states.specs.Crossing.{isFlagged, exchangeOf, decidedFlag, decidedNumber, stateOf, answered}
+use Rattle.c_states.specs.Crossing.Laws.{there-and-back}
 use Rattle.c_replies.specs.Replies.{sizeReply}
-use Rattle.controller.specs.Replies.{unopenedState, answered, openReply, messageReply, closeReply, sendReply, sendBuffer}
+use Rattle.controller.specs.Replies.{unopenedState, openReply, messageReply, closeReply, sendReply, sendBuffer}
 use Rattle.controller.specs.Replies.Laws.{refusal-set, size-refusal-set, opening-numbered, sending-numbered, receiving-numbered, closing-numbered}
 use Rattle.controller.specs.Controllers.{handedBack, refusalTo, Store, keptFrom, worldAfter, KeepsWorld, Reads, ControllersAgree}
 

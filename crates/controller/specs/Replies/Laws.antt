@@ -23,10 +23,9 @@ use Rattle.agreement.specs.Calls.{opening, outgoing, sending, outsideCore, anyD
 use Rattle.drive_sets.specs.Lent.Laws.{fitting-numbered}
 use Rattle.records.specs.RecordLists.Numbered.{record-numbered}
 use Rattle.survivor_tables.specs.Tables.Numbered.{normal-numbered}
-use Rattle.controller.specs.declared.State.{State}
-use Rattle.controller.specs.Crossing.{isFlagged}
+use Rattle.c_states.specs.declared.State.{State}
+use Rattle.c_states.specs.Crossing.{isFlagged, answered}
 use Rattle.c_replies.specs.Replies.{sizeReply}
-use Rattle.controller.specs.Replies.{answered}
 
 -- ---- the number is set exactly where the call is refused
 

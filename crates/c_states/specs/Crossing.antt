@@ -1,10 +1,12 @@
--- A drive's state as a struct of numbers, for C, and back. Whatever the numbers are, they say a state.
+-- A drive's state as a struct of numbers, for C, and back, and the reply of a call that was handed one. Whatever the
+-- numbers are, they say a state.
 use mathlib.Core.Bool.{Bool, not, cond}
 use Prim.Native.Nat.{ℕ}
 use lib.Dec.{eqb}
 use lib.ListN.{replicate}
 use Rattle.drive_sets.specs.declared.Drive.{Drive}
 use Rattle.drive_sets.specs.declared.Pattern.{Pattern}
+use Rattle.drive_sets.specs.Refusals.{Outcome, refused, result}
 use Rattle.drive_states.specs.declared.Exchange.{Exchange}
 use Rattle.drive_states.specs.declared.Announcement.{Announcement}
 use Rattle.drive_states.specs.declared.Announcement.the-variants.{Absent, By}
@@ -12,7 +14,8 @@ use Rattle.drive_states.specs.declared.Decision.{Decision}
 use Rattle.drive_states.specs.declared.Decision.the-variants.{Undecided, Decided}
 use Rattle.drive_states.specs.State.{pattern}
 use Rattle.c_replies.specs.Replies.{flagOf}
-use Rattle.controller.specs.declared.State.{State}
+use Rattle.c_states.specs.declared.State.{State}
+use Rattle.c_states.specs.declared.StateReply.{StateReply}
 pub mod Laws
 
 -- ---- from numbers: a flag is set where it is not 0
@@ -83,3 +86,10 @@ stateOf x = record {
   halted = flagOf (x .halted);
   reserved = replicate 5 0;
 }
+
+-- ---- replies
+
+-- an accepted call gives the new state; a refused one its number, and the state as it was handed
+abbrev pub answered : State → Outcome Exchange → StateReply
+answered s (refused r) = record { state = s; refusal = r }
+answered s (result x) = record { state = stateOf x; refusal = 0 }

@@ -1,9 +1,9 @@
 -- The number of a decision, or 0.
 use mathlib.Core.Path.{sym, ap}
-use Rattle.controller.specs.Crossing.{decidedNumber}
+use Rattle.c_states.specs.Crossing.{decidedNumber}
 use borrow.Author.Needs.{needs}
-use Rattle.controller.proofs.crossing.decided_number.Statement.{statement}
-use Rattle.controller.proofs.crossing.decided_number.Tie as tie
+use Rattle.c_states.proofs.decided_number.Statement.{statement}
+use Rattle.c_states.proofs.decided_number.Tie as tie
 
 pub decided-number-spec : {M : Type 1} → statement M
 decided-number-spec =

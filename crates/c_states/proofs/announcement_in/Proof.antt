@@ -2,8 +2,8 @@
 use mathlib.Core.Path.{sym}
 use borrow.Author.Tests.{eq-eqb, ne-eqb}
 use Rattle.drive_sets.specs.Bools.Laws.{cond-true, cond-false}
-use Rattle.controller.proofs.crossing.announcement_in.Statement.{statement}
-use Rattle.controller.proofs.crossing.announcement_in.Tie as tie
+use Rattle.c_states.proofs.announcement_in.Statement.{statement}
+use Rattle.c_states.proofs.announcement_in.Tie as tie
 
 pub announcement-in-spec : {M : Type 1} → statement M
 announcement-in-spec =

@@ -1,7 +1,7 @@
 -- Two parts are read by calls, the others are the fields.
 use borrow.Author.Needs.{needs}
-use Rattle.controller.proofs.crossing.exchange_of.Statement.{statement}
-use Rattle.controller.proofs.crossing.exchange_of.Tie as tie
+use Rattle.c_states.proofs.exchange_of.Statement.{statement}
+use Rattle.c_states.proofs.exchange_of.Tie as tie
 
 pub exchange-of-spec : {M : Type 1} → statement M
 exchange-of-spec =

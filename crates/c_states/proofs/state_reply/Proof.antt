@@ -1,7 +1,7 @@
 -- One return for each case of the answer.
 use borrow.Author.Needs.{needs}
-use Rattle.controller.proofs.crossing.state_reply.Statement.{statement}
-use Rattle.controller.proofs.crossing.state_reply.Tie as tie
+use Rattle.c_states.proofs.state_reply.Statement.{statement}
+use Rattle.c_states.proofs.state_reply.Tie as tie
 
 pub state-reply-spec : {M : Type 1} → statement M
 state-reply-spec =

@@ -1,7 +1,7 @@
 -- Six parts are made by calls, the others are the fields.
 use borrow.Author.Needs.{needs}
-use Rattle.controller.proofs.crossing.state_of.Statement.{statement}
-use Rattle.controller.proofs.crossing.state_of.Tie as tie
+use Rattle.c_states.proofs.state_of.Statement.{statement}
+use Rattle.c_states.proofs.state_of.Tie as tie
 
 pub state-of-spec : {M : Type 1} → statement M
 state-of-spec =

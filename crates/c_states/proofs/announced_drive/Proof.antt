@@ -1,9 +1,9 @@
 -- The sender of an announcement, or 0.
 use mathlib.Core.Path.{sym, ap}
-use Rattle.controller.specs.Crossing.{announcedDrive}
+use Rattle.c_states.specs.Crossing.{announcedDrive}
 use borrow.Author.Needs.{needs}
-use Rattle.controller.proofs.crossing.announced_drive.Statement.{statement}
-use Rattle.controller.proofs.crossing.announced_drive.Tie as tie
+use Rattle.c_states.proofs.announced_drive.Statement.{statement}
+use Rattle.c_states.proofs.announced_drive.Tie as tie
 
 pub announced-drive-spec : {M : Type 1} → statement M
 announced-drive-spec =

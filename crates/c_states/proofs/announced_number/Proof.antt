@@ -1,9 +1,9 @@
 -- The number of an announcement, or 0.
 use mathlib.Core.Path.{sym, ap}
-use Rattle.controller.specs.Crossing.{announcedNumber}
+use Rattle.c_states.specs.Crossing.{announcedNumber}
 use borrow.Author.Needs.{needs}
-use Rattle.controller.proofs.crossing.announced_number.Statement.{statement}
-use Rattle.controller.proofs.crossing.announced_number.Tie as tie
+use Rattle.c_states.proofs.announced_number.Statement.{statement}
+use Rattle.c_states.proofs.announced_number.Tie as tie
 
 pub announced-number-spec : {M : Type 1} → statement M
 announced-number-spec =

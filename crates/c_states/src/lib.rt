@@ -1,16 +1,60 @@
-// The state of a drive as a struct of numbers and back, and the reply to a call that was handed one.
+// The state of a drive for C, as a struct of numbers, and back, and the reply to a call that was handed one.
 ghost use mathlib.Core.Path.{_≡_};
 ghost use Rattle.drive_sets.specs.Refusals.{outcomeOf};
-ghost use Rattle.controller.specs.Crossing.{announcementIn, decisionIn, exchangeOf, announcedFlag, announcedDrive, announcedNumber, decidedFlag, decidedNumber, stateOf};
-ghost use Rattle.controller.specs.Replies.{answered};
-use crate::State;
-use crate::StateReply;
+ghost use Rattle.c_states.specs.Crossing.{announcementIn, decisionIn, exchangeOf, announcedFlag, announcedDrive, announcedNumber, decidedFlag, decidedNumber, stateOf, answered};
 use drive_sets::Answer;
 use drive_sets::Drive;
 use drive_sets::Pattern;
+use drive_sets::Round;
 use drive_states::Announcement;
 use drive_states::Decision;
 use drive_states::Exchange;
+
+// The state of one drive, without gaps between its numbers. A flag is set where it is not 0; a call that is accepted
+// gives it as 0 or 1.
+#[repr(C)]
+pub struct State {
+    // The chosen core: its drives talk, the others listen.
+    pub core: u64,
+    // The drives heard in the round before, oneself among them if in the core; at first the core.
+    pub before: u64,
+    // The senders accepted in this round.
+    pub heard: u64,
+    // The drives whose pattern numbers are known now.
+    pub known: u64,
+    // The drives whose pattern numbers were known when the round began: what is sent.
+    pub start: u64,
+    // The pattern numbers, drive 1 first; one counts where its drive is known.
+    pub numbers: [Pattern; 64],
+    // The number announced in this round by a DC, where `announced` is set.
+    pub told: Pattern,
+    // The drive's own decision, where `decided` is set.
+    pub decision: Pattern,
+    // The drives of the frame.
+    pub n: u8,
+    // The drive whose state this is.
+    pub own: Drive,
+    // The round that the drive is in; the last one after it has halted.
+    pub round: Round,
+    // A flag: a DC came in this round.
+    pub announced: u8,
+    // Its sender, the lowest of several.
+    pub by: Drive,
+    // A flag: the drive has decided.
+    pub decided: u8,
+    // A flag: the drive has ended its part, and every further call but an opening is refused.
+    pub halted: u8,
+    // Read by no call, and 0 in what an accepted call gives: so that no bytes of the struct lie between its fields.
+    pub reserved: [u8; 5],
+}
+
+// What a call that is handed a state gives: the new state, or the refusal's number and the state as it was handed.
+#[repr(C)]
+pub struct StateReply {
+    pub state: State,
+    // 0 for none.
+    pub refusal: u32,
+}
 
 // ---- from numbers
 
@@ -36,7 +80,7 @@ fn decision_in(s: State) -> Decision
 }
 
 // The state that the numbers say.
-pub(crate) fn exchange_of(s: State) -> Exchange
+pub fn exchange_of(s: State) -> Exchange
     ensures { λ r. ⌜ r ≡ exchangeOf s ⌝ }
 {
     let own = s.own;
@@ -108,7 +152,7 @@ fn decided_number(d: Decision) -> Pattern
 }
 
 // The state as numbers; what does not count is 0.
-pub(crate) fn state_of(x: Exchange) -> State
+pub fn state_of(x: Exchange) -> State
     ensures { λ r. ⌜ r ≡ stateOf x ⌝ }
 {
     let own = x.own;
@@ -143,7 +187,7 @@ pub(crate) fn state_of(x: Exchange) -> State
 // ---- replies
 
 // A refusal hands the state back as it came, whatever its flags and its reserved bytes are.
-pub(crate) fn state_reply(s: State, answer: Answer, y: Exchange) -> StateReply
+pub fn state_reply(s: State, answer: Answer, y: Exchange) -> StateReply
     ensures { λ r. ⌜ r ≡ answered s (outcomeOf answer y) ⌝ }
 {
     match answer {

@@ -8,7 +8,7 @@ use Rattle.drive_states.specs.declared.Announcement.the-variants.{Absent, By}
 use Rattle.drive_states.specs.declared.Decision.{Decision}
 use Rattle.drive_states.specs.declared.Decision.the-variants.{Undecided, Decided}
 use Rattle.c_replies.specs.Replies.{flagOf}
-use Rattle.controller.specs.Crossing.{isFlagged, exchangeOf, announcedFlag, announcedDrive, announcedNumber, decidedFlag, decidedNumber, stateOf}
+use Rattle.c_states.specs.Crossing.{isFlagged, exchangeOf, announcedFlag, announcedDrive, announcedNumber, decidedFlag, decidedNumber, stateOf}
 
 announcement-back : (a : Announcement) → cond (eqb (announcedFlag a) 0) Absent (By (announcedDrive a) (announcedNumber a)) ≡ a
 announcement-back Absent = refl
