@@ -408,7 +408,7 @@ typedef struct regdulyn_table_reply {
 
 /* The first set that a group misses. */
 typedef struct regdulyn_missed_reply {
-    size_t position; /* its position in the normal table, from 1; 0 where there is none */
+    size_t position; /* its position in the normal table, from 1; 0 where there is none, and beside a refusal */
     uint32_t refusal;
 } regdulyn_missed_reply;
 
@@ -541,7 +541,8 @@ regdulyn_size_reply regdulyn_threshold(uint8_t n, uint8_t t, uint64_t *sets, siz
 
 /*
  * The first set of the normal table of n drives and `count` sets that a group of drives misses: with which it has no
- * drive in common. There is none exactly where the group meets every set, and exactly then it holds a core.
+ * drive in common. There is none exactly where the group meets every set, and exactly then it holds a core. Look at
+ * the refusal first: beside one the position is 0 too.
  *
  * Refusals: 3 n is not 1 to 64; 2 no sets; 5 more than 128; 4 a set that is 0 or has a drive above n; 13 more than
  * 1024 cores; 4 the group is 0 or has a drive above n.

@@ -2,7 +2,8 @@
 are all groups of one size, which sets the normal table drops, which drives stand in no set, and which drives talk; and
 which set some drives miss.
 
-Sets kept, cores and the chosen core are taken from the table's listing.
+Sets kept, cores and the chosen core are taken from the table's listing; which of the sets some drives miss is found by
+the second program's test.
 """
 
 from math import comb
@@ -10,6 +11,7 @@ from typing import Iterator
 
 from contents import Contents, counted, drive_list
 from regdulyn.masks import all_drives, drives, is_part, mask_of, size
+from regdulyn.tables import first_missed
 
 
 def listed(printed: bytes, word: str) -> list[int]:
@@ -83,10 +85,11 @@ def missed_line(printed: bytes, given: list[int]) -> str:
     where one of them is no drive of the frame."""
     if not all(1 <= drive <= int(printed.split()[1]) for drive in given):
         return ""
-    group = mask_of(given)
-    for position, mask in enumerate(listed(printed, "set"), start=1):
-        if not mask & group:
-            return f"missed {position}, set {mask:x}: {drive_list(drives(mask))}"
+    sets, group = listed(printed, "set"), mask_of(given)
+    position = first_missed(sets, group)
+    if position:
+        mask = sets[position - 1]
+        return f"missed {position}, set {mask:x}: {drive_list(drives(mask))}"
     core = next(mask for mask in listed(printed, "core") if is_part(mask, group))
     return f"none missed; the drives hold core {core:x}: {drive_list(drives(core))}"
 

@@ -6,7 +6,7 @@ from typing import Iterator, NamedTuple
 import regdulyn
 from contents import Contents, Place, counted, drive_list
 from regdulyn.masks import MAX_DRIVES, all_drives, bit, drives, mask_of, size
-from regdulyn.tables import MAX_CORES, MAX_SETS
+from regdulyn.tables import MAX_CORES, MAX_SETS, first_missed
 
 
 class Mistake(NamedTuple):
@@ -69,6 +69,6 @@ def _run_mistakes(contents: Contents, n: int, core: int) -> Iterator[Mistake]:
             yield Mistake(place, f"{counted(stop.sends, 'send')}, and drive {stop.drive} "
                           + (f"makes at most {n - 1}" if core & bit(stop.drive) else "listens and makes none"))
     stopped = mask_of(stop.drive for stop in contents.stops if 1 <= stop.drive <= n)
-    if core and all(mask & stopped for mask in contents.sets):
+    if core and first_missed(contents.sets, stopped) is None:
         place = Place("stop", len(contents.stops) - 1)
         yield Mistake(place, "with this stop every survivor set has a drive that stops")

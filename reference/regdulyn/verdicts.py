@@ -7,7 +7,7 @@ from typing import Sequence
 
 from .masks import all_drives, bits
 from .refusals import Refusal
-from .tables import accept
+from .tables import accept, first_missed
 
 K_LOW, K_HIGH = 2, 4
 
@@ -73,7 +73,7 @@ def _some_share_none(normal: Sequence[int], count: int, shared: int) -> bool:
     if count == 0:
         return False
     if count == 1:
-        return any(not mask & shared for mask in normal)
+        return first_missed(normal, shared) is not None
     rarest = min(([mask for mask in normal if not mask & drive]
                   for drive in bits(shared)), key=len)
     return any(_some_share_none(normal, count - 1, shared & mask) for mask in rarest)

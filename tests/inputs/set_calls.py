@@ -52,12 +52,13 @@ def group_limits(script: Script) -> None:
 
 
 def missed_positions(script: Script) -> None:
-    """Every group of case A's drives, and one too many; and groups that miss one set
-    alone, the first, the last and some between, of 128 that are handed over falling."""
-    for group in range(1 << 6 | 1):
-        script.miss(6, [0x3C, 2, 3, 1, 0x3E], group)
-    for missed in (*CHOICES[::9], CHOICES[-1]):
-        script.miss(14, CHOICES[::-1], full(14) & ~missed)
+    """Every group of case A's drives, and drive 7 alone, on a list with a repeat; and groups
+    that miss one set alone, the first, the last and some between, of 128 handed over falling."""
+    for group in range(0x41):
+        script.miss(6, [0x3C, 2, 3, 1, 0x3E, 2], group)
+    rising = sorted(CHOICES)
+    for missed in (*rising[::9], rising[-1]):
+        script.miss(14, rising[::-1], full(14) & ~missed)
 
 
 def verdict_limits(script: Script) -> None:

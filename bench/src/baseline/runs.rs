@@ -58,7 +58,7 @@ fn read(bytes: &[u8]) -> Answer<Scenario> {
                 if !behind.is_empty() {
                     return Err(7);
                 }
-                if table.sets.iter().all(|set| set & crashed != 0) {
+                if table.sets.iter().position(|set| set & crashed == 0).is_none() {
                     return Err(11);
                 }
                 return Ok(Scenario { table, numbers, crashes });

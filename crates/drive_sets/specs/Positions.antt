@@ -1,4 +1,4 @@
--- Positions in a list, counted from 1: the test whether there is none.
+-- Positions in a list, counted from 1, or none: the test whether there is none, and the position as a number.
 use mathlib.Core.Bool.{Bool, true, false}
 use Prim.Native.Nat.{ℕ}
 use Rattle.drive_sets.specs.declared.Position.{Position}

@@ -40,11 +40,11 @@ module _ (sets : List ℕ) (pos m : ℕ) where
       let f = failing-at (λ s. meets s m) (pos + 1) (drop pos sets) k h in
       let long = length-drop pos sets in
       let met : Met sets pos m (k - 1) = record {
-        from = omega (arith, f .from);
-        within = omega (arith, f .within, long);
-        met = λ i low high. at-place (i - pos) i (omega arith) ∙ f .before (i - pos) (omega (arith, f .from));
+        from = omega (arith, f .at);
+        within = omega (arith, f .at, f .within, long);
+        met = λ i low high. at-place (i - pos) i (omega arith) ∙ f .before (i - pos) (omega (arith, f .at));
       } in
-      (omega (arith, f .from), omega (arith, f .within, f .from, long), met, at-place (k - (pos + 1)) (k - 1) (omega (arith, f .from)) ∙ f .there)
+      (omega (arith, f .at), omega (arith, f .at, f .within, long), met, at-place (f .place) (k - 1) (omega (arith, f .at)) ∙ f .there)
 
   pub none-next : pos ≤ length sets → missedFrom (pos + 1) (drop pos sets) m ≡ None → Met sets pos m (length sets)
   none-next le h =

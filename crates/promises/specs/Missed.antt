@@ -4,8 +4,8 @@ use mathlib.Core.Path.{_≡_}
 use mathlib.Core.Bool.{true, false}
 use mathlib.Core.Logic.{_↔_}
 use mathlib.Core.List.{List}
-use Prim.Native.Nat.{ℕ, _-_, _≤_, _<_}
-use lib.ListN.{length, getD}
+use Prim.Native.Nat.{ℕ, _≤_, _<_}
+use lib.ListN.{length}
 use Rattle.drive_sets.specs.declared.Position.{Position}
 use Rattle.drive_sets.specs.declared.Position.the-variants.{None, At}
 use Rattle.drive_sets.specs.Lists.{elem}
@@ -13,26 +13,32 @@ use Rattle.drive_sets.specs.Masks.{has, subset}
 use Rattle.drive_sets.specs.Refusals.{result}
 use Rattle.survivor_tables.specs.Order.{normal}
 use Rattle.survivor_tables.specs.Tables.{isSet, cores, missedSet, Accepted}
+use Rattle.verdicts.specs.Verdicts.{setAt}
 
--- a drive of the group is in the set
+-- a drive of the set is in the group
 abbrev pub Meet : ℕ → ℕ → Type 0
-Meet group set = (d : ℕ) × (has d group ≡ true) × (has d set ≡ true)
+Meet set group = (d : ℕ) × (has d set ≡ true) × (has d group ≡ true)
 
--- p is a position of the table, no drive of the group is in its set, and one is in each set before it
+-- p is a position of the table, no drive of its set is in the group, and one of each set before it is
 pub record FirstMissed (table : List ℕ) (group p : ℕ) : Type 0 where
   pub low : 1 ≤ p
   pub high : p ≤ length table
-  pub missed : (d : ℕ) → has d group ≡ true → has d (getD table (p - 1) 0) ≡ false
-  pub before : (q : ℕ) → 1 ≤ q → q < p → Meet group (getD table (q - 1) 0)
+  pub missed : (d : ℕ) → has d (setAt table p) ≡ true → has d group ≡ false
+  pub before : (q : ℕ) → 1 ≤ q → q < p → Meet (setAt table q) group
 
 -- a position that is given is that of the first set of the normal table that the group misses
 unfoldable pub MissedOfCall : Type 0
 MissedOfCall = (n : ℕ) (sets : List ℕ) (group p : ℕ) → missedSet n sets group ≡ result (At p) → FirstMissed (normal sets) group p
 
--- none is given exactly where the group meets every set that was handed over; and exactly where it holds a core
+-- none is given exactly where the group meets every set of the normal table, and exactly where it meets every set that
+-- was handed over, and exactly where it holds a core
 unfoldable pub NoneOfCall : Type 0
 NoneOfCall = (n : ℕ) (sets : List ℕ) (group : ℕ) → Accepted n sets → isSet n group ≡ true
-    → (missedSet n sets group ≡ result None) ↔ ((set : ℕ) → elem set sets ≡ true → Meet group set)
+    → (missedSet n sets group ≡ result None) ↔ ((set : ℕ) → elem set (normal sets) ≡ true → Meet set group)
+
+unfoldable pub NoneOfListed : Type 0
+NoneOfListed = (n : ℕ) (sets : List ℕ) (group : ℕ) → Accepted n sets → isSet n group ≡ true
+    → (missedSet n sets group ≡ result None) ↔ ((set : ℕ) → elem set sets ≡ true → Meet set group)
 
 unfoldable pub NoneHoldsCore : Type 0
 NoneHoldsCore = (n : ℕ) (sets : List ℕ) (group : ℕ) → Accepted n sets → isSet n group ≡ true

@@ -72,7 +72,7 @@ readRecords n core s =
     andThen (readList (crashList n core) noCrash (p .rest)) (λ c.
     result (record { file = record { numbers = p .list; crashes = c .list .crashes }; rest = c .rest })))
 
--- 11: every survivor set has a drive with a CR, and none is missed by these drives
+-- 11, every survivor set has a drive with a CR: none is missed by these drives
 unfoldable pub untouchedLeft : List ℕ → RunFile → Outcome RunFile
 untouchedLeft sets f = refuseIf (isNone (firstMissed sets (crashed (f .crashes)))) NoneUntouched (result f)
 

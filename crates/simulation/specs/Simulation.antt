@@ -33,7 +33,7 @@ pub record Simulated : Type 0 where
 abbrev pub simulatedOf : Scenario → Simulated
 simulatedOf s = record { endings = endings s; core = coreOf s; stops = coreCrashes s }
 
--- 11, every survivor set has a drive with a CR, and none is missed by these drives; else what the scenario gives
+-- 11, every survivor set has a drive with a CR: none is missed by these drives; else what the scenario gives
 abbrev pub unlessTouched : ℕ → List ℕ → List ℕ → List CrashRecord → Outcome Simulated
 unlessTouched n sets numbers crs =
     refuseIf (isNone (firstMissed sets (crashed crs))) NoneUntouched (result (simulatedOf (scenario n sets numbers crs)))

@@ -80,8 +80,8 @@ coreList n sets = andThen (normalTable n sets) (λ table. result (cores table))
 unfoldable pub chosenCore : ℕ → List ℕ → Outcome ℕ
 chosenCore n sets = andThen (normalTable n sets) (λ table. result (chosen table))
 
--- the first set of the normal table that these drives miss, by its position, and none exactly where they meet them all. A
--- group that is no set of the frame meets 4, after the table's own refusals
+-- the first set of the normal table that these drives miss, by its position, and none exactly where they meet them all.
+-- A group that is no set of the frame meets 4, after the table's own refusals
 unfoldable pub missedSet : ℕ → List ℕ → ℕ → Outcome Position
 missedSet n sets group =
     andThen (normalTable n sets) (λ table. refuseIf (not (isSet n group)) BadSet (result (firstMissed table group)))

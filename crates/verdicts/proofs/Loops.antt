@@ -83,7 +83,7 @@ module _ (table : List ℕ) (from m i : ℕ) (w : Searching 2 table from m i) wh
     pair-found {p = p} f = ap (λ (q : ℕ). foundIn (some (q ∷ p ∷ []))) (add-one i) ∙ ap foundIn (search-found 1 table from m i w h first-one (ap one f))
 
     pub pair-within : {p : ℕ} → o ≡ At p → p ≤ length table
-    pair-within {p = p} f = omega (arith, failing-at _ (i + 1) (drop i table) p (sym e ∙ f) .within, length-drop i table)
+    pair-within {p = p} f = let w = failing-at _ (i + 1) (drop i table) p (sym e ∙ f) in omega (arith, w .at, w .within, length-drop i table)
 
     pub pair-later : o ≡ None → Searching 2 table from m (i + 1)
     unfolding one

@@ -65,8 +65,8 @@ fn first_pair(table: &[u64], from: usize, shared: u64) -> Named
 }
 
 // The first k positions from the place `from` on, not falling, whose sets have no drive of `shared` in common. The two
-// innermost loops are those of `first_pair`, one `and` and one test a set. Where the common part is empty already, each
-// loop ends at its first set.
+// innermost loops are that of `first_pair` and the walk that it makes, one `and` and one test a set. Where the common
+// part is empty already, each loop ends at its first set.
 fn disjoint(k: u8, table: &[u64], from: usize, shared: u64) -> Named
     requires { ⌜ (2 ≤ k) × (length (now table) ≤ maxSets) ⌝ }
     ensures { λ r. ⌜ r ≡ foundIn (disjoint k (suc from) (drop from (now (table .entry))) shared) ⌝ }

@@ -1,10 +1,10 @@
 -- The first element that fails a test, by its position: all before it pass, it fails, and there is none exactly if all
 -- pass.
-use mathlib.Core.Path.{_≡_, refl, sym, ap, _∙_}
+use mathlib.Core.Path.{_≡_, refl, sym, _∙_}
 use mathlib.Core.Bool.{Bool, true, false}
 use mathlib.Core.Logic.{_↔_}
 use mathlib.Core.List.{List, [], _∷_}
-use Prim.Native.Nat.{ℕ, zero, suc, _+_, _-_, _≤_, _<_}
+use Prim.Native.Nat.{ℕ, zero, suc, _+_, _<_}
 use native.Mathlib.Omega.{arith}
 use lib.ListN.{length, getD}
 use Rattle.drive_sets.specs.declared.Position.the-variants.{None, At}
@@ -21,12 +21,13 @@ module _ (p : ℕ → Bool) where
   unfolding firstFailing
   failing-here i x l h = cond-false _ _ h
 
-  -- position k of the list, whose first is at position i, is the first that fails
+  -- the element at position k, the list's first being at position i, is the first that fails
   pub record First (i : ℕ) (l : List ℕ) (k : ℕ) : Type 0 where
-    pub from : i ≤ k
-    pub within : k < i + length l
-    pub before : (j : ℕ) → i + j < k → p (getD l j 0) ≡ true
-    pub there : p (getD l (k - i) 0) ≡ false
+    pub place : ℕ
+    pub at : k ≡ i + place
+    pub within : place < length l
+    pub before : (j : ℕ) → j < place → p (getD l j 0) ≡ true
+    pub there : p (getD l place 0) ≡ false
 
   pub failing-at : (i : ℕ) (l : List ℕ) (k : ℕ) → firstFailing i p l ≡ At k → First i l k
   unfolding firstFailing
@@ -34,30 +35,24 @@ module _ (p : ℕ → Bool) where
   failing-at i (x ∷ l) k h =
       by-test (p x)
       (λ e. let f = failing-at (i + 1) l k (sym (failing-later i x l e) ∙ h) in
-      let low : i + 1 ≤ k = f .from in
       record {
-        from = omega arith;
+        place = suc (f .place);
+        at = omega (arith, f .at);
         within = omega (arith, f .within);
-        before = λ j lt. passed x l e j (λ j' e'. f .before j' (omega arith));
-        there = ap (λ (d : ℕ). p (getD (x ∷ l) d 0)) (one-more low) ∙ f .there;
+        before = passed e (f .before);
+        there = f .there;
       })
-      (λ e. let same : i ≡ k = same-at (failing-here i x l e) h in
-      record {
-        from = omega arith;
+      (λ e. record {
+        place = 0;
+        at = omega (arith, same-at (failing-here i x l e) h);
         within = omega arith;
-        before = λ j lt. absurd (omega arith);
-        there = ap (λ (d : ℕ). p (getD (x ∷ l) d 0)) (none-more same) ∙ e;
+        before = λ j lt. absurd (omega (arith, lt));
+        there = e;
       })
     where
-      passed : (x : ℕ) (l : List ℕ) → p x ≡ true → (j : ℕ) → ((j' : ℕ) → suc j' ≡ j → p (getD l j' 0) ≡ true) → p (getD (x ∷ l) j 0) ≡ true
-      passed x l e zero f = e
-      passed x l e (suc j) f = f j refl
-
-      one-more : i + 1 ≤ k → k - i ≡ suc (k - (i + 1))
-      one-more h = omega arith
-
-      none-more : i ≡ k → k - i ≡ 0
-      none-more h = omega arith
+      passed : p x ≡ true → {n : ℕ} → ((j : ℕ) → j < n → p (getD l j 0) ≡ true) → (j : ℕ) → j < suc n → p (getD (x ∷ l) j 0) ≡ true
+      passed e f zero lt = e
+      passed e f (suc j) lt = f j (omega arith)
 
   none-all : (i : ℕ) (l : List ℕ) → firstFailing i p l ≡ None → all p l ≡ true
   unfolding all

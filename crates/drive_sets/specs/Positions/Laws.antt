@@ -1,4 +1,4 @@
--- Laws of positions: going by the two cases, and what the test says.
+-- Laws of positions: going by the two cases, that these exclude each other, and that a position is one number.
 use mathlib.Core.Path.{_≡_, refl, sym, ap, _∙_}
 use Prim.Native.Nat.{ℕ}
 use Rattle.drive_sets.specs.declared.Position.{Position}

@@ -3,9 +3,8 @@ use mathlib.Core.Path.{_≡_, refl, sym, ap, _∙_, subst}
 use mathlib.Core.Bool.{true, false, _&&_}
 use mathlib.Core.Logic.{_↔_}
 use mathlib.Core.List.{List, [], _∷_, _++_}
-use Prim.Native.Nat.{ℕ, _-_, _^_, _≤_, _<_}
+use Prim.Native.Nat.{ℕ, _^_, _≤_, _<_}
 use native.Mathlib.Nat.{le-refl}
-use native.Mathlib.Omega.{arith}
 use lib.ListN.{getD}
 use Rattle.drive_sets.specs.declared.Position.the-variants.{None, At}
 use Rattle.drive_sets.specs.Bools.Laws.{clash, and-intro, and-left, and-right}
@@ -34,7 +33,7 @@ pub some-missed : (sets : List ℕ) (m : ℕ) → isNone (firstMissed sets m) �
 some-missed sets m e =
     by-position (firstMissed sets m)
     (λ h. absurd (clash (ap isNone h) e))
-    (λ p h. let f = missed-at sets m p h in (getD sets (p - 1) 0, getD-elem sets (p - 1) (omega (arith, f .from, f .within)), f .there))
+    (λ p h. let f = missed-at sets m p h in (getD sets (f .place) 0, getD-elem sets (f .place) (f .within), f .there))
 
 pub hits-meets : (sets : List ℕ) (m s : ℕ) → hits sets m ≡ true → elem s sets ≡ true → meets s m ≡ true
 unfolding hits
