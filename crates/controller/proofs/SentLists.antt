@@ -1,5 +1,5 @@
--- The list of a drive's sends in lent memory: the drives of a mask put one behind the other, those of two masks, and the
--- list as those of two masks.
+-- The list of a drive's sends in lent memory: the drives of a mask put one behind the other, those of two masks, and
+-- the list as those of two masks.
 use mathlib.Core.Path.{_≡_, sym, ap, ap₂, _∙_, subst}
 use mathlib.Core.Bool.{false, not, _&&_, _||_}
 use mathlib.Core.List.{List, _++_}

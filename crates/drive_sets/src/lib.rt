@@ -1,5 +1,5 @@
-// Sets of drives as 64-bit masks, the three counts that are never mixed up, and the refusals of every call.
-// Each function is total and gives what its definition in specs/ gives.
+// Sets of drives as 64-bit masks, the three counts that are never mixed up, positions in a list, and the refusals of
+// every call. Each function is total and gives what its definition in specs/ gives.
 ghost use mathlib.Core.Path.{_≡_};
 ghost use lib.Dec.{eqb};
 ghost use Rattle.drive_sets.specs.Counts.{isDrive, isRound};

@@ -19,9 +19,9 @@ use Rattle.survivor_tables.specs.Hitting.{missedFrom, Minimal, forEach, search}
 use Rattle.survivor_tables.specs.Hitting.Laws.{hits-one, minimal-more}
 use Rattle.survivor_tables.specs.Hitting.SearchLaws.{search-met}
 
--- what is listed from m, one place behind i, with each of the drives ds
+-- what is listed from m, behind the set at position p, with each of the drives ds
 abbrev pub Each : List ℕ → ℕ → ℕ → List ℕ → List ℕ
-Each sets i m ds = forEach (search (take (i + 1) sets) (drop (i + 1) sets)) m ds
+Each sets p m ds = forEach (search (take p sets) (drop p sets)) m ds
 
 -- m meets the sets from the place pos up to the place r
 pub record Met (sets : List ℕ) (pos m r : ℕ) : Type 0 where

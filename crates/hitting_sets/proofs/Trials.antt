@@ -4,6 +4,7 @@ use mathlib.Core.Path.{_≡_, refl, sym, ap, _∙_, subst}
 use mathlib.Core.Bool.{Bool, true, false, _&&_}
 use mathlib.Core.List.{List, [], _∷_, _++_}
 use Prim.Native.Nat.{ℕ, suc, _+_, _^_, _≤_, _<_}
+use native.Mathlib.Nat.{le-refl}
 use native.Mathlib.Omega.{arith}
 use lib.Dec.{leb, ltb}
 use lib.ListN.{length, take, set, length-append}
@@ -21,9 +22,9 @@ use Rattle.hitting_sets.proofs.Places.{Met, From, Each, from-end, passe
 
 -- ---- no set is missed: m alone is listed, if there is room
 
-module _ (sets : List ℕ) (m pos i : ℕ) (f : Met sets pos m i) (e : i ≡ length sets) (out : List ℕ) (count : ℕ) (le : count ≤ length out) where
+module _ (sets : List ℕ) (m pos : ℕ) (f : Met sets pos m (length sets)) (out : List ℕ) (count : ℕ) (le : count ≤ length out) where
   only : From sets m pos ≡ m ∷ []
-  only = passed-search sets m pos i f ∙ from-end sets m i (omega arith)
+  only = passed-search sets m pos (length sets) f ∙ from-end sets m (length sets) (le-refl (length sets))
 
   filled : Filled out (set out count m) count (count + 1) (From sets m pos)
   filled =
@@ -43,26 +44,26 @@ module _ (sets : List ℕ) (m pos i : ℕ) (f : Met sets pos m i) (e : i ≡ len
 -- ---- a set is missed
 
 -- `rest` is what is left of the drives; `found` are listed so far
-pub record Trying (limited : Bool) (fuel : ℕ) (sets : List ℕ) (m pos i : ℕ) (out₀ out : List ℕ) (count found left rest : ℕ) : Type 0 where
-  pub onward : pos ≤ i
-  pub inside : i < length sets
+pub record Trying (limited : Bool) (fuel : ℕ) (sets : List ℕ) (m pos p : ℕ) (out₀ out : List ℕ) (count found left rest : ℕ) : Type 0 where
+  pub onward : pos < p
+  pub inside : p ≤ length sets
   pub word : rest < 2 ^ 64
-  pub minimal : (d : ℕ) → has d rest ≡ true → Minimal (take (i + 1) sets) (union m (single d))
+  pub minimal : (d : ℕ) → has d rest ≡ true → Minimal (take p sets) (union m (single d))
   pub bound : found ≤ suc (length out)
   pub room : length out ≡ length out₀
-  pub some : found + length (Each sets i m (drives rest)) ≤ count + length (From sets m pos)
-  pub whole : 0 < left → (o' : List ℕ) (r : ℕ) → Filled out o' found r (Each sets i m (drives rest)) → Filled out₀ o' count r (From sets m pos)
+  pub some : found + length (Each sets p m (drives rest)) ≤ count + length (From sets m pos)
+  pub whole : 0 < left → (o' : List ℕ) (r : ℕ) → Filled out o' found r (Each sets p m (drives rest)) → Filled out₀ o' count r (From sets m pos)
   pub unspent : limited ≡ false → left ≡ fuel
 
-pub try-start : {limited : Bool} {sets : List ℕ} {m pos i : ℕ} (out : List ℕ) {count left rest : ℕ} → Met sets pos m i → i < length sets → Candidates sets i m rest → rest < 2 ^ 64
-    → count ≤ length out → Trying limited left sets m pos i out out count count left rest
-try-start {sets = sets} {m = m} {pos = pos} {i = i} out f few c w le =
-    let same = passed-search sets m pos i f ∙ c .listed in
+pub try-start : {limited : Bool} {sets : List ℕ} {m pos i p : ℕ} (out : List ℕ) {count left rest : ℕ} → Met sets pos m i → i < length sets → i + 1 ≡ p → Candidates sets i m rest
+    → rest < 2 ^ 64 → count ≤ length out → Trying limited left sets m pos p out out count count left rest
+try-start {sets = sets} {m = m} {pos = pos} {i = i} out {rest = rest} f few e c w le =
+    let same = passed-search sets m pos i f ∙ (c .listed ∙ ap (λ (k : ℕ). Each sets k m (drives rest)) e) in
     record {
-      onward = f .from;
-      inside = few;
+      onward = omega (arith, f .from);
+      inside = omega arith;
       word = w;
-      minimal = c .minimal;
+      minimal = λ d h. subst (λ (k : ℕ). Minimal (take k sets) (union m (single d))) e (c .minimal d h);
       bound = omega arith;
       room = refl;
       some = omega (arith, ap length same);
@@ -70,18 +71,18 @@ try-start {sets = sets} {m = m} {pos = pos} {i = i} out f few c w le =
       unspent = λ _. refl;
     }
 
-module _ {limited : Bool} {fuel : ℕ} {sets : List ℕ} {m pos i : ℕ} {out₀ out : List ℕ} {count found left rest : ℕ} (y : Trying limited fuel sets m pos i out₀ out count found left rest) where
+module _ {limited : Bool} {fuel : ℕ} {sets : List ℕ} {m pos p : ℕ} {out₀ out : List ℕ} {count found left rest : ℕ} (y : Trying limited fuel sets m pos p out₀ out count found left rest) where
   -- t is m with the lowest drive, and `next` has the others
   module _ {d next : ℕ} (w : Taken rest d next) (t : ℕ) (q : t ≡ union m (single d)) where
-    pub try-minimal : Minimal (take (i + 1) sets) t
-    try-minimal = subst (Minimal (take (i + 1) sets)) (sym q) (y .minimal d (taken-has w))
+    pub try-minimal : Minimal (take p sets) t
+    try-minimal = subst (Minimal (take p sets)) (sym q) (y .minimal d (taken-has w))
 
-    lists : Each sets i m (drives rest) ≡ From sets t (i + 1) ++ Each sets i m (drives next)
+    lists : Each sets p m (drives rest) ≡ From sets t p ++ Each sets p m (drives next)
     unfolding forEach
-    lists = ap (Each sets i m) (taken-drives w) ∙ ap (λ (x : ℕ). From sets x (i + 1) ++ Each sets i m (drives next)) (sym q)
+    lists = ap (Each sets p m) (taken-drives w) ∙ ap (λ (x : ℕ). From sets x p ++ Each sets p m (drives next)) (sym q)
 
-    pub try-on : 0 < left → {o : List ℕ} {found' left' : ℕ} → Searched limited left out o found found' left' (From sets t (i + 1)) → length o ≡ length out
-        → Trying limited fuel sets m pos i out₀ o count found' left' next
+    pub try-on : 0 < left → {o : List ℕ} {found' left' : ℕ} → Searched limited left out o found found' left' (From sets t p) → length o ≡ length out
+        → Trying limited fuel sets m pos p out₀ o count found' left' next
     try-on lt {o} {found'} {left'} s l = record {
       onward = y .onward;
       inside = y .inside;
@@ -89,8 +90,8 @@ module _ {limited : Bool} {fuel : ℕ} {sets : List ℕ} {m pos i : ℕ} {out₀
       minimal = λ e h. y .minimal e (taken-left w e h);
       bound = omega (arith, s .bound);
       room = l ∙ y .room;
-      some = omega (arith, y .some, s .some, ap length lists, length-append (From sets t (i + 1)) (Each sets i m (drives next)));
-      whole = λ lt' o' r h. y .whole lt o' r (filled-same lists (filled-then out o o' found found' r (From sets t (i + 1)) (Each sets i m (drives next)) l (s .ended lt') h));
+      some = omega (arith, y .some, s .some, ap length lists, length-append (From sets t p) (Each sets p m (drives next)));
+      whole = λ lt' o' r h. y .whole lt o' r (filled-same lists (filled-then out o o' found found' r (From sets t p) (Each sets p m (drives next)) l (s .ended lt') h));
       unspent = λ e. s .unspent e ∙ y .unspent e;
     }
 
@@ -106,7 +107,7 @@ module _ {limited : Bool} {fuel : ℕ} {sets : List ℕ} {m pos i : ℕ} {out₀
 
   pub try-end : rest ≡ 0 → Searched limited fuel out₀ out count found left (From sets m pos)
   unfolding forEach
-  try-end e = stop (λ lt. y .whole lt out found (filled-same (ap (Each sets i m) (ap drives e ∙ drives-none)) (filled-none out found (y .bound))))
+  try-end e = stop (λ lt. y .whole lt out found (filled-same (ap (Each sets p m) (ap drives e ∙ drives-none)) (filled-none out found (y .bound))))
 
   -- the fuel is used up, or there is no more room
   pub try-stop : {b : Bool} → b ≡ (leb found (length out₀) && ltb 0 left) → b ≡ false → Searched limited fuel out₀ out count found left (From sets m pos)
@@ -114,7 +115,7 @@ module _ {limited : Bool} {fuel : ℕ} {sets : List ℕ} {m pos i : ℕ} {out₀
       stop (λ lt. by-test (leb found (length out₀))
       (λ t. absurd (omega (arith, ltb-false 0 left (and-not (leb found (length out₀)) (ltb 0 left) t (sym e ∙ f)))))
       (λ t. let over = leb-false found (length out₀) t in
-      y .whole lt out found (filled-over out out found found (Each sets i m (drives rest)) (omega (arith, y .bound, y .room)) (omega arith))))
+      y .whole lt out found (filled-over out out found found (Each sets p m (drives rest)) (omega (arith, y .bound, y .room)) (omega arith))))
 
   pub try-fuel : {b : Bool} → b ≡ (leb found (length out₀) && ltb 0 left) → b ≡ true → (found ≤ length out) × (0 < left)
   try-fuel e f =

@@ -218,7 +218,7 @@ fn search_from(
     while rest != 0 && goes_on(so_far, room) {
         let d = drive_sets::lowest(rest);
         let t = drive_sets::insert(m, d);
-        so_far = search_from(mode, sets, next + 1, t, out, so_far, ends);
+        so_far = search_from(mode, sets, at, t, out, so_far, ends);
         rest = drive_sets::without_lowest(rest);
     }
     so_far

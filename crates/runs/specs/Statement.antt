@@ -118,8 +118,8 @@ module _ {P : Protocol} {s : Scenario} {calls : List Call} (run : Run P s calls)
 unfoldable pub Agreement : Protocol → Type 0
 Agreement P = (s : Scenario) → Valid s → Untouched s → (calls : List Call) (run : Run P s calls) → Agreed run
 
--- ---- the bound is reached: for every f below the core's size, in some run with f core drives crashing and some survivor
--- set untouched, a drive that stays up decides in round f + 1, whatever is proposed
+-- ---- the bound is reached: for every f below the core's size, in some run with f core drives crashing and some
+-- survivor set untouched, a drive that stays up decides in round f + 1, whatever is proposed
 
 pub record TightAt (P : Protocol) (n : ℕ) (sets : List ℕ) (proposal : ℕ → ℕ) (f : ℕ) : Type 0 where
   pub scenario : Scenario
@@ -145,8 +145,8 @@ Tight P = (n : ℕ) (sets : List ℕ) → normalTable n sets ≡ result (normal 
 unfoldable pub RunsExist : Protocol → Type 0
 RunsExist P = (s : Scenario) → Valid s → (calls : List Call) × Run P s calls
 
--- ---- so in two runs of one scenario every drive decides on the same numbers in the same rounds, and those that stay up
--- end the same
+-- ---- so in two runs of one scenario every drive decides on the same numbers in the same rounds, and those that stay
+-- up end the same
 
 pub record Same {P : Protocol} {s : Scenario} {calls calls′ : List Call} (run : Run P s calls) (run′ : Run P s calls′) : Type 0 where
   pub decides : (d v r : ℕ) → Decides run d v r → Decides run′ d v r

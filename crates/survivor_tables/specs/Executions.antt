@@ -1,6 +1,6 @@
 -- Cores and survivor sets read from executions: Junqueira and Marzullo, document 004, Definitions 1 and 2. In plain
--- words: an algorithm is run by the processes 1 to n, here drives. Correct(φ) is the set of processes that are not faulty
--- in execution φ.
+-- words: an algorithm is run by the processes 1 to n, here drives. Correct(φ) is the set of processes that are not
+-- faulty in execution φ.
 -- 1. A set C of processes is a core if in every execution some process of C is correct, and if for every process p of C
 --    there is an execution in which no process of C other than p is correct.
 -- 2. A set S of processes is a survivor set if there is an execution whose correct processes are S, and if in no

@@ -39,7 +39,7 @@ search-from-below t =
 
 abbrev search-from-Inv-loop : search-from-lts.InvT-loop
 search-from-Inv-loop mode sets pos m out₀ ends₀ room at next look-ahead rest₀ so-far₀ out ends rest so-far =
-    Trying (mode .limited) (so-far₀ .left) sets m pos next out₀ out (so-far₀ .found) (so-far .found) (so-far .left) rest × (length ends ≡ length ends₀)
+    Trying (mode .limited) (so-far₀ .left) sets m pos at out₀ out (so-far₀ .found) (so-far .found) (so-far .left) rest × (length ends ≡ length ends₀)
 
 abbrev search-from-μ-loop : search-from-lts.MeasureT-loop
 search-from-μ-loop mode sets pos m out₀ ends₀ room at next look-ahead rest₀ so-far₀ out ends rest so-far = size rest
@@ -73,7 +73,7 @@ search-from-returns t c =
     let start = c .before .before .before .before .before .before .before .before .before .before in
     let a = start .args in
     let f = none-next (a .sets .now) (a .pos) (a .m) (start .pre .1 .0) (sym (c .before .before .before .before .before .before .next-missed .ensures) ∙ c .before .before .before .before .enum-told .given .1) in
-    end-one (a .sets .now) (a .m) (a .pos) _ f refl (a .out .now) (a .tally .found) (search needs) (c .before .before .put .ensures .0) (c .before .before .put .ensures .1) (c .before .before .put .ensures .2)
+    end-one (a .sets .now) (a .m) (a .pos) f (a .out .now) (a .tally .found) (search needs) (c .before .before .put .ensures .0) (c .before .before .put .ensures .1) (c .before .before .put .ensures .2)
 
 search-from-sub-next : (t : ℕ) → search-from-lts.Need-sub-next (K t) (search-from-at t) search-from.Post search-from-Inv-loop search-from-μ-loop
 search-from-sub-next t c = missed-next _ _ _ _ (sym (c .before .before .before .next-missed .ensures) ∙ c .before .missed .given .1) .0
@@ -89,7 +89,7 @@ search-from-loop-holds : (t : ℕ) → search-from-lts.Need-loop-holds (K t) (se
 search-from-loop-holds t c =
     let a = c .before .before .before .before .before .before .before .before .before .before .before .before .before .args in
     let f = missed-next (a .sets .now) (a .pos) (a .m) _ (sym (c .before .before .before .before .before .before .before .before .before .next-missed .ensures) ∙ c .before .before .before .before .before .before .before .missed .given .1) in
-    (try-start (a .out .now) (f .2) (f .1) (c .before .before .before .before .before .candidates .ensures) (c .before .before .before .before .before .candidates .ok) (omega (arith, c .spend .ensures .0)), refl)
+    (try-start (a .out .now) (f .2) (f .1) (omega (arith, f .0)) (c .before .before .before .before .before .candidates .ensures) (c .before .before .before .before .before .candidates .ok) (omega (arith, c .spend .ensures .0)), refl)
 
 search-from-search-from-requires : (t : ℕ) → search-from-lts.Need-search-from-requires (K t) (search-from-at t) search-from.Post search-from-Inv-loop search-from-μ-loop
 search-from-search-from-requires t c = λ κs.
@@ -114,6 +114,6 @@ pub +search-from-spec : {M : Type 1} → statement M
 +search-from-spec = close μ-search-from λ t. search-from-lts.spec (K t) (search-from-at t) search-from.Post search-from-Inv-loop search-from-μ-loop
     (λ c κs. search needs) (λ c. search needs) (λ c. search needs) (λ c κs. search needs) (λ c. search needs) (search-from-returns t) (search-from-sub-next t)
     (search-from-candidates-requires t) (λ c κs. search needs) (λ c κs. search needs) (search-from-loop-holds t) (λ c κs. search needs)
-    (λ c κs. search needs) (λ c κs. search needs) (λ c. search needs) (search-from-search-from-requires t) (λ c κs. search needs)
+    (λ c κs. search needs) (λ c κs. search needs) (search-from-search-from-requires t) (λ c κs. search needs)
     (search-from-loop-less t) (search-from-loop-again t) (λ c. search needs) (λ c. search needs) (search-from-returns-2 t) (λ c. search needs)
     (λ c. search needs) (search-from-returns-3 t)
