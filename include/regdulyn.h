@@ -133,7 +133,10 @@ enum regdulyn_refusal {
 
     /* from n and t */
     REGDULYN_REFUSED_THRESHOLD = 31,
-    REGDULYN_REFUSED_TOO_MANY_GROUPS = 32
+    REGDULYN_REFUSED_TOO_MANY_GROUPS = 32,
+
+    /* from n and k */
+    REGDULYN_REFUSED_FEW_DRIVES = 33
 };
 
 /* What a refusal means, in English; "accepted" for 0, and a text for a number that is no refusal too. Never NULL. */
@@ -169,6 +172,7 @@ static inline const char *regdulyn_refusal_text(uint32_t refusal)
     case REGDULYN_REFUSED_BROKEN_STATE: return "the state breaks a rule";
     case REGDULYN_REFUSED_THRESHOLD: return "the number of drives that may drop out is not below the number of drives";
     case REGDULYN_REFUSED_TOO_MANY_GROUPS: return "more than 128 groups of n - t drives would be needed";
+    case REGDULYN_REFUSED_FEW_DRIVES: return "the frame has k drives or fewer";
     default: return "no refusal has this number";
     }
 }
@@ -414,7 +418,7 @@ typedef struct regdulyn_missed_reply {
 
 /* A verdict. For a yes `shared` is 1 and the arrays are 0. For a no `shared` is 0. */
 typedef struct regdulyn_verdict_reply {
-    uint64_t blocks[4];   /* a no: k blocks that split the drives so that none holds a core; a block may be empty */
+    uint64_t blocks[4];   /* a no: k blocks that split the drives, none empty, so that none holds a core */
     uint8_t positions[4]; /* a no: k positions, from 1, of sets of the normal table that have no drive in common */
     uint8_t shared;
     uint32_t refusal;
@@ -552,11 +556,12 @@ regdulyn_missed_reply regdulyn_missed(uint8_t n, const uint64_t *sets, size_t co
 /*
  * The verdict on k, 2 to 4, of the table of n drives and `count` sets: yes where any k sets of the normal table, the
  * same one more than once if need be, have a drive in common. For a no the positions are the first, compared left to
- * right, and do not fall; block i holds the drives outside the i-th named set that are in no earlier block. A yes
- * means that however the frame is split into k blocks, one of them holds a core.
+ * right, and do not fall. Block i first holds the drives outside the i-th named set that are in no earlier block; then,
+ * while a block is empty, the lowest drive of the first block with two or more moves to the first empty block. A yes
+ * means that however the frame is split into k blocks, none empty, one of them holds a core.
  *
  * Refusals: 12 k is not 2 to 4; 3 n is not 1 to 64; 2 no sets; 5 more than 128; 4 a set that is 0 or has a drive above
- * n; 13 more than 1024 cores.
+ * n; 13 more than 1024 cores; 33 n is not above k.
  */
 regdulyn_verdict_reply regdulyn_verdict(uint8_t k, uint8_t n, const uint64_t *sets, size_t count);
 

@@ -4,8 +4,8 @@
 covers every refusal number, every cut of a file and the limits, and go on at
 random. The same seed gives the same inputs. Somewhat more than half are
 accepted. `long_tables` and `long_runs` yield inputs about as long as the
-programs' buffers, and longer, and `hard_tables` tables on which the search for
-cores goes far. `threshold_inputs` yields n and t around every limit, and
+programs' buffers, and longer, `hard_tables` tables on which the search for
+cores goes far, and `small_tables` tables of small frames. `threshold_inputs` yields n and t around every limit, and
 `fixed_thresholds` a few, with every refusal.
 """
 
@@ -14,7 +14,7 @@ from random import Random
 from typing import Iterator
 
 from inputs.damage import RUN_DAMAGE, TABLE_DAMAGE, damaged
-from inputs.frames import Frame, accepted_table, crowded_table, full, hard_frames
+from inputs.frames import Frame, accepted_table, crowded_table, full, hard_frames, normal_tables
 from inputs.records import (MARKS, UNKNOWN_MARKS, Crash, Records, crash, frame,
                             proposal, run, run_records, survivor, table, table_records)
 from inputs.scenarios import accepted_run, spoil_crash, touch_every_set
@@ -112,6 +112,14 @@ def long_tables() -> Iterator[bytes]:
 def hard_tables() -> Iterator[bytes]:
     """Tables on which the search for cores goes far."""
     return (table(*hard) for hard in hard_frames())
+
+
+def small_tables() -> Iterator[bytes]:
+    """Every normal table of 1 to 4 drives, and random ones of 5 and 6, half of them of few sets."""
+    rng = Random(6)
+    more = ((n, rng.sample(range(1, 1 << n), rng.choice((2, 3, rng.randint(1, 12)))))
+            for n in (5, 6) for _ in range(80))
+    return (table(*found) for found in chain(normal_tables(4), more))
 
 
 def random_tables(rng: Random) -> Iterator[bytes]:

@@ -1,4 +1,4 @@
-"""Document 01's definitions written out over all subsets and all lists.
+"""The documents' definitions written out over all subsets and all lists.
 
 Slow and short: each is the sentence itself, so that the reference's searches
 and calls can be checked against it for small frames.
@@ -62,11 +62,25 @@ def first_sharing_none(sets: list[int], k: int) -> Optional[tuple[int, ...]]:
     return None
 
 
+def blocks(n: int, named: list[int]) -> tuple[int, ...]:
+    """Of each named set the drives outside it that are in no earlier block; then the
+    moves, on lists of drives."""
+    left = list(range(n))
+    parts = []
+    for mask in named:
+        parts.append([drive for drive in left if not mask >> drive & 1])
+        left = [drive for drive in left if mask >> drive & 1]
+    while [] in parts:
+        first = [part for part in parts if len(part) > 1][0]
+        parts[parts.index([])] = [first.pop(0)]
+    return tuple(sum(1 << drive for drive in part) for part in parts)
+
+
 def every_split_has_a_core(n: int, k: int, all_cores: list[int]) -> bool:
-    """Whether every split of the frame into k blocks has one with a core."""
+    """Whether every split of the frame into k blocks, none empty, has one with a core."""
     for owners in product(range(k), repeat=n):
-        blocks = [sum(1 << i for i in range(n) if owners[i] == b) for b in range(k)]
-        if not any(core & ~block == 0 for core in all_cores for block in blocks):
+        split = [sum(1 << i for i in range(n) if owners[i] == b) for b in range(k)]
+        if 0 not in split and not any(core & ~block == 0 for core in all_cores for block in split):
             return False
     return True
 

@@ -135,6 +135,8 @@ int main(void)
         print_verdict(k, regdulyn_verdict((uint8_t)k, 6, sets, count));
     static const uint64_t sharing[] = {7, 0xb};
     print_verdict(2, regdulyn_verdict(2, 4, sharing, 2));
+    print_verdict(4, regdulyn_verdict(4, 4, sharing, 2));
+    print_verdict(5, regdulyn_verdict(5, 4, sharing, 2));
 
     regdulyn_size_reply written = regdulyn_write_table(6, sets, count, text, 5 + 36, 5);
     printf("write: %zu, refusal %" PRIu32 "\n   ", written.size, written.refusal);

@@ -11,7 +11,7 @@ from .refusals import Refusal
 from .runs import read_run, simulate
 from .tables import chosen_core, cores, read_table, read_table_with_rest, write_table
 from .thresholds import threshold_table
-from .verdicts import K_HIGH, K_LOW, Verdict, verdict
+from .verdicts import K_HIGH, K_LOW, verdict
 
 
 def table_program(data: bytes) -> bytes:
@@ -46,16 +46,19 @@ def _table_listing(data: bytes) -> bytes:
     lines += [f"set {mask:x}" for mask in sets]
     lines += [f"core {mask:x}" for mask in cores(n, sets)]
     lines += [f"chosen {chosen_core(n, sets):x}"]
-    lines += [_verdict_line(verdict(k, n, sets)) for k in range(K_LOW, K_HIGH + 1)]
+    lines += [_verdict_line(k, n, sets) for k in range(K_LOW, K_HIGH + 1)]
     return _text(lines)
 
 
-def _verdict_line(found: Verdict) -> str:
+def _verdict_line(k: int, n: int, sets: list[int]) -> str:
+    if n <= k:
+        return f"k {k} few"
+    found = verdict(k, n, sets)
     if found.yes:
-        return f"k {found.k} yes"
+        return f"k {k} yes"
     positions = " ".join(str(position) for position in found.positions)
     blocks = " ".join(f"{block:x}" for block in found.blocks)
-    return f"k {found.k} no sets {positions} blocks {blocks}"
+    return f"k {k} no sets {positions} blocks {blocks}"
 
 
 def _run_listing(data: bytes) -> bytes:

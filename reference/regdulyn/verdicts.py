@@ -1,11 +1,11 @@
 """Verdicts on k: whether any k survivor sets share a drive (k-Intersection),
-and where not, the witness and the split into k blocks (k-Partition).
+and where not, the witness and the split into k blocks, none empty (k-Partition).
 """
 
 from dataclasses import dataclass
 from typing import Sequence
 
-from .masks import all_drives, bits
+from .masks import all_drives, bits, size
 from .refusals import Refusal
 from .tables import accept, first_missed
 
@@ -30,15 +30,17 @@ def verdict(k: int, n: int, sets: Sequence[int]) -> Verdict:
     if not K_LOW <= k <= K_HIGH:
         raise Refusal(12)
     normal = accept(n, sets).normal
+    if n <= k:
+        raise Refusal(33)
     places = _first_sharing_none(normal, k, all_drives(n), 0)
     if places is None:
         return Verdict(k)
     named = [normal[place] for place in places]
     positions = tuple(place + 1 for place in places)
-    return Verdict(k, positions, _blocks(n, named))
+    return Verdict(k, positions, tuple(_none_empty(_blocks(n, named))))
 
 
-def _blocks(n: int, named: list[int]) -> tuple[int, ...]:
+def _blocks(n: int, named: list[int]) -> list[int]:
     """Block i holds the drives outside the i-th named set and in no earlier
     block."""
     left = all_drives(n)
@@ -46,7 +48,19 @@ def _blocks(n: int, named: list[int]) -> tuple[int, ...]:
     for mask in named:
         blocks.append(left & ~mask)
         left &= mask
-    return tuple(blocks)
+    return blocks
+
+
+def _none_empty(blocks: list[int]) -> list[int]:
+    """While a block is empty, the lowest drive of the first block with two or
+    more moves to the first empty block."""
+    while 0 in blocks:
+        empty = blocks.index(0)
+        large = next(place for place, block in enumerate(blocks) if size(block) >= 2)
+        lowest = next(bits(blocks[large]))
+        blocks[large] -= lowest
+        blocks[empty] = lowest
+    return blocks
 
 
 def _first_sharing_none(normal: Sequence[int], count: int, shared: int,

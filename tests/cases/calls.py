@@ -25,6 +25,7 @@ def call_refusals() -> Iterator[Case]:
             yield (f"missed_set {group:x}: {name}",
                    refusal(regdulyn.missed_set, n, sets, group), expected or last)
         yield f"verdict: {name}", refusal(regdulyn.verdict, 2, n, sets), expected
+        yield f"verdict, k 4: {name}", refusal(regdulyn.verdict, 4, n, sets), expected
         yield f"verdict, k 5: {name}", refusal(regdulyn.verdict, 5, n, sets), 12
         yield f"verdict, k 1: {name}", refusal(regdulyn.verdict, 1, n, sets), 12
         yield f"opening: {name}", refusal(regdulyn.opening, n, sets, 1, 0), expected
@@ -34,6 +35,10 @@ def call_refusals() -> Iterator[Case]:
         yield (f"write into: {name}",
                refusal(regdulyn.write_table_into, short, 0, n, sets), expected or 14)
     yield "buffer untouched", short, bytearray(2)
+    for k, n, sets, expected in ((2, 2, [1], 33), (2, 3, [1], 0), (4, 4, [1], 33), (4, 5, [1], 0),
+                                 (5, 4, [1], 12), (4, 4, [0], 4), (4, 0, [1], 3), (4, 4, [], 2)):
+        found = refusal(regdulyn.verdict, k, n, sets)
+        yield f"verdict, k {k}, n {n}, sets {sets}", found, expected
 
 
 def simulate_refusals() -> Iterator[Case]:

@@ -1,13 +1,13 @@
 """Tables and verdicts against the plain definitions, on small frames, and
 known lists of cores on large ones."""
 
-from itertools import combinations
+from itertools import chain, combinations
 from random import Random
 from typing import Iterator
 
 import plain
 import regdulyn
-from inputs.frames import accepted_table, full, group
+from inputs.frames import accepted_table, full, group, normal_tables
 from inputs.records import table
 
 from . import Case, refusal
@@ -48,29 +48,30 @@ def table_definitions() -> Iterator[Case]:
 
 
 def verdict_definitions() -> Iterator[Case]:
-    for n, sets in small_tables(Random(12)):
+    for n, sets in chain(small_tables(Random(12)), normal_tables(4)):
         normal, cores = plain.normal(sets), plain.cores(n, sets)
         for k in (2, 3, 4):
             name = f"k {k} n {n} sets {sets}"
+            if n <= k:
+                yield f"few: {name}", refusal(regdulyn.verdict, k, n, sets), 33
+                continue
             found = regdulyn.verdict(k, n, sets)
             first = plain.first_sharing_none(normal, k)
             yield f"positions: {name}", found.positions, first or ()
-            if n <= 4:
+            if n <= 6:
                 yield (f"splits: {name}", found.yes,
                        plain.every_split_has_a_core(n, k, cores))
             if found.yes:
                 continue
+            yield f"blocks: {name}", found.blocks, plain.blocks(n, [normal[p - 1] for p in first])
             yield f"blocks are a split: {name}", split_of(n, found.blocks), True
             holds = any(c & ~block == 0 for c in cores for block in found.blocks)
             yield f"no block holds a core: {name}", holds, False
-            outside = all(block & normal[p - 1] == 0
-                          for block, p in zip(found.blocks, found.positions))
-            yield f"blocks outside their sets: {name}", outside, True
 
 
 def split_of(n: int, blocks: tuple[int, ...]) -> bool:
-    """Disjoint, and together the frame."""
-    return sum(blocks) == full(n) and sum(b.bit_count() for b in blocks) == n
+    """Disjoint, together the frame, and none empty."""
+    return 0 not in blocks and sum(blocks) == full(n) and sum(b.bit_count() for b in blocks) == n
 
 
 def wide_tables() -> Iterator[Case]:

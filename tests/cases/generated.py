@@ -41,7 +41,7 @@ CALL_ANSWERS = {
     "C": ({"accepted"}, {23, 28}),
     "B": ({"found"}, {3, 4, 5, 13}),
     "W": ({"written"}, TABLE_REFUSALS | {14}),
-    "V": ({"yes", "no"}, TABLE_REFUSALS | {12}),
+    "V": ({"yes", "no"}, TABLE_REFUSALS | {12, 33}),
     "H": ({"missed", "none"}, TABLE_REFUSALS),
     "K": ({"cores"}, TABLE_REFUSALS),
     "T": ({"found"}, {3, 13, 31, 32}),

@@ -1,4 +1,4 @@
-"""Document 01's marked cases A to J, through the two scripts, and their files
+"""The marked cases A to J, through the two scripts, and their files
 in examples/."""
 
 import subprocess
@@ -26,8 +26,8 @@ core 13
 core 23
 chosen 7
 k 2 no sets 1 2 blocks 3e 1
-k 3 no sets 1 1 2 blocks 3e 0 1
-k 4 no sets 1 1 1 2 blocks 3e 0 0 1
+k 3 no sets 1 1 2 blocks 3c 2 1
+k 4 no sets 1 1 1 2 blocks 38 2 4 1
 """
 
 LISTING_B = """\
@@ -53,7 +53,7 @@ core c
 chosen 5
 k 2 yes
 k 3 no sets 1 2 3 blocks 8 4 3
-k 4 no sets 1 1 2 3 blocks 8 0 4 3
+k 4 few
 """
 
 
@@ -94,10 +94,14 @@ MARKED = (
 NEIGHBOURS = (
     ("i as a run", "run", table(65, [1]), "refused 3\n"),
     ("j as a table", "table", table(1, [1]),
-     "drives 1\nset 1\ncore 1\nchosen 1\nk 2 yes\nk 3 yes\nk 4 yes\n"),
-    ("two sets of one drive, k 3", "table", table(2, [1, 2]),
-     "drives 2\nset 1\nset 2\ncore 3\nchosen 3\nk 2 no sets 1 2 blocks 2 1\n"
-     "k 3 no sets 1 1 2 blocks 2 0 1\nk 4 no sets 1 1 1 2 blocks 2 0 0 1\n"),
+     "drives 1\nset 1\ncore 1\nchosen 1\nk 2 few\nk 3 few\nk 4 few\n"),
+    ("two sets of one drive", "table", table(2, [1, 2]),
+     "drives 2\nset 1\nset 2\ncore 3\nchosen 3\nk 2 few\nk 3 few\nk 4 few\n"),
+    ("two sets of one drive in a frame of five", "table", table(5, [1, 2]),
+     "drives 5\nset 1\nset 2\ncore 3\nchosen 3\nk 2 no sets 1 2 blocks 1e 1\n"
+     "k 3 no sets 1 1 2 blocks 1c 2 1\nk 4 no sets 1 1 1 2 blocks 18 2 4 1\n"),
+    ("a yes in a frame of three", "table", table(3, [1]),
+     "drives 3\nset 1\ncore 1\nchosen 1\nk 2 yes\nk 3 few\nk 4 few\n"),
     ("masks of two digits", "table", table(12, [0xC00, 0xA00]),
      "drives 12\nset a00\nset c00\ncore 800\ncore 600\nchosen 800\n"
      "k 2 yes\nk 3 yes\nk 4 yes\n"),

@@ -17,6 +17,17 @@ MAX_CORES = 1024
 Frame = tuple[int, list[int]]
 
 
+def normal_tables(most: int) -> Iterator[Frame]:
+    """Every normal table of 1 to `most` drives, each once."""
+    def longer(n: int, sets: list[int]) -> Iterator[Frame]:
+        for mask in range(sets[-1] + 1 if sets else 1, 1 << n):
+            if all(mask & other not in (mask, other) for other in sets):
+                yield n, [*sets, mask]
+                yield from longer(n, [*sets, mask])
+    for n in range(1, most + 1):
+        yield from longer(n, [])
+
+
 def group(rng: Random, n: int, size: int) -> int:
     """A group of so many drives of a frame."""
     return sum(1 << place for place in rng.sample(range(n), size))

@@ -11,7 +11,8 @@ from typing import Iterable, Iterator
 from regdulyn import Refusal, cores, write_table
 
 from .calls import Script
-from .frames import MAX_CORES, MAX_SETS, Frame, accepted_table, crowded_table, full, hard_frames
+from .frames import (MAX_CORES, MAX_SETS, Frame, accepted_table, crowded_table, full, hard_frames,
+                     normal_tables)
 
 BUFFER = 1536
 NO_BLOCK_COUNTS = (0, 1, 5, 6, 255)
@@ -62,10 +63,18 @@ def missed_positions(script: Script) -> None:
 
 
 def verdict_limits(script: Script) -> None:
-    """Each k on an accepted table, a no and a yes, and on refused ones."""
+    """Each k on an accepted table, a no and a yes, on frames of 1 to 6 drives, and on refused
+    tables, some of them of few drives; and every normal table of up to 4 drives."""
     for k in (*range(7), 255):
         for n, sets in ((6, [1, 2, 0x3C]), (4, [7, 0xB, 0xC]), (2, [1, 2]), (14, CHOICES),
-                        (0, [1]), (6, []), (6, [1] * 129), (6, [0]), (22, PAIRS)):
+                        (0, [1]), (6, []), (6, [1] * 129), (6, [0]), (22, PAIRS),
+                        (1, []), (2, [1] * 129), (3, [1, 8]), (4, [0])):
+            script.judge(k, n, sets)
+        for n in range(1, 7):
+            for sets in ([1], [full(n)], [1 << place for place in range(n)], [1, full(n) - 1 or 1]):
+                script.judge(k, n, sets)
+    for n, sets in normal_tables(4):
+        for k in (2, 3, 4):
             script.judge(k, n, sets)
 
 

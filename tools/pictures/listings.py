@@ -25,7 +25,7 @@ def table_listing(listing: str) -> TableListing:
     def found(form: str) -> list[str]:
         return re.findall(f"^{form}$", listing, re.MULTILINE)
     drives, chosen = found(r"drives ([0-9]+)"), found("chosen ([0-9a-f]+)")
-    sets, cores, verdicts = found("set ([0-9a-f]+)"), found("core ([0-9a-f]+)"), found("(k [234] (?:yes|no .*))")
+    sets, cores, verdicts = found("set ([0-9a-f]+)"), found("core ([0-9a-f]+)"), found("(k [234] (?:yes|few|no .*))")
     if not (drives and sets and cores and chosen and verdicts):
         raise Unfit("this is not the listing of a table")
     return TableListing(int(drives[0]), sets, cores, chosen[0], verdicts)

@@ -138,9 +138,9 @@ class TablePicture:
         y += 22
         column = max(text_width(line, 13, printed=True) for line in self.listing.verdicts) + 16
         for line in self.listing.verdicts:
-            words = line.split()
-            k = words[1]
-            meaning = f"any {k} sets share a drive" if words[2] == "yes" else "these sets share no drive"
+            _, k, said, *_ = line.split()
+            meaning = {"yes": f"any {k} sets share a drive", "no": "these sets share no drive",
+                       "few": f"the frame has no more than {k} drives"}[said]
             d.text(MARGIN, y, line, 13, printed=True)
             d.text(MARGIN + column, y, meaning, 12, fill=SOFT)
             y += 20
@@ -163,7 +163,7 @@ class TablePicture:
                  "with a drive in every survivor set, and no smaller part of it has that; so at least one drive of "
                  "each core stays up. In an exchange the drives of the chosen core send, the others listen.",
                  "Masks are hexadecimal; bit 0 (value 1) is drive 1. A verdict's sets are named by their places "
-                 "above; its blocks split the drives so that no block holds a core."]
+                 "above; its blocks split the drives so that no block is empty and none holds a core."]
         within = {drive for mask in self.listing.sets for drive in drives(int(mask, 16))}
         absent = [drive for drive in range(1, self.n + 1) if drive not in within]
         if absent:

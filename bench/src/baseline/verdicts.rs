@@ -9,6 +9,9 @@ pub fn verdict(k: u8, n: u8, sets: &[u64]) -> Answer<u64> {
         return Err(12);
     }
     let table = accept(n, sets)?.sets;
+    if n <= k {
+        return Err(33);
+    }
     if table.iter().fold(u64::MAX, |shared, set| shared & set) != 0 {
         return Ok(0);
     }

@@ -54,6 +54,8 @@ pub enum Refusal {
     // From n and t.
     Threshold,
     TooManyGroups,
+    // From n and k.
+    FewDrives,
 }
 
 // What a call answers, where its result stands beside the answer.
@@ -98,6 +100,7 @@ impl Refusal {
             Refusal::BrokenState => 28,
             Refusal::Threshold => 31,
             Refusal::TooManyGroups => 32,
+            Refusal::FewDrives => 33,
         }
     }
 }

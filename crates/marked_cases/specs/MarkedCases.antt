@@ -1,4 +1,5 @@
--- The marked cases of document 01: one list of inputs and the text that each must give, and that all are given.
+-- The marked cases of document 01, as document 02 changes them: one list of inputs and the text that each must give, and
+-- that all are given.
 use mathlib.Core.Path.{_≡_}
 use mathlib.Core.List.{List, [], _∷_, _++_}
 use Prim.Native.Nat.{ℕ, suc}
@@ -52,9 +53,12 @@ cr drive round sends = ascii "CR" ++ (drive ∷ round ∷ sends ∷ [])
 unfoldable pub onA : ℕ → List ℕ → List ℕ
 onA count crs = fileA ++ prs 1 (7 ∷ 5 ∷ 9 ∷ 1 ∷ 1 ∷ 1 ∷ []) ++ crs ++ ascii "EN" ++ (count ∷ [])
 
--- n 1, set 1, and a pattern number
+-- n 1, set 1, and behind it a pattern number
 unfoldable pub fileJ : List ℕ
-fileJ = ascii "FR" ++ (1 ∷ sv 1) ++ ascii "EN" ++ (1 ∷ prs 1 (4 ∷ [])) ++ ascii "EN" ++ (0 ∷ [])
+fileJ = ascii "FR" ++ (1 ∷ sv 1) ++ ascii "EN" ++ (1 ∷ [])
+
+unfoldable pub runJ : List ℕ
+runJ = fileJ ++ prs 1 (4 ∷ []) ++ ascii "EN" ++ (0 ∷ [])
 
 -- ---- the cases
 
@@ -63,12 +67,12 @@ marked =
     record {
       program = tableProgram;
       input = fileA;
-      output = ascii "drives 6\nset 1\nset 2\nset 3c\ncore 7\ncore b\ncore 13\ncore 23\nchosen 7\nk 2 no sets 1 2 blocks 3e 1\nk 3 no sets 1 1 2 blocks 3e 0 1\nk 4 no sets 1 1 1 2 blocks 3e 0 0 1\n";
+      output = ascii "drives 6\nset 1\nset 2\nset 3c\ncore 7\ncore b\ncore 13\ncore 23\nchosen 7\nk 2 no sets 1 2 blocks 3e 1\nk 3 no sets 1 1 2 blocks 3c 2 1\nk 4 no sets 1 1 1 2 blocks 38 2 4 1\n";
     }
     ∷ record {
       program = tableProgram;
       input = fileC;
-      output = ascii "drives 4\nset 7\nset b\nset c\ncore 5\ncore 6\ncore 9\ncore a\ncore c\nchosen 5\nk 2 yes\nk 3 no sets 1 2 3 blocks 8 4 3\nk 4 no sets 1 1 2 3 blocks 8 0 4 3\n";
+      output = ascii "drives 4\nset 7\nset b\nset c\ncore 5\ncore 6\ncore 9\ncore a\ncore c\nchosen 5\nk 2 yes\nk 3 no sets 1 2 3 blocks 8 4 3\nk 4 few\n";
     }
     ∷ record {
       program = tableProgram;
@@ -97,5 +101,6 @@ marked =
       output = ascii "drive 1 stopped\ndrive 2 stopped\ndrive 3 decides 5 round 3\ndrive 4 decides 5 round 3\ndrive 5 decides 5 round 3\ndrive 6 decides 5 round 3\ncore 7 stops 2\n";
     }
     ∷ record { program = runProgram; input = onA 3 (cr 1 1 0 ++ cr 2 1 0 ++ cr 3 1 0); output = ascii "refused 11\n" }
-    ∷ record { program = runProgram; input = fileJ; output = ascii "drive 1 decides 4 round 1\ncore 1 stops 0\n" }
+    ∷ record { program = tableProgram; input = fileJ; output = ascii "drives 1\nset 1\ncore 1\nchosen 1\nk 2 few\nk 3 few\nk 4 few\n" }
+    ∷ record { program = runProgram; input = runJ; output = ascii "drive 1 decides 4 round 1\ncore 1 stops 0\n" }
     ∷ []

@@ -114,7 +114,7 @@ pub extern "C" fn regdulyn_missed(n: u8, sets: &[u64], group: u64) -> MissedRepl
     }
 }
 
-// The verdict on k of the table of n drives and some sets: 12, 3, 2, 5, 4, 13.
+// The verdict on k of the table of n drives and some sets: 12, 3, 2, 5, 4, 13, 33.
 #[no_mangle]
 pub extern "C" fn regdulyn_verdict(k: u8, n: u8, sets: &[u64]) -> VerdictReply
     ensures { λ r. ⌜ r ≡ verdictReply (verdict k n (now (sets .entry))) ⌝ }

@@ -11,52 +11,23 @@ use Rattle.survivor_tables.specs.Tables.Laws.{accepted-normal}
 use Rattle.table_files.specs.Files.{ReadTable, readWhole}
 use Rattle.table_files.specs.Files.Laws.{table-read, whole-table}
 use Rattle.survivor_tables.specs.Order.{normal}
-use Rattle.verdicts.specs.Verdicts.{Verdict, yes, no, verdictOn}
-use Rattle.verdicts.specs.Verdicts.Witness.{no-witness}
 use Rattle.text.specs.declared.Base.the-variants.{Decimal, Hexadecimal}
-use Rattle.text.specs.Text.{fields, named, line, lines}
-use Rattle.text.proofs.Lengths.{fields-length, named-length, line-length, lines-length, refusal-length}
-use Rattle.table_listing.specs.TableListing.{noPart, verdictLine, verdictLines, listing, listingOf, tableProgram}
+use Rattle.text.specs.Text.{line, lines}
+use Rattle.text.proofs.Lengths.{line-length, lines-length, refusal-length}
+use Rattle.table_listing.specs.TableListing.{listing, listingOf, tableProgram}
+use Rattle.verdict_lines.specs.VerdictLines.{verdictLines}
+use Rattle.verdict_lines.proofs.Lengths.{verdict-lines-length}
 use Rattle.drive_sets.specs.Limits.{maxText, maxCores}
 
--- a verdict's line with at most four positions and blocks
-verdict-length : (k : ℕ) (v : Verdict) → ((ps blocks : List ℕ) → v ≡ no ps blocks → (length ps ≤ 4) × (length blocks ≤ 4)) → length (verdictLine k v) ≤ 206
-unfolding noPart verdictLine ascii
-verdict-length k yes few = omega (arith, named-length (ascii "k") Decimal k, length-append (named (ascii "k") Decimal k) (ascii " yes\n"))
-verdict-length k (no ps blocks) few =
-    let head = named (ascii "k") Decimal k in
-    let places = fields Decimal ps in
-    let parts = fields Hexadecimal blocks in
-    let end = ascii " blocks" ++ (parts ++ ascii "\n") in
-    let few = few ps blocks refl in
-    omega (
-      arith,
-      few .0,
-      few .1,
-      named-length (ascii "k") Decimal k,
-      fields-length Decimal ps,
-      fields-length Hexadecimal blocks,
-      length-append parts (ascii "\n"),
-      length-append places end,
-      length-append head (ascii " no sets" ++ (places ++ end)),
-    )
-
 module _ (n : ℕ) (table : List ℕ) (accepted : Accepted n table) where
-  verdict-on-length : (k : ℕ) → k ≤ 4 → length (verdictLine k (verdictOn k n table)) ≤ 206
-  verdict-on-length k h = verdict-length k (verdictOn k n table) (λ ps blocks e.
-      let w = no-witness n table accepted k ps blocks e in
-      (omega (arith, w .positions .none-shared .positions .count), omega (arith, w .count)))
-
   listing-length : length (cores table) ≤ maxCores → length (listing n table) ≤ maxText
-  unfolding listing verdictLines ascii
+  unfolding listing ascii
   listing-length few =
       let drives = line (ascii "drives") Decimal n in
       let sets = lines (ascii "set") Hexadecimal table in
       let groups = lines (ascii "core") Hexadecimal (cores table) in
       let first = line (ascii "chosen") Hexadecimal (chosen table) in
-      let two = verdictLine 2 (verdictOn 2 n table) in
-      let three = verdictLine 3 (verdictOn 3 n table) in
-      let four = verdictLine 4 (verdictOn 4 n table) in
+      let verdicts = verdictLines n table in
       omega (
         arith,
         few,
@@ -65,15 +36,11 @@ module _ (n : ℕ) (table : List ℕ) (accepted : Accepted n table) where
         lines-length (ascii "set") Hexadecimal table,
         lines-length (ascii "core") Hexadecimal (cores table),
         line-length (ascii "chosen") Hexadecimal (chosen table),
-        verdict-on-length 2 (omega arith),
-        verdict-on-length 3 (omega arith),
-        verdict-on-length 4 (omega arith),
-        length-append three four,
-        length-append two (three ++ four),
-        length-append first (two ++ (three ++ four)),
-        length-append groups (first ++ (two ++ (three ++ four))),
-        length-append sets (groups ++ (first ++ (two ++ (three ++ four)))),
-        length-append drives (sets ++ (groups ++ (first ++ (two ++ (three ++ four))))),
+        verdict-lines-length n table,
+        length-append first verdicts,
+        length-append groups (first ++ verdicts),
+        length-append sets (groups ++ (first ++ verdicts)),
+        length-append drives (sets ++ (groups ++ (first ++ verdicts))),
       )
 
 -- the text of the table program, whatever its input

@@ -2,8 +2,7 @@
 ghost use mathlib.Core.Path.{_≡_};
 ghost use lib.ListN.{take};
 ghost use Rattle.drive_sets.specs.Filled.{Filled};
-ghost use Rattle.drive_sets.specs.Refusals.{result};
-ghost use Rattle.survivor_tables.specs.Tables.{cores, checkedSets};
+ghost use Rattle.survivor_tables.specs.Tables.{cores};
 ghost use Rattle.tables.specs.Complete.{setsOf, CompleteWithin};
 ghost use Rattle.table_listing.specs.TableListing.{listing, tableProgram};
 ghost use Rattle.text.specs.Printing.{Printed};
@@ -17,7 +16,7 @@ use text::printing::print;
 
 // The listing of a table that was read with its cores.
 fn put_complete(buf: &mut [u8], t: TableWithCores) -> usize
-    requires { ⌜ CompleteWithin t × (take (t .found) (t .cores) ≡ cores (setsOf (t .table))) × (checkedSets (t .table .n) (setsOf (t .table)) ≡ result (setsOf (t .table))) ⌝ }
+    requires { ⌜ CompleteWithin t × (take (t .found) (t .cores) ≡ cores (setsOf (t .table))) ⌝ }
     ensures { λ r. ⌜ Filled (now (buf .entry)) (now (buf .exit)) 0 r (listing (t .table .n) (setsOf (t .table))) ⌝ }
 {
     let table = t.table;

@@ -1,12 +1,12 @@
 -- The answers of the verdict on a normal table, from what the search found.
-use mathlib.Core.Path.{_≡_, sym, ap, ap₂, _∙_}
+use mathlib.Core.Path.{_≡_, refl, sym, ap, ap₂, _∙_}
 use mathlib.Core.Bool.{Bool, true, false, not, _&&_}
 use mathlib.Core.List.{List}
 use mathlib.Core.Option.{none, some}
 use Prim.Native.Nat.{ℕ, _≤_}
 use native.Mathlib.Omega.{arith}
 use lib.Dec.{leb}
-use lib.ListN.{length, take, length-map}
+use lib.ListN.{length, take}
 use borrow.Author.Tests.{leb-true, not-false}
 use Rattle.drive_sets.specs.Bools.Laws.{and-left, and-right}
 use Rattle.drive_sets.specs.Options.Laws.{by-option}
@@ -15,11 +15,11 @@ use Rattle.drive_sets.specs.Masks.{full}
 use Rattle.drive_sets.specs.Masks.Laws.{full-word, has-some}
 use Rattle.verdicts.specs.declared.Named.{Named}
 use Rattle.verdicts.specs.declared.Verdict.{Verdict as Answer}
-use Rattle.verdicts.specs.Verdicts.{Verdict, yes, no, setAt, setsAt, disjoint, blocksOf, verdictOn}
+use Rattle.splits.specs.Splits.{fillEmpty}
+use Rattle.verdicts.specs.Verdicts.{Verdict, yes, no, setsAt, disjoint, blocksOf, verdictOn}
 use Rattle.verdicts.specs.Verdicts.Firsts.{First, disjoint-first, named-from}
-use Rattle.verdicts.specs.Verdicts.Intersection.{none-yes, some-no}
+use Rattle.verdicts.specs.Verdicts.Intersection.{none-yes, some-no, no-counts}
 use Rattle.verdicts.specs.Verdicts.CommonPart.{every-lt, in-every}
-use Rattle.verdicts.specs.Verdicts.Blocks.{length-blocks}
 use Rattle.verdicts.specs.Meaning.{inEvery}
 use Rattle.verdicts.specs.Held.{verdictOf, answerOf, withBlocks, inFour, foundIn}
 use Rattle.verdicts.proofs.Fours.{length-four, take-four}
@@ -33,25 +33,24 @@ count-bounds k {good} is h =
 
 -- ---- an answer says the verdict that it holds
 
-says-yes : (k : ℕ) {v : Verdict} → v ≡ yes → verdictOf (answerOf v) k ≡ v
+says-yes : (k : ℕ) → verdictOf (answerOf yes) k ≡ yes
 unfolding verdictOf answerOf
-says-yes k e = ap (λ (v : Verdict). verdictOf (answerOf v) k) e ∙ sym e
+says-yes k = refl
 
-says-no : (k : ℕ) (ps blocks : List ℕ) {v : Verdict} → k ≤ 4 → length ps ≡ k → length blocks ≡ k → v ≡ no ps blocks → verdictOf (answerOf v) k ≡ v
+says-no : (k : ℕ) (ps blocks : List ℕ) → k ≤ 4 → length ps ≡ k → length blocks ≡ k → verdictOf (answerOf (no ps blocks)) k ≡ no ps blocks
 unfolding verdictOf answerOf withBlocks
-says-no k ps blocks few p q e =
-    ap (λ (v : Verdict). verdictOf (answerOf v) k) e ∙ (ap₂ no (take-four ps k p few) (take-four blocks k q few) ∙ sym e)
+says-no k ps blocks few p q = ap₂ no (take-four ps k p few) (take-four blocks k q few)
 
 module _ (k n : ℕ) (table : List ℕ) (few : k ≤ 4) where
   first-found : (ps : List ℕ) → disjoint k 1 table (full n) ≡ some ps → First k 1 table (full n) ps
   first-found ps e = disjoint-first k table 1 (full n) ps (full-word n) e
 
   says : verdictOf (answerOf (verdictOn k n table)) k ≡ verdictOn k n table
-  says =
-      by-option (disjoint k 1 table (full n))
-      (λ e. says-yes k (none-yes k n table e))
-      (λ ps e. let count = first-found ps e .names .count in
-      says-no k ps (blocksOf n 0 (setsAt table ps)) few count (length-blocks n 0 (setsAt table ps) ∙ (length-map ps (setAt table) ∙ count)) (some-no k n table e))
+  says = go (verdictOn k n table) refl
+    where
+      go : (v : Verdict) → verdictOn k n table ≡ v → verdictOf (answerOf v) k ≡ v
+      go yes e = says-yes k
+      go (no ps blocks) e = let counts = no-counts k n table e in says-no k ps blocks few (counts .0) (counts .1)
 
   -- an answer that holds the verdict says it
   pub held-says : (r : Answer) → r ≡ answerOf (verdictOn k n table) → (verdictOf r k ≡ verdictOn k n table) × (r ≡ answerOf (verdictOn k n table))
@@ -98,10 +97,10 @@ module _ (k n : ℕ) (table : List ℕ) (few : k ≤ 4) where
               (b .0, omega arith),
         )
 
-        pub answer-no : (r : Answer) → r ≡ withBlocks (found .positions) (blocksOf n 0 (setsAt table (take k (found .positions))))
+        pub answer-no : (r : Answer) → r ≡ withBlocks (found .positions) (fillEmpty (blocksOf n 0 (setsAt table (take k (found .positions)))))
             → r ≡ answerOf (verdictOn k n table)
         unfolding answerOf
         answer-no r e =
             e
-            ∙ (ap₂ (λ (l r : List ℕ). withBlocks l (blocksOf n 0 (setsAt table r))) (at .2) taken
+            ∙ (ap₂ (λ (l r : List ℕ). withBlocks l (fillEmpty (blocksOf n 0 (setsAt table r)))) (at .2) taken
             ∙ ap answerOf (sym (some-no k n table (at .1))))

@@ -1,10 +1,11 @@
 -- Lists in arrays of four, with zeros behind them.
-use mathlib.Core.Path.{_≡_, refl, sym, ap, _∙_}
+use mathlib.Core.Path.{_≡_, refl, sym, ap, ap₂, _∙_}
 use mathlib.Core.List.{List, [], _∷_, _++_}
 use Prim.Native.Nat.{ℕ, zero, suc, _+_, _-_, _≤_}
 use native.Mathlib.Omega.{arith}
 use lib.ListN.{length, getD, take, drop, replicate, length-take, length-append}
-use lib.Seq.{drop-cons, take-take, take-at, take-append-add}
+use lib.Seq.{drop-cons, take-take, take-at, drop-at, take-append-add}
+use borrow.Rule.Slice.PartMut.{postOf}
 use Rattle.verdicts.specs.Held.{inFour}
 
 abbrev pub zeros : ℕ → List ℕ
@@ -33,6 +34,15 @@ module _ (l : List ℕ) where
   zeros-behind few =
       let room : 4 ≡ length l + (4 - length l) = omega arith in
       sym (ap (λ (j : ℕ). take j (l ++ zeros 4)) room ∙ (take-append-add l (zeros 4) (4 - length l) ∙ ap (λ (r : List ℕ). l ++ r) (fewer (length l) few)))
+
+-- a list changed within its array, where no more and no fewer than its elements are
+pub changed-in : (f : List ℕ → List ℕ) (l : List ℕ) (k : ℕ) → length l ≡ k → k ≤ 4 → length (f l) ≡ k → (r back : List ℕ) → r ≡ inFour l → back ≡ f (take (k - 0) r)
+    → back ++ postOf 0 (k - 0) r ≡ inFour (f l)
+changed-in f l k count few same r back e g =
+    let whole : k - 0 ≡ k = omega arith in
+    let front = g ∙ ap f (ap₂ take whole e ∙ take-four l k count few) in
+    let behind = ap₂ drop whole (e ∙ sym (zeros-behind l (omega arith))) ∙ (drop-at l (drop (length l) (zeros 4)) k count ∙ ap (λ (j : ℕ). drop j (zeros 4)) (count ∙ sym same)) in
+    ap₂ (λ (a b : List ℕ). a ++ b) front behind ∙ zeros-behind (f l) (omega arith)
 
 first-three : (l : List ℕ) → 3 ≤ length l → take 3 l ≡ getD l 0 0 ∷ getD l 1 0 ∷ getD l 2 0 ∷ []
 first-three l h =

@@ -1,5 +1,5 @@
--- What a verdict means: sets that share a drive (k-Intersection), lists of positions and their order, splits of the
--- drives into blocks, and blocks that hold a core (k-Partition). Verdicts/ has the theorems.
+-- What a verdict means: sets that share a drive (k-Intersection), lists of positions and their order, and splits of the
+-- drives into blocks that hold a core (k-Partition). Verdicts/ has the theorems.
 use mathlib.Core.Path.{_≡_}
 use mathlib.Core.Bool.{Bool, true, false, not, _&&_, _||_}
 use mathlib.Core.Logic.{_⊎_}
@@ -7,9 +7,10 @@ use mathlib.Core.List.{List, [], _∷_, map}
 use Prim.Native.Nat.{ℕ, _≤_, _<_}
 use lib.Dec.{eqb, leb, ltb}
 use lib.ListN.{length, getD, take}
-use Rattle.drive_sets.specs.Lists.{range, filter, any, elem, ordered}
-use Rattle.drive_sets.specs.Masks.{has, full, common, subset, ofDrives}
+use Rattle.drive_sets.specs.Lists.{range, any, elem, ordered}
+use Rattle.drive_sets.specs.Masks.{has, full, common, subset}
 use Rattle.survivor_tables.specs.Tables.{cores}
+use Rattle.splits.specs.Splits.{Split, blockOf, Parted, fillEmpty}
 use Rattle.verdicts.specs.Verdicts.{setsAt}
 
 -- ---- k-Intersection
@@ -64,34 +65,30 @@ pub record FirstNoneShared (k n : ℕ) (table ps : List ℕ) : Type 0 where
 
 -- ---- k-Partition
 
--- a split of the drives 1 to n into k blocks: the number of each drive's block, 1 to k; a block may be empty
-pub record Split (k n : ℕ) (block : ℕ → ℕ) : Type 0 where
-  pub low : (d : ℕ) → 1 ≤ d → d ≤ n → 1 ≤ block d
-  pub high : (d : ℕ) → 1 ≤ d → d ≤ n → block d ≤ k
-
--- the j-th block of a split, j from 1
-unfoldable pub blockOf : ℕ → (ℕ → ℕ) → ℕ → ℕ
-blockOf n block j = ofDrives (filter (λ d. eqb (block d) j) (range 1 n))
-
 -- a core of the table lies within the block
 unfoldable pub holdsCore : List ℕ → ℕ → Bool
 holdsCore table block = any (λ c. subset c block) (cores table)
 
--- every split of the drives 1 to n into k blocks has a block that holds a core
+-- every split of the drives 1 to n into k blocks, none empty, has a block that holds a core
 abbrev pub Partition : ℕ → ℕ → List ℕ → Type 0
 Partition k n table = (block : ℕ → ℕ) → Split k n block → (j : ℕ) × (1 ≤ j) × (j ≤ k) × (holdsCore table (blockOf n block j) ≡ true)
 
 -- ---- what comes with a no
 
+-- the blocks that are formed first: each holds the drives outside the named set at its place and in no earlier block
+pub record Formed (n : ℕ) (named blocks : List ℕ) : Type 0 where
+  pub count : length blocks ≡ length named
+  pub rule : (i d : ℕ) → i < length named
+      → has d (getD blocks i 0) ≡ (has d (full n) && (not (has d (getD named i 0)) && not (any (has d) (take i blocks))))
+
 pub record NoWitness (k n : ℕ) (table ps blocks : List ℕ) : Type 0 where
   -- the first k positions whose sets share no drive
   pub positions : FirstNoneShared k n table ps
-  pub count : length blocks ≡ k
-  -- a block holds the drives outside the named set at its place and in no earlier block
-  pub rule : (i d : ℕ) → i < k → has d (getD blocks i 0) ≡ (has d (full n) && (not (has d (getD (setsAt table ps) i 0)) && not (any (has d) (take i blocks))))
-  -- the blocks are a split: no drive is in two of them, and the drives 1 to n, no others, are in some
-  pub apart : (i j d : ℕ) → has d (getD blocks i 0) ≡ true → has d (getD blocks j 0) ≡ true → i ≡ j
-  pub whole : (d : ℕ) → any (has d) blocks ≡ has d (full n)
+  -- the blocks that are formed first, and then the moves
+  pub first : List ℕ
+  pub formed : Formed n (setsAt table ps) first
+  pub moved : blocks ≡ fillEmpty first
+  -- they are the blocks of a split into k, and none holds a core
+  pub parted : Parted n blocks
   pub split : (block : ℕ → ℕ) × Split k n block × (blocks ≡ map (blockOf n block) (range 1 k))
-  -- none of them holds a core
   pub no-core : (b : ℕ) → elem b blocks ≡ true → holdsCore table b ≡ false

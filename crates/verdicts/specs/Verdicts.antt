@@ -1,21 +1,21 @@
 -- The verdict on k (k-Intersection; k-Partition is its other side): yes if any k sets of the normal table, repeats
 -- allowed, share a drive. Otherwise no, with the first k positions whose sets share none, and the blocks of a split
--- into k of which none holds a core.
+-- into k of which none is empty and none holds a core.
 use mathlib.Core.Bool.{not, _&&_, cond}
 use mathlib.Core.List.{List, [], _∷_, map}
 use mathlib.Core.Option.{Option, some, none}
 use Prim.Native.Nat.{ℕ, zero, suc, _-_}
 use lib.Dec.{eqb, leb}
 use lib.ListN.{getD}
-use Rattle.drive_sets.specs.declared.Refusal.the-variants.{BlockCount}
+use Rattle.drive_sets.specs.declared.Refusal.the-variants.{BlockCount, FewDrives}
 use Rattle.drive_sets.specs.Masks.{full, union, common, outside}
 use Rattle.drive_sets.specs.Refusals.{Outcome, result, refuseIf, andThen}
 use Rattle.survivor_tables.specs.Tables.{checkedSets, normalTable}
+use Rattle.splits.specs.Splits.{fillEmpty}
 pub mod Search
 pub mod Firsts
-pub mod Intersection
 pub mod Blocks
-pub mod Splits
+pub mod Intersection
 pub mod Witness
 pub mod Partition
 pub mod CommonPart
@@ -54,22 +54,24 @@ setAt table p = getD table (p - 1) 0
 abbrev pub setsAt : List ℕ → List ℕ → List ℕ
 setsAt table ps = map (setAt table) ps
 
+-- after the blocks are formed, while one is empty, the lowest drive of the first block with two or more moves to the first
+-- empty block
 abbrev pub verdictWith : ℕ → List ℕ → Option (List ℕ) → Verdict
 verdictWith n table none = yes
-verdictWith n table (some ps) = no ps (blocksOf n 0 (setsAt table ps))
+verdictWith n table (some ps) = no ps (fillEmpty (blocksOf n 0 (setsAt table ps)))
 
 -- the verdict on a normal table
 unfoldable pub verdictOn : ℕ → ℕ → List ℕ → Verdict
 verdictOn k n table = verdictWith n table (disjoint k 1 table (full n))
 
--- the call: 12, then the table's refusals
-unfoldable pub verdict : ℕ → ℕ → List ℕ → Outcome Verdict
-verdict k n sets =
-    refuseIf (not (leb 2 k && leb k 4)) BlockCount
-    (andThen (normalTable n sets) (λ table. result (verdictOn k n table)))
+-- and for a frame of k drives or fewer 33
+unfoldable pub judged : ℕ → ℕ → List ℕ → Outcome Verdict
+judged k n table = refuseIf (leb n k) FewDrives (result (verdictOn k n table))
 
--- the call given a normal table, for which the cores are not looked for: 12, then 3, 2, 5, 4
+-- the call: 12, then the table's refusals, then 33
+unfoldable pub verdict : ℕ → ℕ → List ℕ → Outcome Verdict
+verdict k n sets = refuseIf (not (leb 2 k && leb k 4)) BlockCount (andThen (normalTable n sets) (judged k n))
+
+-- the call given a normal table, for which the cores are not looked for: 12, then 3, 2, 5, 4, then 33
 unfoldable pub verdictGiven : ℕ → ℕ → List ℕ → Outcome Verdict
-verdictGiven k n table =
-    refuseIf (not (leb 2 k && leb k 4)) BlockCount
-    (andThen (checkedSets n table) (λ sets. result (verdictOn k n sets)))
+verdictGiven k n table = refuseIf (not (leb 2 k && leb k 4)) BlockCount (andThen (checkedSets n table) (judged k n))

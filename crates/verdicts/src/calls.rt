@@ -1,12 +1,12 @@
-// The verdict calls: given n and sets, 12 and then the table's refusals; and given a normal table, 12 and then what
-// needs no search for cores.
+// The verdict calls: given n and sets, 12, then the table's refusals, then 33; and given a normal table, 12, then what
+// needs no search for cores, then 33.
 ghost use mathlib.Core.Path.{_≡_};
 ghost use mathlib.Core.Bool.{_&&_};
 ghost use Prim.Native.Nat.{ℕ, _≤_};
 ghost use lib.Dec.{leb};
 ghost use lib.ListN.{length};
-ghost use Rattle.drive_sets.specs.Refusals.{refused, result, number};
-ghost use Rattle.verdicts.specs.Verdicts.{verdictOn, verdict, verdictGiven};
+ghost use Rattle.drive_sets.specs.Refusals.{refused, number};
+ghost use Rattle.verdicts.specs.Verdicts.{judged, verdict, verdictGiven};
 ghost use Rattle.verdicts.specs.Held.{judgementOf, heldIn};
 ghost use Rattle.drive_sets.specs.Limits.{maxSets};
 use crate::MAX_BLOCKS;
@@ -42,19 +42,22 @@ fn refused(r: Refusal) -> Judgement
     }
 }
 
-// The verdict on a normal table, as the answer of a call.
+// The verdict on a normal table, as the answer of a call: 33 where the frame has k drives or fewer.
 fn on_normal(k: u8, n: u8, table: &[u64]) -> Judgement
     requires { ⌜ (2 ≤ k) × (k ≤ 4) × (length (now table) ≤ maxSets) ⌝ }
-    ensures says { λ j. ⌜ judgementOf j k ≡ result (verdictOn k n (now (table .entry))) ⌝ }
-    ensures whole { λ j. ⌜ j .verdict ≡ heldIn (result (verdictOn k n (now (table .entry)))) ⌝ }
+    ensures says { λ j. ⌜ judgementOf j k ≡ judged k n (now (table .entry)) ⌝ }
+    ensures whole { λ j. ⌜ j .verdict ≡ heldIn (judged k n (now (table .entry))) ⌝ }
 {
+    if n <= k {
+        return refused(Refusal::FewDrives);
+    }
     Judgement {
         answer: Answer::Accepted,
         verdict: crate::find_verdict(k, n, table),
     }
 }
 
-// The verdict on k of the table of n drives and some sets: 12, 3, 2, 5, 4, 13.
+// The verdict on k of the table of n drives and some sets: 12, 3, 2, 5, 4, 13, 33.
 pub fn judge(k: u8, n: u8, sets: &[u64]) -> Judgement
     ensures says { λ j. ⌜ judgementOf j k ≡ verdict k n (now (sets .entry)) ⌝ }
     ensures whole { λ j. ⌜ j .verdict ≡ heldIn (verdict k n (now (sets .entry))) ⌝ }
@@ -73,8 +76,8 @@ pub fn judge(k: u8, n: u8, sets: &[u64]) -> Judgement
     }
 }
 
-// The verdict on k of a table of n drives whose sets are the normal table's: 12, 3, 2, 5, 4. For a caller who has the
-// cores already, since they are not looked for.
+// The verdict on k of a table of n drives whose sets are the normal table's: 12, 3, 2, 5, 4, 33. For a caller who has
+// the cores already, since they are not looked for.
 pub fn verdict_on(k: u8, n: u8, table: &[u64]) -> Judgement
     ensures says { λ j. ⌜ judgementOf j k ≡ verdictGiven k n (now (table .entry)) ⌝ }
     ensures whole { λ j. ⌜ j .verdict ≡ heldIn (verdictGiven k n (now (table .entry))) ⌝ }

@@ -1,5 +1,5 @@
 // The verdict on k: whether any k sets of a normal table, repeats allowed, share a drive (k-Intersection), and for a no
-// the first positions whose sets share none, with the blocks of a split of which none holds a core.
+// the first positions whose sets share none, with the blocks of a split of which none is empty or holds a core.
 ghost use mathlib.Core.Path.{_≡_};
 ghost use mathlib.Core.Bool.{true};
 ghost use mathlib.Core.Option.{none};
@@ -7,8 +7,9 @@ ghost use Prim.Native.Nat.{ℕ, suc, _≤_};
 ghost use lib.ListN.{length, take, drop};
 ghost use Rattle.drive_sets.specs.Lists.{elem};
 ghost use Rattle.verdicts.specs.Verdicts.{setsAt, disjoint, blocksOf, verdictOn};
+ghost use Rattle.splits.specs.Splits.{fillEmpty};
 ghost use Rattle.verdicts.specs.Meaning.{inEvery};
-ghost use Rattle.verdicts.specs.Held.{verdictOf, answerOf, withBlocks, foundIn};
+ghost use Rattle.verdicts.specs.Held.{verdictOf, answerOf, withBlocks, inFour, foundIn};
 ghost use Rattle.drive_sets.specs.Limits.{maxSets};
 use drive_sets::Position;
 use survivor_tables::missed::next_missed;
@@ -89,10 +90,10 @@ fn disjoint(k: u8, table: &[u64], from: usize, shared: u64) -> Named
     nothing()
 }
 
-// A no with these positions: block i holds the drives outside the i-th named set and in no earlier block.
-fn no_at(k: u8, n: u8, table: &[u64], positions: [u8; 4]) -> Verdict
+// Block i holds the drives outside the i-th named set and in no earlier block.
+fn form_blocks(k: u8, n: u8, table: &[u64], positions: [u8; 4]) -> [u64; 4]
     requires { ⌜ (k ≤ 4) × (length positions ≡ 4) × ((p : ℕ) → elem p (take k positions) ≡ true → (1 ≤ p) × (p ≤ length (now table))) ⌝ }
-    ensures { λ r. ⌜ r ≡ withBlocks positions (blocksOf n 0 (setsAt (now (table .entry)) (take k positions))) ⌝ }
+    ensures { λ r. ⌜ r ≡ inFour (blocksOf n 0 (setsAt (now (table .entry)) (take k positions))) ⌝ }
 {
     let mut blocks = [0u64; 4];
     let mut taken = 0;
@@ -104,6 +105,16 @@ fn no_at(k: u8, n: u8, table: &[u64], positions: [u8; 4]) -> Verdict
         taken = taken | block;
         i += 1;
     }
+    blocks
+}
+
+// A no with these positions: the blocks as they are formed, and then the moves.
+fn no_at(k: u8, n: u8, table: &[u64], positions: [u8; 4]) -> Verdict
+    requires { ⌜ (k ≤ 4) × (length positions ≡ 4) × ((p : ℕ) → elem p (take k positions) ≡ true → (1 ≤ p) × (p ≤ length (now table))) ⌝ }
+    ensures { λ r. ⌜ r ≡ withBlocks positions (fillEmpty (blocksOf n 0 (setsAt (now (table .entry)) (take k positions)))) ⌝ }
+{
+    let mut blocks = form_blocks(k, n, table, positions);
+    splits::fill_empty(&mut blocks[0..k as usize]);
     Verdict {
         shared: false,
         positions,

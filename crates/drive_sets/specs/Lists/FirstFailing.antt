@@ -1,12 +1,13 @@
 -- The first element that fails a test, by its position: all before it pass, it fails, and there is none exactly if all
 -- pass.
-use mathlib.Core.Path.{_≡_, refl, sym, _∙_}
-use mathlib.Core.Bool.{Bool, true, false}
+use mathlib.Core.Path.{_≡_, refl, sym, ap₂, _∙_}
+use mathlib.Core.Bool.{Bool, true, false, cond}
 use mathlib.Core.Logic.{_↔_}
 use mathlib.Core.List.{List, [], _∷_}
 use Prim.Native.Nat.{ℕ, zero, suc, _+_, _<_}
 use native.Mathlib.Omega.{arith}
 use lib.ListN.{length, getD}
+use Rattle.drive_sets.specs.declared.Position.{Position}
 use Rattle.drive_sets.specs.declared.Position.the-variants.{None, At}
 use Rattle.drive_sets.specs.Bools.Laws.{by-test, and-intro, and-left, and-right, cond-true, cond-false}
 use Rattle.drive_sets.specs.Positions.Laws.{none-at, same-at}
@@ -69,3 +70,9 @@ module _ (p : ℕ → Bool) where
 
   pub failing-none : (i : ℕ) (l : List ℕ) → (firstFailing i p l ≡ None) ↔ (all p l ≡ true)
   failing-none i l = (none-all i l, all-none i l)
+
+-- tests with the same answers, place by place
+pub failing-same : (p q : ℕ → Bool) (i : ℕ) (l : List ℕ) → ((j : ℕ) → p (getD l j 0) ≡ q (getD l j 0)) → firstFailing i p l ≡ firstFailing i q l
+unfolding firstFailing
+failing-same p q i [] f = refl
+failing-same p q i (x ∷ l) f = ap₂ (λ (b : Bool) (later : Position). cond b later (At i)) (f 0) (failing-same p q (i + 1) l (λ j. f (suc j)))

@@ -1,6 +1,6 @@
 -- The elements of a list by their places, of a list's image under a function, and a list without one of its elements.
 use mathlib.Core.Path.{_≡_, refl, sym, ap, ap₂, _∙_, subst}
-use mathlib.Core.Bool.{Bool, true, false}
+use mathlib.Core.Bool.{Bool, true, false, _||_}
 use mathlib.Core.Logic.{_⊎_, inl, inr, ⊎-elim}
 use mathlib.Core.List.{List, [], _∷_, map}
 use Prim.Native.Nat.{ℕ, zero, suc, _+_, _<_, zero-le, suc-le-suc}
@@ -26,6 +26,14 @@ elem-getD x (y ∷ l) e =
 -- what none of a list passes, none of its first elements passes
 pub any-take : (p : ℕ → Bool) (l : List ℕ) (i : ℕ) → any p l ≡ false → any p (take i l) ≡ false
 any-take p l i h = or-false-left (any p (take i l)) (any p (drop i l)) (sym (any-append p (take i l) (drop i l)) ∙ (ap (any p) (take-append-drop i l) ∙ h))
+
+-- a test that has the same answers on the elements of two lists, place by place
+pub any-same-places : (p : ℕ → Bool) (l m : List ℕ) → length l ≡ length m → ((i : ℕ) → p (getD l i 0) ≡ p (getD m i 0)) → any p l ≡ any p m
+unfolding any
+any-same-places p [] [] e f = refl
+any-same-places p [] (y ∷ m) e f = absurd (omega arith)
+any-same-places p (x ∷ l) [] e f = absurd (omega arith)
+any-same-places p (x ∷ l) (y ∷ m) e f = ap₂ (λ (a b : Bool). a || b) (f 0) (any-same-places p l m (omega arith) (λ i. f (suc i)))
 
 -- ---- the image under a function
 

@@ -2,12 +2,13 @@
 -- refusal; and of the numbers of refusals.
 use mathlib.Core.Path.{_≡_, refl, sym, ap, _∙_}
 use mathlib.Core.Bool.{Bool, true, false}
+use mathlib.Core.Logic.{_⊎_, inl, inr}
 use Prim.Native.Nat.{ℕ}
 use native.Mathlib.Omega.{arith}
 use Rattle.drive_sets.specs.declared.Answer.{Answer}
 use Rattle.drive_sets.specs.declared.Answer.the-variants.{Accepted, Refused}
 use Rattle.drive_sets.specs.declared.Refusal.{Refusal}
-use Rattle.drive_sets.specs.Refusals.{Outcome, refused, result, refuseIf, andThen, Alone}
+use Rattle.drive_sets.specs.Refusals.{Outcome, refused, result, refuseIf, andThen, number, Alone}
 
 module _ {A : Type 0} where
   pub refused-no-result : {r : ℕ} {a : A} → refused r ≡ result a → ⊥
@@ -24,11 +25,21 @@ module _ {A : Type 0} where
   passed true r next e = absurd (refused-no-result e)
   passed false r next e = (refl, e)
 
+  -- a refusal is this one, or comes later
+  pub refused-by : (b : Bool) (r : Refusal) (next : Outcome A) {q : ℕ} → refuseIf b r next ≡ refused q → ((b ≡ true) × (q ≡ number r)) ⊎ ((b ≡ false) × (next ≡ refused q))
+  refused-by true r next e = inl (refl, sym (same-refused e))
+  refused-by false r next e = inr (refl, e)
+
 module _ {A B : Type 0} where
   -- a result of two steps has one of the first
   pub first-result : (o : Outcome A) (f : A → Outcome B) {b : B} → andThen o f ≡ result b → (a : A) × (o ≡ result a) × (f a ≡ result b)
   first-result (refused r) f e = absurd (refused-no-result e)
   first-result (result a) f e = (a, refl, e)
+
+  -- a refusal of two steps is the first's, or comes after its result
+  pub first-refused : (o : Outcome A) (f : A → Outcome B) {q : ℕ} → andThen o f ≡ refused q → (o ≡ refused q) ⊎ ((a : A) × (o ≡ result a) × (f a ≡ refused q))
+  first-refused (refused r) f e = inl (ap (λ (x : ℕ). refused x) (same-refused e))
+  first-refused (result a) f e = inr (a, refl, e)
 
   -- what comes after a refusal
   pub then-refuse : (b : Bool) (r : Refusal) (a : A) (f : A → Outcome B) → andThen (refuseIf b r (result a)) f ≡ refuseIf b r (f a)

@@ -1,12 +1,14 @@
 -- The marked cases, by computation: one statement that the definitions give the text of every case.
 use mathlib.Core.Path.{refl}
 use mathlib.Core.Option.{orElse}
+use lib.Count.{trailingZeros}
 use Rattle.drive_sets.specs.Lists.{elem, firstFailing, firstSome}
-use Rattle.drive_sets.specs.Masks.{outside, ofDrives}
-use Rattle.survivor_tables.specs.Tables.{chosenCore}
+use Rattle.drive_sets.specs.Masks.{outside, lowest, ofDrives}
+use Rattle.survivor_tables.specs.Tables.{checkedSets, chosenCore}
 use Rattle.records.specs.RecordLists.{nextOf, widthOf, stepOf, readFrom, readList}
 use Rattle.table_files.specs.Files.{dueAfter, takenSet, readListed, accepted, readTable, readWhole}
-use Rattle.verdicts.specs.Verdicts.{firstWith, disjoint, blocksOf, verdictOn}
+use Rattle.verdicts.specs.Verdicts.{firstWith, disjoint, blocksOf, verdictOn, judged, verdictGiven}
+use Rattle.splits.specs.Splits.{withMove, moved, moves, fillEmpty}
 use Rattle.agreement.specs.Calls.Evaluated.{evaluated}
 use Rattle.sync_crash.specs.Rounds.{start, smallestOf, sends, reaches, adds, known, announces, announced, heard, unchanged, stable, ifStable, decides, halts, closes, closed, step, after}
 use Rattle.runs.specs.Scenario.{frame, coreOf, goneBy, hasCrash}
@@ -18,10 +20,11 @@ use Rattle.agreement.specs.RoundEndings.{endingAfter, endingFrom, endingOf, end
 use Rattle.run_files.specs.RunFiles.{takenProposal, crashFields, takenCrash, readRecords, untouchedLeft, wholeRun, readBehind, readRunFile}
 use Rattle.simulation.specs.Simulation.{checkedCrashes, simulated}
 use Rattle.text.specs.Text.{digit, inBase, digits, joined, field, fields, named, line, lines, refusalLine}
-use Rattle.table_listing.specs.TableListing.{noPart, verdictLine, verdictLines, listing, tableProgram}
+use Rattle.verdict_lines.specs.VerdictLines.{noPart, verdictPart, verdictLine, verdictLines}
+use Rattle.table_listing.specs.TableListing.{listing, tableProgram}
 use Rattle.run_listing.specs.RunListing.{endingText, driveLine, endingLines, coreLine, simulatedWith, simulatedFile, runProgram}
-use Rattle.marked_cases.specs.MarkedCases.{AllGiven, sv, fileA, fileC, fileH, fileI, prs, cr, onA, fileJ, marked}
+use Rattle.marked_cases.specs.MarkedCases.{AllGiven, sv, fileA, fileC, fileH, fileI, prs, cr, onA, fileJ, runJ, marked}
 
 pub marked-cases : AllGiven marked
-unfolding marked sv fileA fileC fileH fileI prs cr onA fileJ evaluated orElse elem firstSome outside ofDrives firstFailing chosenCore dueAfter takenSet nextOf widthOf stepOf readFrom readList readListed accepted readTable readWhole firstWith disjoint blocksOf verdictOn start smallestOf sends reaches adds known announces announced heard unchanged stable ifStable decides halts closes closed step after frame coreOf goneBy hasCrash listOf cut reach crashed isNext isRound mostSends checkedCrash crashIn scenario coreCrashes endingAfter endingFrom endingOf endings takenProposal crashFields takenCrash readRecords untouchedLeft wholeRun readBehind readRunFile checkedCrashes simulated digit inBase digits joined field fields named line lines refusalLine noPart verdictLine verdictLines listing tableProgram endingText driveLine endingLines coreLine simulatedWith simulatedFile runProgram
-marked-cases = (refl, (refl, (refl, (refl, (refl, (refl, (refl, (refl, (refl, (refl, tt))))))))))
+unfolding marked sv fileA fileC fileH fileI prs cr onA fileJ runJ evaluated orElse elem firstSome outside trailingZeros lowest ofDrives firstFailing checkedSets chosenCore dueAfter takenSet nextOf widthOf stepOf readFrom readList readListed accepted readTable readWhole firstWith disjoint blocksOf withMove moved moves fillEmpty verdictOn judged verdictGiven start smallestOf sends reaches adds known announces announced heard unchanged stable ifStable decides halts closes closed step after frame coreOf goneBy hasCrash listOf cut reach crashed isNext isRound mostSends checkedCrash crashIn scenario coreCrashes endingAfter endingFrom endingOf endings takenProposal crashFields takenCrash readRecords untouchedLeft wholeRun readBehind readRunFile checkedCrashes simulated digit inBase digits joined field fields named line lines refusalLine noPart verdictPart verdictLine verdictLines listing tableProgram endingText driveLine endingLines coreLine simulatedWith simulatedFile runProgram
+marked-cases = (refl, (refl, (refl, (refl, (refl, (refl, (refl, (refl, (refl, (refl, (refl, tt)))))))))))

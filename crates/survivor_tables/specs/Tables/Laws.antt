@@ -2,6 +2,7 @@
 -- a table's cores is the table, and what holds of the chosen core of every accepted table.
 use mathlib.Core.Path.{_≡_, refl, sym, ap, _∙_, subst}
 use mathlib.Core.Bool.{true, false, not}
+use mathlib.Core.Logic.{⊎-elim}
 use mathlib.Core.List.{List, [], _∷_}
 use Prim.Native.Nat.{ℕ, _^_, _≤_, _<_}
 use native.Mathlib.Nat.{lt-of-lt-of-le}
@@ -17,8 +18,8 @@ use Rattle.drive_sets.specs.Lists.Laws.{elem-some, all-elem, all-intro}
 use Rattle.drive_sets.specs.Lists.Places.{getD-elem}
 use Rattle.drive_sets.specs.Masks.{has, single, full, common, subset, meets, Below}
 use Rattle.drive_sets.specs.Masks.Laws.{full-lt, full-has, full-subset, has-some, has-bounds, has-meets}
-use Rattle.drive_sets.specs.Refusals.{result}
-use Rattle.drive_sets.specs.Refusals.Laws.{passed, same-result, first-result}
+use Rattle.drive_sets.specs.Refusals.{refused, result}
+use Rattle.drive_sets.specs.Refusals.Laws.{refused-no-result, passed, refused-by, same-result, first-result, first-refused}
 use Rattle.survivor_tables.specs.Hitting.{hits, Minimal}
 use Rattle.survivor_tables.specs.Hitting.Laws.{hits-meets, meets-hits, hits-same-elements, minimal-lt, minimal-same-hits}
 use Rattle.survivor_tables.specs.Hitting.Critical.{critical-all}
@@ -75,6 +76,23 @@ table-accepted n sets table e =
       },
       sym (same-result (few .1)) ∙ ap normal (sym same),
     )
+
+-- the numbers with which n and sets are refused go up to 13
+pub table-refused : (n : ℕ) (sets : List ℕ) {q : ℕ} → normalTable n sets ≡ refused q → q ≤ 13
+unfolding normalTable checkedSets withinCoreLimit
+table-refused n sets e =
+    ⊎-elim
+    (λ h. ⊎-elim (λ w. omega arith) (λ w.
+    ⊎-elim (λ x. omega arith) (λ x.
+    ⊎-elim (λ y. omega arith) (λ y.
+    ⊎-elim (λ z. omega arith) (λ z. absurd (refused-no-result (sym (z .1))))
+    (refused-by (not (all (isSet n) sets)) BadSet _ (y .1)))
+    (refused-by (ltb maxSets (length sets)) TooManySets _ (x .1)))
+    (refused-by (isEmpty sets) WrongMark _ (w .1)))
+    (refused-by (not (isFrame n)) FrameSize _ h))
+    (λ w. ⊎-elim (λ h. omega arith) (λ h. absurd (refused-no-result (sym (h .1))))
+    (refused-by (ltb maxCores (length (cores (normal (w .0))))) TooManyCores _ (w .2)))
+    (first-refused (checkedSets n sets) withinCoreLimit e)
 
 pub accepted-within-limit : (n : ℕ) (sets : List ℕ) → Accepted n sets → withinCoreLimit sets ≡ result (normal sets)
 unfolding withinCoreLimit

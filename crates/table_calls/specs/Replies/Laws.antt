@@ -22,7 +22,7 @@ use Rattle.table_files.specs.Files.{ReadTable, takenSet, setList, listedTable, 
 use Rattle.table_writing.specs.Writing.{writeTable}
 use Rattle.tables.specs.Complete.{completeTable}
 use Rattle.threshold.specs.Threshold.{thresholdSets, thresholdTable, thresholdList}
-use Rattle.verdicts.specs.Verdicts.{verdictOn, verdict}
+use Rattle.verdicts.specs.Verdicts.{judged, verdict}
 use Rattle.c_replies.specs.Replies.{refusalOf}
 use Rattle.table_calls.specs.Replies.{fittingTable, tableReply, missedReply}
 
@@ -73,10 +73,10 @@ missed-numbered n sets group =
     then-numbered (normalTable n sets) _ (normal-numbered n sets) (λ table. if-numbered (not (isSet n group)) 4 refl result-numbered)
 
 pub verdict-numbered : (k n : ℕ) (sets : List ℕ) → Numbered (verdict k n sets)
-unfolding verdict
+unfolding verdict judged
 verdict-numbered k n sets =
     if-numbered (not (leb 2 k && leb k 4)) 12 refl
-    (then-numbered (normalTable n sets) (λ table. result (verdictOn k n table)) (normal-numbered n sets) (λ table. result-numbered))
+    (then-numbered (normalTable n sets) (judged k n) (normal-numbered n sets) (λ table. if-numbered (leb n k) 33 refl result-numbered))
 
 -- ---- the readers
 

@@ -1,34 +1,32 @@
--- The blocks, one for each named set.
-use borrow.Author.Needs.{needs}
-use Prim.Native.Nat.{ℕ, _-_}
+-- The blocks as they are formed, with the moves made in the part of the array that they fill.
 use mathlib.Core.Bool.{false}
 use mathlib.Core.List.{List}
-use mathlib.Core.Path.{sym, ap, _∙_}
+use mathlib.Core.Path.{ap, _∙_}
 use lib.ListN.{take}
 use native.Mathlib.Omega.{arith}
-use Rattle.drive_sets.specs.Loops.Filling.{filling-start}
-use Rattle.drive_sets.specs.Masks.{union, outside}
+use Prim.Native.Nat.{ℕ}
 use Rattle.verdicts.specs.Held.{withBlocks}
-use Rattle.verdicts.specs.Verdicts.{setsAt}
-use Rattle.verdicts.proofs.Splitting.{Splitting, splitting-turn, splitting-end, count-named, is-named, position-within}
+use Rattle.splits.specs.Splits.{fillEmpty}
+use Rattle.verdicts.specs.Verdicts.{setsAt, blocksOf}
+use Rattle.verdicts.specs.Verdicts.Blocks.{length-blocks}
+use Rattle.splits.specs.Splits.Moves.{length-fill}
+use Rattle.verdicts.proofs.Fours.{changed-in}
+use Rattle.verdicts.proofs.Splitting.{count-named}
+use borrow.Author.Needs.{needs}
 use Rattle.verdicts.proofs.no_at.Statement.{statement}
 use Rattle.verdicts.proofs.no_at.Tie as tie
 
-abbrev Inv-loop : tie.InvT-loop
-Inv-loop k n table positions blocks₀ taken₀ i₀ blocks taken i = Splitting n (setsAt table (take k positions)) blocks taken i
-
-abbrev μ-loop : tie.MeasureT-loop
-μ-loop k n table positions blocks₀ taken₀ i₀ blocks taken i = k - i
+returns : tie.Need-returns
+unfolding withBlocks
+returns c =
+    let a = c .before .before .before .before .before .args in
+    let first = blocksOf (a .n) 0 (setsAt (a .table .now) (take (a .k) (a .positions))) in
+    let count = length-blocks (a .n) 0 (setsAt (a .table .now) (take (a .k) (a .positions))) ∙ count-named (a .table .now) (a .positions) (a .k) (omega arith) in
+    ap (λ (l : List ℕ). record { shared = false; positions = a .positions; blocks = l })
+    (changed-in fillEmpty first (a .k) count (c .before .before .before .before .before .pre .0) (length-fill first ∙ count) _ _ (c .before .before .before .form-blocks .ensures) (c .before .fill-empty .ensures))
 
 pub no-at-spec : {M : Type 1} → statement M
-unfolding union withBlocks
 no-at-spec =
     tie.close
     (tie.spec
-    Inv-loop μ-loop (λ c. filling-start _ _) (λ c. search needs) (λ c. search needs)
-    (λ c. let a = c .before .before .before .args in position-within (a .table .now) (a .t4) (a .k) (omega arith) (c .before .loop .i) (c .loop-test .taken) (c .before .before .before .pre .2) .0)
-    (λ c. let a = c .before .before .before .args in omega (arith, position-within (a .table .now) (a .t4) (a .k) (omega arith) (c .before .loop .i) (c .loop-test .taken) (c .before .before .before .pre .2) .1))
-    (λ c. let a = c .before .before .before .before .args in omega (arith, position-within (a .table .now) (a .t4) (a .k) (omega arith) (c .before .before .loop .i) (c .before .loop-test .taken) (c .before .before .before .before .pre .2)))
-    (λ c κs. search needs) (λ c. search needs) (λ c. search needs) (λ c. search needs) (λ c. search needs)
-    (λ c. let a = c .before .before .before .before .before .args in let l = c .before .before .before .loop in let h = c .before .before .loop-test .taken in let named = setsAt (a .table .now) (take (a .k) (a .t4)) in let count = count-named (a .table .now) (a .t4) (a .k) (omega arith) in splitting-turn _ named _ _ _ (omega arith) (l .inv) (omega arith) _ (c .outside .ensures ∙ ap (λ (s : ℕ). outside (a .n) (union s (l .taken))) (sym (is-named (a .table .now) (a .t4) (a .k) (omega arith) (l .i) h))))
-    (λ c. let a = c .before .before .before .args in ap (λ (l : List ℕ). record { shared = false; positions = a .t4; blocks = l }) (let count = count-named (a .table .now) (a .t4) (a .k) (omega arith) in splitting-end _ (setsAt (a .table .now) (take (a .k) (a .t4))) _ _ _ (omega arith) (c .before .loop .inv) (omega arith))))
+    (λ c κs. search needs) (λ c. search needs) (λ c. search needs) (λ c. search needs) (λ c κs. search needs) returns)

@@ -1,4 +1,4 @@
--- The blocks that come with a no: each holds the drives outside the named set at its place and in no earlier block. So
+-- The blocks that are formed first of a no: each holds the drives outside the named set at its place and in no earlier block. So
 -- no drive is in two of them; and where the named sets share no drive, each drive of the frame is in some.
 use mathlib.Core.Path.{_≡_, refl, sym, ap, _∙_, subst}
 use mathlib.Core.Bool.{Bool, true, false, not, _&&_, _||_, or-assoc, or-false}
@@ -7,6 +7,7 @@ use Prim.Native.Nat.{ℕ, zero, suc, _^_, _≤_, _<_}
 use native.Mathlib.Omega.{arith}
 use lib.Dec.{ltb}
 use lib.ListN.{length, getD, take, List·getD-eq-default}
+use lib.Pow.{pow-pos}
 use lib.Seq.{getD-take, length-take-le}
 use borrow.Author.Tests.{ltb-true, ltb-false, not-true}
 use Rattle.drive_sets.specs.Bools.Laws.{clash, by-test, true-of, same-test, and-intro, and-left, and-right}
@@ -24,11 +25,11 @@ unfolding blocksOf
 length-blocks n taken [] = refl
 length-blocks n taken (s ∷ named) = ap suc (length-blocks n (union taken (outside n (union s taken))) named)
 
-pub blocks-lt : (n taken : ℕ) (named : List ℕ) (i : ℕ) → i < length named → getD (blocksOf n taken named) i 0 < 2 ^ n
+pub blocks-lt : (n taken : ℕ) (named : List ℕ) (i : ℕ) → getD (blocksOf n taken named) i 0 < 2 ^ n
 unfolding blocksOf
-blocks-lt n taken [] i h = absurd (omega arith)
-blocks-lt n taken (s ∷ named) zero h = outside-lt n (union s taken)
-blocks-lt n taken (s ∷ named) (suc i) h = blocks-lt n (union taken (outside n (union s taken))) named i (omega arith)
+blocks-lt n taken [] i = pow-pos n
+blocks-lt n taken (s ∷ named) zero = outside-lt n (union s taken)
+blocks-lt n taken (s ∷ named) (suc i) = blocks-lt n (union taken (outside n (union s taken))) named i
 
 -- ---- the rule
 

@@ -6,16 +6,19 @@ use mathlib.Core.List.{List}
 use mathlib.Core.Option.{none, some}
 use Prim.Native.Nat.{ℕ, _-_, _≤_}
 use native.Mathlib.Omega.{arith}
-use lib.ListN.{length-map}
+use lib.ListN.{length, length-map}
 use Rattle.drive_sets.specs.Options.Laws.{by-option}
 use Rattle.drive_sets.specs.Lists.{elem}
 use Rattle.drive_sets.specs.Lists.Places.{getD-elem, map-elem}
 use Rattle.drive_sets.specs.Masks.{full}
 use Rattle.drive_sets.specs.Masks.Laws.{has-bounds, full-has, full-lt, full-word}
 use Rattle.survivor_tables.specs.Tables.{Accepted}
+use Rattle.splits.specs.Splits.{fillEmpty}
 use Rattle.verdicts.specs.Verdicts.{Verdict, yes, no, setAt, setsAt, disjoint, blocksOf, verdictWith, verdictOn}
 use Rattle.verdicts.specs.Verdicts.Search.{Shared, disjoint-none}
 use Rattle.verdicts.specs.Verdicts.Firsts.{Names, disjoint-first}
+use Rattle.verdicts.specs.Verdicts.Blocks.{length-blocks}
+use Rattle.splits.specs.Splits.Moves.{length-fill}
 use Rattle.verdicts.specs.Meaning.{SharedDrive, AllFrom, Intersection, Positions, NoneShared, FirstNoneShared}
 
 -- ---- the verdict by what the search finds
@@ -31,7 +34,7 @@ module _ (k n : ℕ) (table : List ℕ) where
   unfolding verdictOn
   none-yes e = ap (verdictWith n table) e
 
-  pub some-no : {ps : List ℕ} → disjoint k 1 table (full n) ≡ some ps → verdictOn k n table ≡ no ps (blocksOf n 0 (setsAt table ps))
+  pub some-no : {ps : List ℕ} → disjoint k 1 table (full n) ≡ some ps → verdictOn k n table ≡ no ps (fillEmpty (blocksOf n 0 (setsAt table ps)))
   unfolding verdictOn
   some-no e = ap (verdictWith n table) e
 
@@ -39,11 +42,18 @@ module _ (k n : ℕ) (table : List ℕ) where
   yes-none e = by-option (disjoint k 1 table (full n)) (λ h. h) (λ ps h. absurd (yes-not-no e (some-no h)))
 
   pub no-some : {ps blocks : List ℕ} → verdictOn k n table ≡ no ps blocks
-      → (disjoint k 1 table (full n) ≡ some ps) × (blocks ≡ blocksOf n 0 (setsAt table ps))
+      → (disjoint k 1 table (full n) ≡ some ps) × (blocks ≡ fillEmpty (blocksOf n 0 (setsAt table ps)))
   no-some e =
       by-option (disjoint k 1 table (full n))
       (λ h. absurd (yes-not-no (none-yes h) e))
-      (λ qs h. let w = same-no (some-no h) e in (h ∙ ap some (w .0), sym (w .1) ∙ ap (λ (l : List ℕ). blocksOf n 0 (setsAt table l)) (w .0)))
+      (λ qs h. let w = same-no (some-no h) e in (h ∙ ap some (w .0), sym (w .1) ∙ ap (λ (l : List ℕ). fillEmpty (blocksOf n 0 (setsAt table l))) (w .0)))
+
+-- a no has k positions and k blocks
+pub no-counts : (k n : ℕ) (table : List ℕ) {ps blocks : List ℕ} → verdictOn k n table ≡ no ps blocks → (length ps ≡ k) × (length blocks ≡ k)
+no-counts k n table {ps = ps} e =
+    let w = no-some k n table e in
+    let count = disjoint-first k table 1 (full n) ps (full-word n) (w .0) .names .count in
+    (count, ap length (w .1) ∙ (length-fill (blocksOf n 0 (setsAt table ps)) ∙ (length-blocks n 0 (setsAt table ps) ∙ (length-map ps (setAt table) ∙ count))))
 
 -- ---- a drive of the frame that the sets share
 

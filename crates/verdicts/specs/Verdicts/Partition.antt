@@ -1,12 +1,12 @@
--- The verdict is yes exactly if every split of the drives into k blocks has a block that holds a core (k-Partition).
--- For every k. If no block of a split holds a core, a set of the table lies outside each, and these k sets share no
+-- The verdict is yes exactly if every split of the drives into k blocks, none empty, has one that holds a core
+-- (k-Partition), for every k and every frame of more than k drives. If no block of a split holds a core, a set of the table lies outside each, and these k sets share no
 -- drive, for a drive that they share is in no block. If k sets share no drive, the blocks of the no are a split and
 -- none holds a core.
 use mathlib.Core.Path.{_≡_, refl, sym, ap, _∙_}
 use mathlib.Core.Bool.{true, false}
 use mathlib.Core.Logic.{_↔_, ⊎-elim}
 use mathlib.Core.List.{List, [], _∷_}
-use Prim.Native.Nat.{ℕ, suc}
+use Prim.Native.Nat.{ℕ, suc, _<_}
 use native.Mathlib.Omega.{arith}
 use lib.ListN.{length}
 use borrow.Author.Tests.{eq-eqb, not-true}
@@ -19,11 +19,12 @@ use Rattle.drive_sets.specs.Masks.{has, full, outside, subset}
 use Rattle.drive_sets.specs.Masks.Laws.{full-has, subset-has}
 use Rattle.drive_sets.specs.Masks.Outside.{has-outside}
 use Rattle.survivor_tables.specs.Tables.{Accepted}
+use Rattle.splits.specs.Splits.{Split, blockOf}
+use Rattle.splits.specs.Splits.Listed.{blockOf-lt, has-blockOf}
 use Rattle.verdicts.specs.Verdicts.{yes, disjoint, verdictOn}
 use Rattle.verdicts.specs.Verdicts.Intersection.{none-yes, some-no, yes-intersection}
-use Rattle.verdicts.specs.Verdicts.Splits.{blockOf-lt, has-blockOf}
 use Rattle.verdicts.specs.Verdicts.Witness.{no-core-outside, no-witness}
-use Rattle.verdicts.specs.Meaning.{SharedDrive, AllFrom, Intersection, Split, blockOf, holdsCore, Partition}
+use Rattle.verdicts.specs.Meaning.{SharedDrive, AllFrom, Intersection, holdsCore, Partition}
 
 module _ (k n : ℕ) (table : List ℕ) (accepted : Accepted n table) where
   -- ---- a split none of whose blocks holds a core
@@ -74,11 +75,11 @@ module _ (k n : ℕ) (table : List ℕ) (accepted : Accepted n table) where
       (λ h. let w = sets-outside block (range 1 k) (λ j i. any-not (λ j. holdsCore table (blockOf n block j)) (range 1 k) j h i) in
       absurd (outside-share-none block split (w .0) (w .1) (every (w .0) (w .1 .count ∙ length-range 1 k) (w .1 .from))))
 
-  partition-yes : Partition k n table → verdictOn k n table ≡ yes
-  partition-yes every =
+  partition-yes : k < n → Partition k n table → verdictOn k n table ≡ yes
+  partition-yes more every =
       by-option (disjoint k 1 table (full n))
       (λ e. none-yes k n table e)
-      (λ ps e. let w = no-witness n table accepted k ps _ (some-no k n table e) in
+      (λ ps e. let w = no-witness n table accepted k ps _ more (some-no k n table e) in
       let block = w .split .0 in
       let j = every block (w .split .1) in
       absurd
@@ -86,5 +87,5 @@ module _ (k n : ℕ) (table : List ℕ) (accepted : Accepted n table) where
       (w .no-core (blockOf n block (j .0))
       (ap (elem (blockOf n block (j .0))) (w .split .2) ∙ elem-map (blockOf n block) (j .0) (range 1 k) (range-elem (j .0) 1 k (j .1) (omega (arith, j .2)))))))
 
-  pub yes-partition : (verdictOn k n table ≡ yes) ↔ Partition k n table
-  yes-partition = (λ e. intersection-partition (yes-intersection k n table accepted .0 e), partition-yes)
+  pub yes-partition : k < n → (verdictOn k n table ≡ yes) ↔ Partition k n table
+  yes-partition more = (λ e. intersection-partition (yes-intersection k n table accepted .0 e), partition-yes more)

@@ -1,26 +1,37 @@
--- What comes with a no: the first positions, and blocks that are a split of the drives none of which holds a core.
--- Block i lies outside the i-th named set, so that set misses it; and a core meets every set.
-use mathlib.Core.Path.{_≡_, sym, ap, _∙_, subst}
+-- What comes with a no: the first positions, and blocks that are a split of the drives, of which none is empty or holds
+-- a core. When it is formed block i lies outside the i-th named set, so that set misses it; and a core meets every set.
+-- After the moves each block is part of one that was formed.
+use mathlib.Core.Path.{_≡_, refl, sym, ap, _∙_, subst}
 use mathlib.Core.Bool.{true, false, not}
 use mathlib.Core.List.{List, map}
 use Prim.Native.Nat.{ℕ, _^_, _<_}
 use native.Mathlib.Omega.{arith}
 use lib.ListN.{length, getD, length-map}
 use Rattle.drive_sets.specs.Bools.Laws.{clash, false-of}
-use Rattle.drive_sets.specs.Lists.{range, any, elem}
+use Rattle.drive_sets.specs.Lists.{range, elem}
+use Rattle.drive_sets.specs.Lists.Laws.{any-elem, any-intro}
 use Rattle.drive_sets.specs.Lists.Places.{getD-elem, elem-getD}
-use Rattle.drive_sets.specs.Masks.{has, full, outside, subset}
-use Rattle.drive_sets.specs.Masks.Laws.{not-meets}
+use Rattle.drive_sets.specs.Masks.{has, outside, subset}
+use Rattle.drive_sets.specs.Masks.Laws.{not-meets, subset-lt, subset-trans}
 use Rattle.drive_sets.specs.Masks.Outside.{subset-outside}
 use Rattle.survivor_tables.specs.Hitting.Duality.{Cores, cores-minimals, holds-core-or-complement}
 use Rattle.survivor_tables.specs.Order.{bySize}
 use Rattle.survivor_tables.specs.Tables.{cores, Accepted}
 use Rattle.survivor_tables.specs.Tables.Laws.{sets-below}
+use Rattle.splits.specs.Splits.{Split, blockOf, Parted, fillEmpty}
+use Rattle.splits.specs.Splits.Moves.{length-fill, fill-keeps, fill-ends}
+use Rattle.splits.specs.Splits.Listed.{split-of-blocks}
 use Rattle.verdicts.specs.Verdicts.{no, setAt, setsAt, blocksOf, verdictOn}
 use Rattle.verdicts.specs.Verdicts.Intersection.{no-some, shared-drive, sets-from, some-first}
 use Rattle.verdicts.specs.Verdicts.Blocks.{length-blocks, blocks-lt, blocks-rule, in-block, blocks-apart, blocks-whole}
-use Rattle.verdicts.specs.Verdicts.Splits.{split-of-blocks}
-use Rattle.verdicts.specs.Meaning.{FirstNoneShared, Split, blockOf, holdsCore, NoWitness}
+use Rattle.verdicts.specs.Meaning.{FirstNoneShared, holdsCore, NoWitness}
+
+-- a block that holds a core has it in every larger one
+holds-more : (n : ℕ) (table : List ℕ) (b c : ℕ) → b < 2 ^ n → subset b c ≡ true → holdsCore table b ≡ true → holdsCore table c ≡ true
+unfolding holdsCore
+holds-more n table b c lt part h =
+    let w = any-elem (λ x. subset x b) (cores table) h in
+    any-intro (λ x. subset x c) (cores table) (w .0) (w .1) (subset-trans n (w .0) b c (subset-lt n (w .0) b (w .2) lt) (w .2) part)
 
 module _ (n : ℕ) (table : List ℕ) (accepted : Accepted n table) where
   -- ---- which blocks hold a core
@@ -51,41 +62,53 @@ module _ (n : ℕ) (table : List ℕ) (accepted : Accepted n table) where
     abbrev named : List ℕ
     named = setsAt table ps
 
-    abbrev blocks : List ℕ
-    blocks = blocksOf n 0 named
+    abbrev first : List ℕ
+    first = blocksOf n 0 named
 
-    count-named : length named ≡ k
-    count-named = length-map ps (setAt table) ∙ found .none-shared .positions .count
+    count-first : length first ≡ k
+    count-first = length-blocks n 0 named ∙ (length-map ps (setAt table) ∙ found .none-shared .positions .count)
 
-    count-blocks : length blocks ≡ k
-    count-blocks = length-blocks n 0 named ∙ count-named
-
-    whole : (d : ℕ) → any (has d) blocks ≡ has d (full n)
-    whole = blocks-whole n named (λ h. found .none-shared .share-none (shared-drive n (accepted .high) named h))
-
-    no-core : (b : ℕ) → elem b blocks ≡ true → holdsCore table b ≡ false
-    no-core b i =
-        let w = elem-getD b blocks i in
-        let j = w .0 in
-        let place : j < length named = omega (arith, w .1, length-blocks n 0 named) in
-        subst (λ (x : ℕ). holdsCore table x ≡ false) (w .2)
-        (missed-no-core (getD blocks j 0) (getD named j 0) (blocks-lt n 0 named j place)
-        (sets-from n (accepted .high) k table ps (found .none-shared .positions) (getD named j 0) (getD-elem named j place))
-        (λ d e. in-block n named j d e .not-named))
-
-    blocks-witness : NoWitness k n table ps blocks
-    blocks-witness = record {
-      positions = found;
-      count = count-blocks;
-      rule = λ i d h. blocks-rule n named i d (omega (arith, count-named));
+    first-parted : Parted n first
+    first-parted = record {
+      within = blocks-lt n 0 named;
       apart = blocks-apart n named;
-      whole = whole;
-      split = subst (λ (x : ℕ). (block : ℕ → ℕ) × Split x n block × (blocks ≡ map (blockOf n block) (range 1 x))) count-blocks
-          (split-of-blocks n (accepted .high) blocks (λ i h. blocks-lt n 0 named i (omega (arith, length-blocks n 0 named))) (blocks-apart n named) whole);
-      no-core = no-core;
+      whole = blocks-whole n named (λ h. found .none-shared .share-none (shared-drive n (accepted .high) named h));
     }
 
-  pub no-witness : (k : ℕ) (ps blocks : List ℕ) → verdictOn k n table ≡ no ps blocks → NoWitness k n table ps blocks
-  no-witness k ps blocks e =
+    first-no-core : (j : ℕ) → j < length first → holdsCore table (getD first j 0) ≡ false
+    first-no-core j h =
+        let place : j < length named = omega (arith, length-blocks n 0 named) in
+        missed-no-core (getD first j 0) (getD named j 0) (blocks-lt n 0 named j)
+        (sets-from n (accepted .high) k table ps (found .none-shared .positions) (getD named j 0) (getD-elem named j place))
+        (λ d e. in-block n named j d e .not-named)
+
+    abbrev blocks : List ℕ
+    blocks = fillEmpty first
+
+    -- each block is part of one that was formed first
+    no-core : (b : ℕ) → elem b blocks ≡ true → holdsCore table b ≡ false
+    no-core b i =
+        let kept = fill-keeps n (accepted .high) first first-parted in
+        let at = elem-getD b blocks i in
+        let w = kept .1 (at .0) (omega (arith, at .1, length-fill first)) in
+        subst (λ (x : ℕ). holdsCore table x ≡ false) (at .2)
+        (false-of (holdsCore table (getD blocks (at .0) 0)) (λ c. clash (holds-more n table _ _ (kept .0 .within (at .0)) (w .2) c) (first-no-core (w .0) (w .1))))
+
+    blocks-witness : k < n → NoWitness k n table ps blocks
+    blocks-witness more =
+        let parted = fill-keeps n (accepted .high) first first-parted .0 in
+        record {
+          positions = found;
+          first = first;
+          formed = record { count = length-blocks n 0 named; rule = blocks-rule n named };
+          moved = refl;
+          parted = parted;
+          split = subst (λ (x : ℕ). (block : ℕ → ℕ) × Split x n block × (blocks ≡ map (blockOf n block) (range 1 x))) (length-fill first ∙ count-first)
+              (split-of-blocks n (accepted .high) blocks parted (fill-ends n (accepted .high) first first-parted (omega (arith, count-first))));
+          no-core = no-core;
+        }
+
+  pub no-witness : (k : ℕ) (ps blocks : List ℕ) → k < n → verdictOn k n table ≡ no ps blocks → NoWitness k n table ps blocks
+  no-witness k ps blocks more e =
       let w = no-some k n table e in
-      subst (NoWitness k n table ps) (sym (w .1)) (blocks-witness k ps (some-first n (accepted .high) k table ps (w .0)))
+      subst (NoWitness k n table ps) (sym (w .1)) (blocks-witness k ps (some-first n (accepted .high) k table ps (w .0)) more)

@@ -20,6 +20,6 @@ put-complete-spec =
     (λ c. let long : length (c .before .before .before .before .before .before .args .t .table .sets) ≡ 128 = search needs in omega (arith, c .before .before .before .before .before .before .pre .0 .sets))
     (λ c. search needs) (λ c. search needs)
     (λ c. let long : length (c .before .before .before .before .before .before .before .before .args .t .cores) ≡ 1024 = search needs in omega (arith, c .before .before .before .before .before .before .before .before .pre .0 .cores))
-    (λ c κs. let t = c .before .before .before .before .before .before .before .before .before .args .t in (rw (cut (t .table .sets) (t .table .count)) (c .before .before .before .before .before .before .before .before .before .pre .2), cut (t .cores) (t .found) ∙ (c .before .before .before .before .before .before .before .before .before .pre .1 ∙ sym (ap cores (cut (t .table .sets) (t .table .count))))))
+    (λ c κs. let t = c .before .before .before .before .before .before .before .before .before .args .t in cut (t .cores) (t .found) ∙ (c .before .before .before .before .before .before .before .before .before .pre .1 ∙ sym (ap cores (cut (t .table .sets) (t .table .count)))))
     (λ c. search needs)
     (λ c. let t = c .before .before .before .before .before .before .before .before .before .before .before .before .args .t in filled-same (ap (listing (t .table .n)) (sym (cut (t .table .sets) (t .table .count)))) (c .before .before .put-listing .ensures)))

@@ -1,14 +1,11 @@
 -- The line of a refusal, or the listing of what was read.
-use mathlib.Core.Path.{_≡_, ap, _∙_, subst}
+use mathlib.Core.Path.{ap, _∙_}
 use Rattle.drive_sets.specs.Filled.Laws.{filled-same}
 use Rattle.table_files.specs.Files.{readWhole}
 use Rattle.tables.specs.Complete.{Complete, withCores}
 use Rattle.table_files.specs.WithCores.{readWholeComplete}
 use Rattle.table_files.proofs.TableReads.{read-refused, read-accepted, read-cores}
-use Rattle.survivor_tables.specs.Tables.{checkedSets}
-use Rattle.drive_sets.specs.Refusals.{result}
 use Rattle.table_listing.specs.TableListing.{listing, listingOf, tableProgram}
-use Rattle.table_listing.proofs.Listings.{whole-checked}
 use borrow.Author.Needs.{needs}
 use Rattle.table_listing.proofs.programs.put_table.Statement.{statement}
 use Rattle.table_listing.proofs.programs.put_table.Tie as tie
@@ -19,7 +16,7 @@ put-table-spec =
     tie.close
     (tie.spec
     (λ c κs. search needs) (λ c. search needs) (λ c κs. search needs) (λ c. search needs)
-    (λ c κs. let s = c .before .before .before .before .before .before .args .input .now in let r = c .before .before .before .read-whole in let w = read-accepted _ (readWhole s) (r .ensures .0) (c .before .enum-told .given .1) in (r .ensures .1, read-cores _ (readWhole s) (r .ensures .0) (c .before .enum-told .given .1), subst (λ (t : Complete). checkedSets (t .n) (t .sets) ≡ result (t .sets)) (w .2) (whole-checked s (w .0) (w .1))))
+    (λ c κs. let s = c .before .before .before .before .before .before .args .input .now in let r = c .before .before .before .read-whole in (r .ensures .1, read-cores _ (readWhole s) (r .ensures .0) (c .before .enum-told .given .1)))
     (λ c. search needs)
     (λ c. filled-same (ap listingOf (read-refused _ (readWhole (c .before .before .before .before .before .before .before .before .before .before .args .input .now)) (c .before .before .before .before .before .before .before .read-whole .ensures .0) (c .before .before .before .before .before .answer .given .1))) (c .before .before .put-refused .ensures))
     (λ c. search needs)

@@ -16,7 +16,7 @@ use Rattle.table_listing.proofs.table_text.put_listing.Tie as tie
 
 returns : tie.Need-returns
 unfolding listing chosen ascii
-returns c = filled-both (search needs) (c .before .before .before .before .before .before .before .before .before .before .before .before .before .before .before .before .before .before .before .before .before .before .put-line .ensures) (filled-both (search needs) (c .before .before .before .before .before .before .before .before .before .before .before .before .before .before .before .before .before .put-lines .ensures) (filled-both (search needs) (filled-same (ap (lines (ascii "core") Hexadecimal) (sym (c .before .before .before .before .before .before .before .before .before .before .before .before .before .before .before .before .before .before .before .before .before .before .before .before .before .before .before .before .pre .1))) (c .before .before .before .before .before .before .before .before .before .before .before .before .put-lines2 .ensures)) (filled-both (search needs) (filled-same (ap (line (ascii "chosen") Hexadecimal) (ap (λ (l : List ℕ). getD l 0 0) (sym (c .before .before .before .before .before .before .before .before .before .before .before .before .before .before .before .before .before .before .before .before .before .before .before .before .before .before .before .before .pre .1)) ∙ sym (c .before .before .before .before .before .before .before .first-group .ensures))) (c .before .before .before .before .before .before .put-line2 .ensures)) (c .before .before .put-verdicts .ensures))))
+returns c = filled-both (search needs) (c .before .before .before .before .before .before .before .before .before .before .before .before .before .before .before .before .before .before .before .before .before .before .put-line .ensures) (filled-both (search needs) (c .before .before .before .before .before .before .before .before .before .before .before .before .before .before .before .before .before .put-lines .ensures) (filled-both (search needs) (filled-same (ap (lines (ascii "core") Hexadecimal) (sym (c .before .before .before .before .before .before .before .before .before .before .before .before .before .before .before .before .before .before .before .before .before .before .before .before .before .before .before .before .pre))) (c .before .before .before .before .before .before .before .before .before .before .before .before .put-lines2 .ensures)) (filled-both (search needs) (filled-same (ap (line (ascii "chosen") Hexadecimal) (ap (λ (l : List ℕ). getD l 0 0) (sym (c .before .before .before .before .before .before .before .before .before .before .before .before .before .before .before .before .before .before .before .before .before .before .before .before .before .before .before .before .pre)) ∙ sym (c .before .before .before .before .before .before .before .first-group .ensures))) (c .before .before .before .before .before .before .put-line2 .ensures)) (c .before .before .put-verdicts .ensures))))
 
 pub put-listing-spec : {M : Type 1} → statement M
 put-listing-spec =

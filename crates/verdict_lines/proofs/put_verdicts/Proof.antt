@@ -1,9 +1,9 @@
 -- Three lines.
-use Rattle.table_listing.specs.TableListing.{verdictLines}
+use Rattle.verdict_lines.specs.VerdictLines.{verdictLines}
 use Rattle.text.proofs.Puts.{filled-both}
 use borrow.Author.Needs.{needs}
-use Rattle.table_listing.proofs.table_text.put_verdicts.Statement.{statement}
-use Rattle.table_listing.proofs.table_text.put_verdicts.Tie as tie
+use Rattle.verdict_lines.proofs.put_verdicts.Statement.{statement}
+use Rattle.verdict_lines.proofs.put_verdicts.Tie as tie
 
 returns : tie.Need-returns
 unfolding verdictLines

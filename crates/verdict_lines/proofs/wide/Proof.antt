@@ -1,8 +1,8 @@
 -- The four items of the array.
-use Rattle.table_listing.proofs.Listings.{all-four}
+use Rattle.verdict_lines.proofs.HeldVerdicts.{all-four}
 use borrow.Author.Needs.{needs}
-use Rattle.table_listing.proofs.table_text.wide.Statement.{statement}
-use Rattle.table_listing.proofs.table_text.wide.Tie as tie
+use Rattle.verdict_lines.proofs.wide.Statement.{statement}
+use Rattle.verdict_lines.proofs.wide.Tie as tie
 
 pub wide-spec : {M : Type 1} → statement M
 wide-spec =

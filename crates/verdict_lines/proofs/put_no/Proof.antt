@@ -1,10 +1,10 @@
 -- The positions, then the blocks, each behind its words.
 use Rattle.records.specs.Marks.{ascii}
 use Rattle.text.proofs.Puts.{filled-both}
-use Rattle.table_listing.specs.TableListing.{noPart}
+use Rattle.verdict_lines.specs.VerdictLines.{noPart}
 use borrow.Author.Needs.{needs}
-use Rattle.table_listing.proofs.table_text.put_no.Statement.{statement}
-use Rattle.table_listing.proofs.table_text.put_no.Tie as tie
+use Rattle.verdict_lines.proofs.put_no.Statement.{statement}
+use Rattle.verdict_lines.proofs.put_no.Tie as tie
 
 pub put-no-spec : {M : Type 1} → statement M
 unfolding noPart ascii

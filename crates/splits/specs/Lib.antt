@@ -1,0 +1,2 @@
+-- Splits of a frame into blocks.
+pub mod Splits
