@@ -5,8 +5,9 @@ covers every refusal number, every cut of a file and the limits, and go on at
 random. The same seed gives the same inputs. Somewhat more than half are
 accepted. `long_tables` and `long_runs` yield inputs about as long as the
 programs' buffers, and longer, `hard_tables` tables on which the search for
-cores goes far, and `small_tables` tables of small frames. `threshold_inputs` yields n and t around every limit, and
-`fixed_thresholds` a few, with every refusal.
+cores goes far, and `small_tables` tables of small frames. `threshold_inputs`
+yields n and t around every limit, and `fixed_thresholds` a few, with every
+refusal.
 """
 
 from itertools import chain, combinations, islice, product

@@ -32,8 +32,8 @@ TABLE = """\
 usage: ./regdulyn [--unproved] table FILE
 
 Prints what the proved table program prints: the number of drives, the survivor sets of the normal table, the cores, the
-chosen core and the verdicts on k 2, 3 and 4. A refused file prints `refused N`; standard error has the meaning of N,
-and the exit status is 1.
+chosen core and the verdicts on k 2, 3 and 4, `few` for a frame of no more than k drives. A refused file prints
+`refused N`; standard error has the meaning of N, and the exit status is 1.
 """
 
 RUN = """\

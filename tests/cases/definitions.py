@@ -67,6 +67,8 @@ def verdict_definitions() -> Iterator[Case]:
             yield f"blocks are a split: {name}", split_of(n, found.blocks), True
             holds = any(c & ~block == 0 for c in cores for block in found.blocks)
             yield f"no block holds a core: {name}", holds, False
+            outside = all(any(block & normal[p - 1] == 0 for p in first) for block in found.blocks)
+            yield f"blocks outside named sets: {name}", outside, True
 
 
 def split_of(n: int, blocks: tuple[int, ...]) -> bool:

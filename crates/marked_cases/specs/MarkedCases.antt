@@ -1,5 +1,5 @@
--- The marked cases of document 01, as document 02 changes them: one list of inputs and the text that each must give, and
--- that all are given.
+-- The marked cases of document 01, as document 02 changes them: one list of inputs and the text that each must give,
+-- and that all are given.
 use mathlib.Core.Path.{_≡_}
 use mathlib.Core.List.{List, [], _∷_, _++_}
 use Prim.Native.Nat.{ℕ, suc}

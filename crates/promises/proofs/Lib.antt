@@ -6,5 +6,6 @@ pub mod Back
 pub mod Missed
 pub mod RoundTrip
 pub mod Verdict
+pub mod TableText
 pub mod Exchange
 pub mod RunText

@@ -1,5 +1,5 @@
--- The verdict of the call is the one on the normal table, of which the theorems on accepted tables speak; and which calls
--- get one, or 33.
+-- The verdict of the call is the one on the normal table, of which the theorems on accepted tables speak; and which
+-- calls get one, or 33.
 use mathlib.Core.Path.{_≡_, sym, _∙_, subst}
 use mathlib.Core.Bool.{not, _&&_}
 use mathlib.Core.List.{List}
@@ -7,16 +7,15 @@ use mathlib.Core.Logic.{⊎-elim}
 use Prim.Native.Nat.{ℕ, _≤_}
 use native.Mathlib.Omega.{arith}
 use lib.Dec.{leb}
-use borrow.Author.Tests.{leb-true, not-false}
+use borrow.Author.Tests.{leb-true}
 use Rattle.drive_sets.specs.declared.Refusal.the-variants.{BlockCount, FewDrives}
-use Rattle.drive_sets.specs.Bools.Laws.{and-left, and-right}
 use Rattle.drive_sets.specs.Refusals.{refused}
 use Rattle.drive_sets.specs.Refusals.Laws.{refused-no-result, refused-by, first-refused}
 use Rattle.survivor_tables.specs.Order.{normal}
 use Rattle.survivor_tables.specs.Tables.{normalTable, Accepted}
 use Rattle.survivor_tables.specs.Tables.Laws.{accepted-normal, table-accepted, table-refused}
 use Rattle.verdicts.specs.Verdicts.{verdictOn, judged, verdict}
-use Rattle.verdicts.specs.Verdicts.Call.{verdict-answered, given-normal, given-few, given-more}
+use Rattle.verdicts.specs.Verdicts.Call.{count-within, verdict-answered, given-normal, given-few, given-more}
 use Rattle.verdicts.specs.Verdicts.Intersection.{yes-intersection}
 use Rattle.verdicts.specs.Verdicts.Partition.{yes-partition}
 use Rattle.verdicts.specs.Verdicts.Witness.{no-witness}
@@ -47,12 +46,11 @@ refused-few : (k n : ℕ) (sets : List ℕ) → verdict k n sets ≡ refused 33 
 unfolding verdict judged
 refused-few k n sets e =
     ⊎-elim (λ w. absurd (omega (arith, w .1)))
-    (λ w. let within = not-false (leb 2 k && leb k 4) (w .0) in
-    ⊎-elim (λ h. absurd (omega (arith, table-refused n sets h)))
+    (λ w. ⊎-elim (λ h. absurd (omega (arith, table-refused n sets h)))
     (λ h. ⊎-elim
     (λ f. (
-      leb-true 2 k (and-left (leb 2 k) (leb k 4) within),
-      leb-true k 4 (and-right (leb 2 k) (leb k 4) within),
+      count-within k (w .0) .0,
+      count-within k (w .0) .1,
       table-accepted n sets (h .0) (h .1) .0,
       leb-true n k (f .0),
     ))

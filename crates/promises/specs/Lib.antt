@@ -1,9 +1,11 @@
 -- The promises of demands 2 and 3 as types: of cores and the way back from them, of the first set that a group misses,
--- of tables written and read, of verdicts, of the simulated exchange, and of the text of the run program.
+-- of tables written and read, of verdicts and their lines, of the simulated exchange, and of the text of the run
+-- program.
 pub mod Cores
 pub mod Back
 pub mod Missed
 pub mod RoundTrip
 pub mod Verdict
+pub mod TableText
 pub mod Exchange
 pub mod RunText

@@ -1,9 +1,9 @@
--- What the verdict of the call on k says, and which calls get one. Document 01: "Verdict on k, 2 to 4: yes if any k sets
--- of the normal table, repeats allowed, share a drive. Otherwise no, with the first k positions (..) that share none,
--- and k blocks (..). No block holds a core, and yes means that every split into k blocks has one that does." Document 02:
--- "By document 004 a partition's blocks are not empty and the frame has more than k drives. After 01's blocks are formed,
--- while one is empty, the lowest drive of the first block with two or more moves to the first empty block. (..) It
--- refuses with 33 a verdict on such a frame, after 12 and the table's own checks."
+-- What the verdict of the call on k says, and which calls get one. Document 01: "Verdict on k, 2 to 4: yes if any k
+-- sets of the normal table, repeats allowed, share a drive. Otherwise no, with the first k positions (..) that share
+-- none, and k blocks (..). No block holds a core, and yes means that every split into k blocks has one that does."
+-- Document 02: "By document 004 a partition's blocks are not empty and the frame has more than k drives. After 01's
+-- blocks are formed, while one is empty, the lowest drive of the first block with two or more moves to the first empty
+-- block. (..) It refuses with 33 a verdict on such a frame, after 12 and the table's own checks."
 use mathlib.Core.Path.{_≡_}
 use mathlib.Core.List.{List}
 use mathlib.Core.Logic.{_↔_}

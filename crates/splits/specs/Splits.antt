@@ -3,13 +3,14 @@
 use mathlib.Core.Path.{_≡_}
 use mathlib.Core.Bool.{true, not}
 use mathlib.Core.List.{List}
-use Prim.Native.Nat.{ℕ, zero, suc, _-_, _^_, _≤_, _<_}
+use Prim.Native.Nat.{ℕ, zero, suc, _-_, _≤_}
 use lib.Dec.{eqb, leb}
 use lib.ListN.{length, getD, set}
 use Rattle.drive_sets.specs.declared.Position.{Position}
 use Rattle.drive_sets.specs.declared.Position.the-variants.{None, At}
-use Rattle.drive_sets.specs.Lists.{range, filter, any, firstFailing}
-use Rattle.drive_sets.specs.Masks.{has, single, full, minus, subset, size, lowest, ofDrives}
+use Rattle.drive_sets.specs.Bools.{asNumber}
+use Rattle.drive_sets.specs.Lists.{range, filter, elem, firstFailing}
+use Rattle.drive_sets.specs.Masks.{has, single, full, minus, subset, Below, size, lowest, ofDrives}
 pub mod OneMove
 pub mod Moves
 pub mod Listed
@@ -24,15 +25,21 @@ pub record Split (k n : ℕ) (block : ℕ → ℕ) : Type 0 where
 unfoldable pub blockOf : ℕ → (ℕ → ℕ) → ℕ → ℕ
 blockOf n block j = ofDrives (filter (λ d. eqb (block d) j) (range 1 n))
 
--- a list of blocks: no drive is in two of them, and the drives 1 to n, no others, are in some; a block may be empty
+-- how many of some blocks have the drive, and how many are empty
+abbrev pub holders : ℕ → List ℕ → ℕ
+holders d blocks = length (filter (has d) blocks)
+
+abbrev pub empties : List ℕ → ℕ
+empties blocks = length (filter (λ b. eqb b 0) blocks)
+
+-- blocks of the drives 1 to n: each of these is in exactly one of them, and no other drive is in any; one may be empty
 pub record Parted (n : ℕ) (blocks : List ℕ) : Type 0 where
-  pub within : (i : ℕ) → getD blocks i 0 < 2 ^ n
-  pub apart : (i j d : ℕ) → has d (getD blocks i 0) ≡ true → has d (getD blocks j 0) ≡ true → i ≡ j
-  pub whole : (d : ℕ) → any (has d) blocks ≡ has d (full n)
+  pub within : Below n blocks
+  pub one : (d : ℕ) → holders d blocks ≡ asNumber (has d (full n))
 
 -- each of some blocks is part of one of the others
 abbrev pub PartOf : List ℕ → List ℕ → Type 0
-PartOf after before = (x : ℕ) → x < length before → (y : ℕ) × (y < length before) × (subset (getD after x 0) (getD before y 0) ≡ true)
+PartOf after before = (b : ℕ) → elem b after ≡ true → (c : ℕ) × (elem c before ≡ true) × (subset b c ≡ true)
 
 -- ---- no empty blocks
 
@@ -62,6 +69,7 @@ unfoldable pub moves : ℕ → List ℕ → List ℕ
 moves zero blocks = blocks
 moves (suc left) blocks = moves left (moved blocks)
 
--- moves while a block is empty: there are fewer than blocks (`Moves.fill-ends`), and then nothing moves any more
+-- moves while a block is empty: as many as there are blocks are enough (`Moves.fill-ends`), and where none is empty
+-- nothing moves
 unfoldable pub fillEmpty : List ℕ → List ℕ
 fillEmpty blocks = moves (length blocks) blocks

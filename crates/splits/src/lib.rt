@@ -7,7 +7,7 @@ use drive_sets::MAX_DRIVES;
 use drive_sets::Position;
 use survivor_tables::missed::first_missed;
 
-// The first empty block: the first that all drives miss.
+// The first empty block: the first that has none of the 64 drives.
 fn first_empty(blocks: &[u64]) -> Position
     ensures { λ r. ⌜ r ≡ firstEmpty (now (blocks .entry)) ⌝ }
 {
@@ -53,7 +53,7 @@ fn move_one(blocks: &mut [u64])
     move_lowest(blocks, from - 1, to - 1)
 }
 
-// Moves while a block is empty; there are fewer than blocks, and then nothing moves any more.
+// Moves while a block is empty: as many as there are blocks are enough, and where none is empty nothing moves.
 pub fn fill_empty(blocks: &mut [u64])
     ensures { λ _. ⌜ now (blocks .exit) ≡ fillEmpty (now (blocks .entry)) ⌝ }
 {

@@ -7,8 +7,6 @@ use Prim.Native.Nat.{ℕ, _≤_}
 use native.Mathlib.Omega.{arith}
 use lib.Dec.{leb}
 use lib.ListN.{length, take}
-use borrow.Author.Tests.{leb-true, not-false}
-use Rattle.drive_sets.specs.Bools.Laws.{and-left, and-right}
 use Rattle.drive_sets.specs.Options.Laws.{by-option}
 use Rattle.drive_sets.specs.Lists.{elem}
 use Rattle.drive_sets.specs.Masks.{full}
@@ -19,6 +17,7 @@ use Rattle.splits.specs.Splits.{fillEmpty}
 use Rattle.verdicts.specs.Verdicts.{Verdict, yes, no, setsAt, disjoint, blocksOf, verdictOn}
 use Rattle.verdicts.specs.Verdicts.Firsts.{First, disjoint-first, named-from}
 use Rattle.verdicts.specs.Verdicts.Intersection.{none-yes, some-no, no-counts}
+use Rattle.verdicts.specs.Verdicts.Call.{count-within}
 use Rattle.verdicts.specs.Verdicts.CommonPart.{every-lt, in-every}
 use Rattle.verdicts.specs.Meaning.{inEvery}
 use Rattle.verdicts.specs.Held.{verdictOf, answerOf, withBlocks, inFour, foundIn}
@@ -27,9 +26,7 @@ use Rattle.verdicts.proofs.Loops.{found-none, found-some}
 
 -- where the number of blocks passed its test
 pub count-bounds : (k : ℕ) {good : Bool} → good ≡ (leb 2 k && leb k 4) → not good ≡ false → (2 ≤ k) × (k ≤ 4)
-count-bounds k {good} is h =
-    let both = sym is ∙ not-false good h in
-    (leb-true 2 k (and-left (leb 2 k) (leb k 4) both), leb-true k 4 (and-right (leb 2 k) (leb k 4) both))
+count-bounds k is h = count-within k (ap not (sym is) ∙ h)
 
 -- ---- an answer says the verdict that it holds
 

@@ -88,7 +88,9 @@ pub record NoWitness (k n : ℕ) (table ps blocks : List ℕ) : Type 0 where
   pub first : List ℕ
   pub formed : Formed n (setsAt table ps) first
   pub moved : blocks ≡ fillEmpty first
-  -- they are the blocks of a split into k, and none holds a core
+  -- there are k, each drive is in one of them, and none is empty: they are the blocks of a split; and none holds a core
+  pub count : length blocks ≡ k
   pub parted : Parted n blocks
+  pub none-empty : elem 0 blocks ≡ false
   pub split : (block : ℕ → ℕ) × Split k n block × (blocks ≡ map (blockOf n block) (range 1 k))
   pub no-core : (b : ℕ) → elem b blocks ≡ true → holdsCore table b ≡ false

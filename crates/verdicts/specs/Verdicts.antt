@@ -54,8 +54,8 @@ setAt table p = getD table (p - 1) 0
 abbrev pub setsAt : List ℕ → List ℕ → List ℕ
 setsAt table ps = map (setAt table) ps
 
--- after the blocks are formed, while one is empty, the lowest drive of the first block with two or more moves to the first
--- empty block
+-- after the blocks are formed, while one is empty, the lowest drive of the first block with two or more moves to the
+-- first empty block
 abbrev pub verdictWith : ℕ → List ℕ → Option (List ℕ) → Verdict
 verdictWith n table none = yes
 verdictWith n table (some ps) = no ps (fillEmpty (blocksOf n 0 (setsAt table ps)))

@@ -3,7 +3,7 @@ use mathlib.Core.Path.{_≡_, refl, sym, ap, _∙_, fun-ext}
 use mathlib.Core.Bool.{Bool, true, false, not, _&&_, _||_, cond, true≢false, Bool·beq}
 use mathlib.Core.Logic.{_⊎_, inl, inr}
 use Prim.Native.Nat.{ℕ}
-use Rattle.drive_sets.specs.Bools.{_⊆_}
+use Rattle.drive_sets.specs.Bools.{_⊆_, asNumber}
 
 pub clash : {b : Bool} → b ≡ true → b ≡ false → ⊥
 clash p q = true≢false (sym p ∙ q)
@@ -134,3 +134,9 @@ beq-differ false false f h = absurd (clash refl h)
 
 pub same-sets : {p q : ℕ → Bool} → p ⊆ q → q ⊆ p → p ≡ q
 same-sets {p} {q} f g = fun-ext (λ x. same-test (p x) (q x) (f x) (g x))
+
+pub true-one : {b : Bool} → b ≡ true → asNumber b ≡ 1
+true-one e = ap asNumber e
+
+pub false-none : {b : Bool} → b ≡ false → asNumber b ≡ 0
+false-none e = ap asNumber e

@@ -1,14 +1,17 @@
--- How many elements of a list pass a test: the length of what is kept, under a wider test and split by a second one.
+-- How many elements of a list pass a test: the length of what is kept, with one place changed, under a wider test, and
+-- split by a second one.
 use mathlib.Core.Path.{_≡_, refl, sym, ap, _∙_}
 use mathlib.Core.Bool.{Bool, true, false, not, _&&_}
 use mathlib.Core.Logic.{⊎-elim}
 use mathlib.Core.List.{List, [], _∷_}
-use Prim.Native.Nat.{ℕ, suc, _+_, _≤_, _<_, zero-le}
+use Prim.Native.Nat.{ℕ, zero, suc, _+_, _≤_, _<_, zero-le}
 use native.Mathlib.Omega.{arith}
-use lib.ListN.{length}
-use Rattle.drive_sets.specs.Bools.Laws.{clash, by-test}
-use Rattle.drive_sets.specs.Lists.{filter, elem}
-use Rattle.drive_sets.specs.Lists.Laws.{elem-head, elem-tail, elem-cases, elem-none, filter-true, filter-false}
+use lib.ListN.{length, getD, set}
+use borrow.Author.Tests.{not-true}
+use Rattle.drive_sets.specs.Bools.{asNumber}
+use Rattle.drive_sets.specs.Bools.Laws.{clash, by-test, and-intro, and-left, and-right, true-one, false-none}
+use Rattle.drive_sets.specs.Lists.{filter, all, elem}
+use Rattle.drive_sets.specs.Lists.Laws.{elem-head, elem-tail, elem-cases, elem-none, elem-some, elem-filter, filter-true, filter-false}
 
 module _ (p : ℕ → Bool) (x : ℕ) (l : List ℕ) where
   pub length-filter-true : p x ≡ true → length (filter p (x ∷ l)) ≡ suc (length (filter p l))
@@ -16,6 +19,31 @@ module _ (p : ℕ → Bool) (x : ℕ) (l : List ℕ) where
 
   pub length-filter-false : p x ≡ false → length (filter p (x ∷ l)) ≡ length (filter p l)
   length-filter-false e = ap length (filter-false p x l e)
+
+module _ (p : ℕ → Bool) where
+  pub length-filter-cons : (x : ℕ) (l : List ℕ) → length (filter p (x ∷ l)) ≡ length (filter p l) + asNumber (p x)
+  length-filter-cons x l =
+      by-test (p x)
+      (λ e. omega (arith, length-filter-true p x l e, true-one e))
+      (λ e. omega (arith, length-filter-false p x l e, false-none e))
+
+  -- with one place changed
+  pub length-filter-set : (l : List ℕ) (i v : ℕ) → i < length l → length (filter p (set l i v)) + asNumber (p (getD l i 0)) ≡ length (filter p l) + asNumber (p v)
+  length-filter-set [] i v h = absurd (omega arith)
+  length-filter-set (x ∷ l) zero v h = omega (arith, length-filter-cons v l, length-filter-cons x l)
+  length-filter-set (x ∷ l) (suc i) v h =
+      omega (arith, length-filter-set l i v (omega arith), length-filter-cons x (set l i v), length-filter-cons x l)
+
+  -- none passes
+  pub length-filter-none : (l : List ℕ) → all (λ x. not (p x)) l ≡ true → length (filter p l) ≡ 0
+  unfolding filter all
+  length-filter-none [] h = refl
+  length-filter-none (x ∷ l) h =
+      length-filter-false p x l (not-true (p x) (and-left (not (p x)) (all (λ y. not (p y)) l) h)) ∙ length-filter-none l (and-right (not (p x)) (all (λ y. not (p y)) l) h)
+
+  -- an element that passes counts
+  pub length-filter-elem : (x : ℕ) (l : List ℕ) → elem x l ≡ true → p x ≡ true → 1 ≤ length (filter p l)
+  length-filter-elem x l i e = elem-some x (filter p l) (elem-filter p x l ∙ and-intro i e)
 
 module _ (p q : ℕ → Bool) where
   -- what q keeps more than p stays so with one more element

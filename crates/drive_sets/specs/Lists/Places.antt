@@ -1,12 +1,12 @@
 -- The elements of a list by their places, of a list's image under a function, and a list without one of its elements.
 use mathlib.Core.Path.{_≡_, refl, sym, ap, ap₂, _∙_, subst}
-use mathlib.Core.Bool.{Bool, true, false, _||_}
+use mathlib.Core.Bool.{Bool, true, false}
 use mathlib.Core.Logic.{_⊎_, inl, inr, ⊎-elim}
 use mathlib.Core.List.{List, [], _∷_, map}
 use Prim.Native.Nat.{ℕ, zero, suc, _+_, _<_, zero-le, suc-le-suc}
 use native.Mathlib.Nat.{add-zero}
 use native.Mathlib.Omega.{arith}
-use lib.ListN.{length, getD, take, drop, take-append-drop}
+use lib.ListN.{length, getD, take, drop, set, take-append-drop}
 use Rattle.drive_sets.specs.Bools.Laws.{clash, and-intro, and-left, and-right, or-false-left}
 use Rattle.drive_sets.specs.Lists.{range, all, any, elem, ordered}
 use Rattle.drive_sets.specs.Lists.Laws.{elem-head, elem-tail, elem-cases, elem-none, any-append, all-elem, all-intro}
@@ -27,13 +27,15 @@ elem-getD x (y ∷ l) e =
 pub any-take : (p : ℕ → Bool) (l : List ℕ) (i : ℕ) → any p l ≡ false → any p (take i l) ≡ false
 any-take p l i h = or-false-left (any p (take i l)) (any p (drop i l)) (sym (any-append p (take i l) (drop i l)) ∙ (ap (any p) (take-append-drop i l) ∙ h))
 
--- a test that has the same answers on the elements of two lists, place by place
-pub any-same-places : (p : ℕ → Bool) (l m : List ℕ) → length l ≡ length m → ((i : ℕ) → p (getD l i 0) ≡ p (getD m i 0)) → any p l ≡ any p m
-unfolding any
-any-same-places p [] [] e f = refl
-any-same-places p [] (y ∷ m) e f = absurd (omega arith)
-any-same-places p (x ∷ l) [] e f = absurd (omega arith)
-any-same-places p (x ∷ l) (y ∷ m) e f = ap₂ (λ (a b : Bool). a || b) (f 0) (any-same-places p l m (omega arith) (λ i. f (suc i)))
+-- an element of a list with one place changed
+pub elem-set : (x : ℕ) (l : List ℕ) (i v : ℕ) → elem x (set l i v) ≡ true → (x ≡ v) ⊎ (elem x l ≡ true)
+elem-set x [] i v e = absurd (clash e (elem-none x))
+elem-set x (y ∷ l) zero v e = ⊎-elim (λ q. inl q) (λ q. inr (elem-tail x y l q)) (elem-cases x v l e)
+elem-set x (y ∷ l) (suc i) v e =
+    ⊎-elim
+    (λ q. inr (ap (λ (z : ℕ). elem z (y ∷ l)) q ∙ elem-head y l))
+    (λ q. ⊎-elim (λ h. inl h) (λ h. inr (elem-tail x y l h)) (elem-set x l i v q))
+    (elem-cases x y (set l i v) e)
 
 -- ---- the image under a function
 

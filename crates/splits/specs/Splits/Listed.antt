@@ -1,22 +1,22 @@
--- Splits of the drives 1 to n: the drives of a block, and the split that a list of blocks is, where no drive is in two
--- of them, the drives 1 to n, no others, are in some, and none is empty.
-use mathlib.Core.Path.{_≡_, refl, sym, ap, _∙_, subst}
+-- Splits of the drives 1 to n: the drives of a block, and the split that a list of blocks is, where each of these
+-- drives is in exactly one of them, no other is in any, and none is empty.
+use mathlib.Core.Path.{_≡_, sym, ap, _∙_, subst}
 use mathlib.Core.Bool.{Bool, true, false, _&&_, cond}
-use mathlib.Core.Logic.{⊎-elim}
 use mathlib.Core.List.{List, [], _∷_, map}
-use Prim.Native.Nat.{ℕ, suc, _+_, _-_, _^_, _≤_, _<_, suc-le-suc, zero-le}
+use Prim.Native.Nat.{ℕ, zero, suc, _+_, _-_, _^_, _≤_, _<_}
 use native.Mathlib.Omega.{arith}
-use lib.Dec.{eqb}
+use lib.Dec.{eqb, eqb·suc-suc}
 use lib.ListN.{length, getD}
-use borrow.Author.Tests.{eqb-true, eq-eqb}
-use Rattle.drive_sets.specs.Bools.Laws.{by-test, clash, same-test, and-left, or-cases, cond-true, cond-false}
-use Rattle.drive_sets.specs.Lists.{range, filter, any, elem}
+use borrow.Author.Tests.{eqb-true, ne-eqb}
+use Rattle.drive_sets.specs.Bools.Laws.{by-test, clash, false-of, same-test, and-left, cond-true, cond-false, true-one}
+use Rattle.drive_sets.specs.Lists.{range, filter, elem}
+use Rattle.drive_sets.specs.Lists.Counts.{length-filter-true, length-filter-false}
 use Rattle.drive_sets.specs.Lists.Laws.{elem-filter, elem-range, range-elem}
 use Rattle.drive_sets.specs.Lists.Places.{getD-elem, range-image}
 use Rattle.drive_sets.specs.Masks.{has, full}
-use Rattle.drive_sets.specs.Masks.Laws.{has-bounds, has-ext, has-some, full-has, full-lt}
+use Rattle.drive_sets.specs.Masks.Laws.{has-none, has-bounds, has-ext, has-some, full-has, full-lt}
 use Rattle.drive_sets.specs.Masks.Sizes.{ofDrives-lt, has-ofDrives}
-use Rattle.splits.specs.Splits.{Split, blockOf, Parted}
+use Rattle.splits.specs.Splits.{Split, blockOf, holders, Parted}
 
 module _ (n : ℕ) (frame : n ≤ 64) where
   range-full : (d : ℕ) → elem d (range 1 n) ≡ has d (full n)
@@ -43,49 +43,71 @@ module _ (n : ℕ) (frame : n ≤ 64) where
 
 -- ---- a list of blocks
 
+-- a drive that no block has
+first-lacks : (d b : ℕ) (blocks : List ℕ) → holders d (b ∷ blocks) ≡ 0 → has d b ≡ false
+first-lacks d b blocks h = false-of (has d b) (λ e. absurd (omega (arith, length-filter-true (has d) b blocks e)))
+
+none-held : (d : ℕ) (blocks : List ℕ) (i : ℕ) → holders d blocks ≡ 0 → has d (getD blocks i 0) ≡ false
+none-held d [] i h = has-none d
+none-held d (b ∷ blocks) zero h = first-lacks d b blocks h
+none-held d (b ∷ blocks) (suc i) h = none-held d blocks i (sym (length-filter-false (has d) b blocks (first-lacks d b blocks h)) ∙ h)
+
 -- the number of the first of the blocks that has the drive
 blockNumber : List ℕ → ℕ → ℕ
 blockNumber [] d = 0
 blockNumber (b ∷ blocks) d = cond (has d b) 1 (suc (blockNumber blocks d))
 
-numbered : (d : ℕ) (blocks : List ℕ) → any (has d) blocks ≡ true
-    → (i : ℕ) × (i < length blocks) × (blockNumber blocks d ≡ suc i) × (has d (getD blocks i 0) ≡ true)
-unfolding blockNumber any
-numbered d [] h = absurd (clash h refl)
+-- x is the number of the only block that has the drive
+record Number (d : ℕ) (blocks : List ℕ) (x : ℕ) : Type 0 where
+  low : 1 ≤ x
+  high : x ≤ length blocks
+  only : (i : ℕ) → has d (getD blocks i 0) ≡ eqb x (suc i)
+
+numbered : (d : ℕ) (blocks : List ℕ) → holders d blocks ≡ 1 → Number d blocks (blockNumber blocks d)
+unfolding blockNumber filter
+numbered d [] h = absurd (omega arith)
 numbered d (b ∷ blocks) h =
     by-test (has d b)
-    (λ e. (0, suc-le-suc zero-le, cond-true 1 (suc (blockNumber blocks d)) e, e))
-    (λ e. let w = numbered d blocks (⊎-elim (λ q. absurd (clash q e)) (λ q. q) (or-cases (has d b) (any (has d) blocks) h)) in
-    (suc (w .0), suc-le-suc (w .1), cond-false 1 (suc (blockNumber blocks d)) e ∙ ap suc (w .2), w .3))
+    (λ e. subst (Number d (b ∷ blocks)) (sym (cond-true _ _ e)) (record { low = omega arith; high = omega arith; only = here e }))
+    (λ e. let rest = numbered d blocks (sym (length-filter-false (has d) b blocks e) ∙ h) in
+    subst (Number d (b ∷ blocks)) (sym (cond-false _ _ e)) (record { low = omega arith; high = omega (arith, rest .high); only = later e rest }))
+  where
+    here : has d b ≡ true → (i : ℕ) → has d (getD (b ∷ blocks) i 0) ≡ eqb 1 (suc i)
+    here e zero = e
+    here e (suc i) = none-held d blocks i (omega (arith, length-filter-true (has d) b blocks e)) ∙ sym (ne-eqb 1 (suc (suc i)) (λ q. absurd (omega arith)))
+
+    later : has d b ≡ false → {x : ℕ} → Number d blocks x → (i : ℕ) → has d (getD (b ∷ blocks) i 0) ≡ eqb (suc x) (suc i)
+    later e {x} rest zero = e ∙ sym (ne-eqb (suc x) 1 (λ q. absurd (omega (arith, rest .low))))
+    later e {x} rest (suc i) = rest .only i ∙ sym (eqb·suc-suc x (suc i))
 
 module _ (n : ℕ) (frame : n ≤ 64) (blocks : List ℕ) (parted : Parted n blocks) (none-empty : elem 0 blocks ≡ false) where
-  place : (d : ℕ) → 1 ≤ d → d ≤ n → (i : ℕ) × (i < length blocks) × (blockNumber blocks d ≡ suc i) × (has d (getD blocks i 0) ≡ true)
-  place d p q = numbered d blocks (parted .whole d ∙ full-has d n frame p q)
+  number : (d : ℕ) → 1 ≤ d → d ≤ n → Number d blocks (blockNumber blocks d)
+  number d p q = numbered d blocks (parted .one d ∙ true-one (full-has d n frame p q))
+
+  below : (i : ℕ) → i < length blocks → getD blocks i 0 < 2 ^ n
+  below i h = parted .within (getD blocks i 0) (getD-elem blocks i h)
 
   number-block : (j : ℕ) → j < length blocks → getD blocks j 0 ≡ blockOf n (blockNumber blocks) (1 + j)
   number-block j h =
-      has-ext n (getD blocks j 0) (blockOf n (blockNumber blocks) (1 + j)) (parted .within j) (blockOf-lt n frame (blockNumber blocks) (1 + j))
-      (λ d p q. let w = place d p q in
-      same-test (has d (getD blocks j 0)) (eqb (blockNumber blocks d) (1 + j))
-      (λ e. eq-eqb (blockNumber blocks d) (1 + j) (omega (arith, w .2, parted .apart (w .0) j d (w .3) e)))
-      (λ e. ap (λ (i : ℕ). has d (getD blocks i 0)) (same-place d j (w .0) (w .2) (eqb-true (blockNumber blocks d) (1 + j) e)) ∙ w .3)
-      ∙ sym (has-blockOf n frame (blockNumber blocks) (1 + j) d ∙ ap (λ (b : Bool). b && eqb (blockNumber blocks d) (1 + j)) (full-has d n frame p q)))
+      has-ext n (getD blocks j 0) (blockOf n (blockNumber blocks) (1 + j)) (below j h) (blockOf-lt n frame (blockNumber blocks) (1 + j))
+      (λ d p q. number d p q .only j
+      ∙ (ap (eqb (blockNumber blocks d)) place
+      ∙ sym (has-blockOf n frame (blockNumber blocks) (1 + j) d ∙ ap (λ (b : Bool). b && eqb (blockNumber blocks d) (1 + j)) (full-has d n frame p q))))
     where
-      same-place : (d j i : ℕ) → blockNumber blocks d ≡ suc i → blockNumber blocks d ≡ 1 + j → j ≡ i
-      same-place d j i p q = omega arith
+      place : suc j ≡ 1 + j
+      place = omega arith
 
   -- a drive of the block at place i
   member : (i : ℕ) → i < length blocks → (d : ℕ) × (1 ≤ d) × (d ≤ n) × (blockNumber blocks d ≡ suc i)
   member i h =
-      let d = has-some n (getD blocks i 0) (parted .within i) (λ z. clash (subst (λ (b : ℕ). elem b blocks ≡ true) z (getD-elem blocks i h)) none-empty) in
-      let b = has-bounds n (d .0) (getD blocks i 0) (parted .within i) (d .1) in
-      let w = place (d .0) (b .0) (b .1) in
-      (d .0, b .0, b .1, w .2 ∙ ap suc (parted .apart (w .0) i (d .0) (w .3) (d .1)))
+      let d = has-some n (getD blocks i 0) (below i h) (λ z. clash (subst (λ (b : ℕ). elem b blocks ≡ true) z (getD-elem blocks i h)) none-empty) in
+      let b = has-bounds n (d .0) (getD blocks i 0) (below i h) (d .1) in
+      (d .0, b .0, b .1, eqb-true (blockNumber blocks (d .0)) (suc i) (sym (number (d .0) (b .0) (b .1) .only i) ∙ d .1))
 
   number-split : Split (length blocks) n (blockNumber blocks)
   number-split = record {
-    low = λ d p q. omega (arith, place d p q .2);
-    high = λ d p q. omega (arith, place d p q .1, place d p q .2);
+    low = λ d p q. number d p q .low;
+    high = λ d p q. number d p q .high;
     none-empty = λ j p q. let d = member (j - 1) (omega arith) in (d .0, d .1, d .2, omega (arith, d .3));
   }
 

@@ -6,59 +6,54 @@ use mathlib.Core.Bool.{true, false, not}
 use mathlib.Core.List.{List, [], _∷_}
 use Prim.Native.Nat.{ℕ, zero, suc, _+_, _-_, _^_, _≤_, _<_}
 use native.Mathlib.Omega.{arith}
-use lib.Dec.{eqb, leb, ltb}
+use lib.Dec.{eqb, leb}
 use lib.ListN.{length, getD, length-set}
-use borrow.Author.Tests.{eqb-true, leb-true, leb-false, ltb-false, not-true, not-false}
+use borrow.Author.Tests.{eqb-true, leb-true, leb-false, not-true, not-false}
 use Rattle.drive_sets.specs.declared.Position.{Position}
 use Rattle.drive_sets.specs.declared.Position.the-variants.{None, At}
-use Rattle.drive_sets.specs.Bools.Laws.{clash, by-test, false-of, and-left, and-right, cond-true, cond-false}
-use Rattle.drive_sets.specs.Lists.{all, any, elem, times}
-use Rattle.drive_sets.specs.Lists.Laws.{all-elem, any-false}
+use Rattle.drive_sets.specs.Bools.Laws.{by-test, false-of, and-left, and-right, true-one}
+use Rattle.drive_sets.specs.Lists.{filter, all, elem}
+use Rattle.drive_sets.specs.Lists.Counts.{length-filter-true, length-filter-false, length-filter-none, length-filter-elem}
 use Rattle.drive_sets.specs.Lists.FirstFailing.{failing-at, failing-none}
-use Rattle.drive_sets.specs.Lists.Times.{elem-times, times-le}
+use Rattle.drive_sets.specs.Lists.Laws.{length-filter}
 use Rattle.drive_sets.specs.Masks.{has, full, common, minus, size}
 use Rattle.drive_sets.specs.Masks.Laws.{has-common, has-minus, full-word, common-lt, minus-lt, none-has, has-subset, subset-refl, subset-trans}
 use Rattle.drive_sets.specs.Masks.Sizes.{size-none, size-minus, size-full, size-subset}
-use Rattle.splits.specs.Splits.{Parted, PartOf, firstEmpty, firstLarge, withMove, moveTo, moved, moves, fillEmpty}
+use Rattle.splits.specs.Splits.{holders, empties, Parted, PartOf, firstEmpty, firstLarge, withMove, moveTo, moved, moves, fillEmpty}
 use Rattle.splits.specs.Splits.OneMove.{Movable, move-part, move-keeps, move-fills}
 
 -- ---- while a block is empty, one has two drives or more
 
 -- sets of at most one drive each that have all drives of m: the empty ones are no more than those that m leaves over
-crowded : (blocks : List ℕ) (m : ℕ) → m < 2 ^ 64 → all (λ b. leb (size b) 1) blocks ≡ true → ((d : ℕ) → has d m ≡ true → any (has d) blocks ≡ true)
-    → size m + times 0 blocks ≤ length blocks
-unfolding all any times
+crowded : (blocks : List ℕ) (m : ℕ) → m < 2 ^ 64 → all (λ b. leb (size b) 1) blocks ≡ true → ((d : ℕ) → has d m ≡ true → 1 ≤ holders d blocks)
+    → size m + empties blocks ≤ length blocks
+unfolding all filter
 crowded [] m lt small cover =
-    let none : m ≡ 0 = none-has 64 m lt (λ d. false-of (has d m) (λ h. clash (cover d h) refl)) in
+    let none : m ≡ 0 = none-has 64 m lt (λ d. false-of (has d m) (λ h. absurd (omega (arith, cover d h)))) in
     omega (arith, ap size none, size-none)
 crowded (b ∷ blocks) m lt small cover =
     let rest = crowded blocks (minus m b) (minus-lt 64 m b lt) (and-right (leb (size b) 1) (all (λ x. leb (size x) 1) blocks) small) others in
     let shared = size-subset (common m b) b (has-subset 64 (common m b) b (common-lt 64 m b lt) (λ d h. and-right (has d m) (has d b) (sym (has-common d m b) ∙ h))) in
-    by-test (eqb 0 b)
-    (λ e. omega (arith, rest, shared, size-minus m b, ap size (eqb-true 0 b e), size-none, cond-true (suc (times 0 blocks)) (times 0 blocks) e))
-    (λ e. omega (arith, rest, shared, size-minus m b, leb-true (size b) 1 (and-left (leb (size b) 1) (all (λ x. leb (size x) 1) blocks) small), cond-false (suc (times 0 blocks)) (times 0 blocks) e))
+    by-test (eqb b 0)
+    (λ e. omega (arith, rest, shared, size-minus m b, ap size (eqb-true b 0 e), size-none, length-filter-true (λ x. eqb x 0) b blocks e))
+    (λ e. omega (arith, rest, shared, size-minus m b, leb-true (size b) 1 (and-left (leb (size b) 1) (all (λ x. leb (size x) 1) blocks) small), length-filter-false (λ x. eqb x 0) b blocks e))
   where
-    others : (d : ℕ) → has d (minus m b) ≡ true → any (has d) blocks ≡ true
+    others : (d : ℕ) → has d (minus m b) ≡ true → 1 ≤ holders d blocks
     others d h =
         let both = sym (has-minus d m b) ∙ h in
-        sym (any-false (has d) b blocks (not-true (has d b) (and-right (has d m) (not (has d b)) both))) ∙ cover d (and-left (has d m) (not (has d b)) both)
-
--- where no block is empty
-no-empty : (blocks : List ℕ) → all (λ b. not (eqb b 0)) blocks ≡ true → times 0 blocks ≡ 0
-no-empty blocks h =
-    let none = false-of (elem 0 blocks) (λ i. clash (all-elem (λ b. not (eqb b 0)) blocks 0 h i) refl) in
-    omega (arith, ltb-false 0 (times 0 blocks) (sym (elem-times 0 blocks) ∙ none))
+        let other = not-true (has d b) (and-right (has d m) (not (has d b)) both) in
+        omega (arith, cover d (and-left (has d m) (not (has d b)) both), length-filter-false (has d) b blocks other)
 
 -- ---- the moves
 
 part-refl : (blocks : List ℕ) → PartOf blocks blocks
-part-refl blocks x h = (x, h, subset-refl (getD blocks x 0))
+part-refl blocks b e = (b, e, subset-refl b)
 
-part-trans : (n : ℕ) (last middle first : List ℕ) → Parted n last → length middle ≡ length first → PartOf last middle → PartOf middle first → PartOf last first
-part-trans n last middle first parted e p q x h =
-    let a = p x (omega arith) in
-    let b = q (a .0) (omega (arith, a .1)) in
-    (b .0, b .1, subset-trans n (getD last x 0) (getD middle (a .0) 0) (getD first (b .0) 0) (parted .within x) (a .2) (b .2))
+part-trans : (n : ℕ) (last middle first : List ℕ) → Parted n last → PartOf last middle → PartOf middle first → PartOf last first
+part-trans n last middle first parted p q b e =
+    let c = p b e in
+    let d = q (c .0) (c .1) in
+    (d .0, d .1, subset-trans n b (c .0) (d .0) (parted .within b e) (c .2) (d .2))
 
 movable : (blocks : List ℕ) {to from : ℕ} → firstEmpty blocks ≡ At to → firstLarge blocks ≡ At from → Movable blocks (from - 1) (to - 1)
 movable blocks {to = to} {from = from} p q =
@@ -104,14 +99,14 @@ module _ (n : ℕ) (frame : n ≤ 64) where
           (move-keeps n frame blocks before (from - 1) (to - 1) m, move-part n frame blocks before (from - 1) (to - 1) m)
 
   -- each move takes one from the number of empty blocks, until there is none
-  pub moved-fills : (blocks : List ℕ) → Parted n blocks → length blocks ≤ n → times 0 (moved blocks) ≡ times 0 blocks - 1
+  pub moved-fills : (blocks : List ℕ) → Parted n blocks → length blocks ≤ n → empties (moved blocks) ≡ empties blocks - 1
   unfolding moved
   moved-fills blocks before few = go (firstEmpty blocks) (firstLarge blocks) refl refl
     where
-      go : (to from : Position) → firstEmpty blocks ≡ to → firstLarge blocks ≡ from → times 0 (moveTo blocks to from) ≡ times 0 blocks - 1
-      go None from p q = omega (arith, no-empty blocks (failing-none (λ b. not (eqb b 0)) 1 blocks .0 p))
+      go : (to from : Position) → firstEmpty blocks ≡ to → firstLarge blocks ≡ from → empties (moveTo blocks to from) ≡ empties blocks - 1
+      go None from p q = omega (arith, length-filter-none (λ b. eqb b 0) blocks (failing-none (λ b. not (eqb b 0)) 1 blocks .0 p))
       go (At to) None p q =
-          omega (arith, size-full n frame, crowded blocks (full n) (full-word n) (failing-none (λ b. leb (size b) 1) 1 blocks .0 q) (λ d h. before .whole d ∙ h))
+          omega (arith, size-full n frame, crowded blocks (full n) (full-word n) (failing-none (λ b. leb (size b) 1) 1 blocks .0 q) (λ d h. omega (arith, before .one d, true-one h)))
       go (At to) (At from) p q = omega (arith, move-fills n frame blocks before (from - 1) (to - 1) (movable blocks p q))
 
   moves-keep : (left : ℕ) (blocks : List ℕ) → Parted n blocks → Parted n (moves left blocks) × PartOf (moves left blocks) blocks
@@ -120,9 +115,9 @@ module _ (n : ℕ) (frame : n ≤ 64) where
   moves-keep (suc left) blocks before =
       let first = moved-keeps blocks before in
       let rest = moves-keep left (moved blocks) (first .0) in
-      (rest .0, part-trans n (moves left (moved blocks)) (moved blocks) blocks (rest .0) (length-moved blocks) (rest .1) (first .1))
+      (rest .0, part-trans n (moves left (moved blocks)) (moved blocks) blocks (rest .0) (rest .1) (first .1))
 
-  moves-fill : (left : ℕ) (blocks : List ℕ) → Parted n blocks → length blocks ≤ n → times 0 (moves left blocks) ≡ times 0 blocks - left
+  moves-fill : (left : ℕ) (blocks : List ℕ) → Parted n blocks → length blocks ≤ n → empties (moves left blocks) ≡ empties blocks - left
   unfolding moves
   moves-fill zero blocks before few = omega arith
   moves-fill (suc left) blocks before few =
@@ -136,5 +131,9 @@ module _ (n : ℕ) (frame : n ≤ 64) where
   pub fill-ends : (blocks : List ℕ) → Parted n blocks → length blocks ≤ n → elem 0 (fillEmpty blocks) ≡ false
   unfolding fillEmpty
   fill-ends blocks before few =
-      let none : times 0 (moves (length blocks) blocks) ≡ 0 = omega (arith, moves-fill (length blocks) blocks before few, times-le 0 blocks) in
-      elem-times 0 (moves (length blocks) blocks) ∙ ap (ltb 0) none
+      false-of (elem 0 (moves (length blocks) blocks)) (λ e. absurd (omega (
+        arith,
+        length-filter-elem (λ b. eqb b 0) 0 (moves (length blocks) blocks) e refl,
+        moves-fill (length blocks) blocks before few,
+        length-filter (λ b. eqb b 0) blocks,
+      )))

@@ -7,9 +7,9 @@ use native.Mathlib.Omega.{arith}
 use Prim.Native.Nat.{ℕ}
 use Rattle.verdicts.specs.Held.{withBlocks}
 use Rattle.splits.specs.Splits.{fillEmpty}
+use Rattle.splits.specs.Splits.Moves.{length-fill}
 use Rattle.verdicts.specs.Verdicts.{setsAt, blocksOf}
 use Rattle.verdicts.specs.Verdicts.Blocks.{length-blocks}
-use Rattle.splits.specs.Splits.Moves.{length-fill}
 use Rattle.verdicts.proofs.Fours.{changed-in}
 use Rattle.verdicts.proofs.Splitting.{count-named}
 use borrow.Author.Needs.{needs}

@@ -1,7 +1,7 @@
 -- The verdict of the call given n and sets: where it is not refused, k is 2 to 4, the table is accepted, the frame has
 -- more than k drives, and the verdict is the one on the normal table. So the theorems on accepted tables hold of it.
 use mathlib.Core.Path.{_≡_, sym, ap, _∙_}
-use mathlib.Core.Bool.{not, _&&_}
+use mathlib.Core.Bool.{false, not, _&&_}
 use mathlib.Core.List.{List}
 use Prim.Native.Nat.{ℕ, _≤_, _<_}
 use native.Mathlib.Omega.{arith}
@@ -18,6 +18,12 @@ use Rattle.survivor_tables.specs.Tables.Laws.{table-accepted, accepted-normal, 
 use Rattle.verdicts.specs.Verdicts.{Verdict, no, verdictOn, judged, verdict, verdictGiven}
 use Rattle.verdicts.specs.Verdicts.Intersection.{no-counts}
 
+-- where 12 is not met
+pub count-within : (k : ℕ) → not (leb 2 k && leb k 4) ≡ false → (2 ≤ k) × (k ≤ 4)
+count-within k h =
+    let both = not-false (leb 2 k && leb k 4) h in
+    (leb-true 2 k (and-left (leb 2 k) (leb k 4) both), leb-true k 4 (and-right (leb 2 k) (leb k 4) both))
+
 pub record Answered (k n : ℕ) (sets : List ℕ) (v : Verdict) : Type 0 where
   pub low : 2 ≤ k
   pub high : k ≤ 4
@@ -32,10 +38,9 @@ verdict-answered k n sets v e =
     let table = first-result (normalTable n sets) (judged k n) (count .1) in
     let known = table-accepted n sets (table .0) (table .1) in
     let drives = passed (leb n k) FewDrives _ (table .2) in
-    let within = not-false (leb 2 k && leb k 4) (count .0) in
     record {
-      low = leb-true 2 k (and-left (leb 2 k) (leb k 4) within);
-      high = leb-true k 4 (and-right (leb 2 k) (leb k 4) within);
+      low = count-within k (count .0) .0;
+      high = count-within k (count .0) .1;
       accepted = known .0;
       more = leb-false n k (drives .0);
       is = sym (same-result (drives .1)) ∙ ap (verdictOn k n) (known .1);
@@ -64,8 +69,7 @@ pub given-counts : (k n : ℕ) (table : List ℕ) {ps blocks : List ℕ} → ver
 unfolding verdictGiven judged
 given-counts k n table {ps = ps} {blocks = blocks} e =
     let count = passed (not (leb 2 k && leb k 4)) BlockCount _ e in
-    let within = not-false (leb 2 k && leb k 4) (count .0) in
-    let high = leb-true k 4 (and-right (leb 2 k) (leb k 4) within) in
+    let high = count-within k (count .0) .1 in
     let checked = first-result (checkedSets n table) (judged k n) (count .1) in
     let counts = no-counts k n (checked .0) (same-result (passed (leb n k) FewDrives _ (checked .2) .1)) in
     (omega (arith, counts .0), omega (arith, counts .1))

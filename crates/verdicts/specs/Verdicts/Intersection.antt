@@ -14,11 +14,11 @@ use Rattle.drive_sets.specs.Masks.{full}
 use Rattle.drive_sets.specs.Masks.Laws.{has-bounds, full-has, full-lt, full-word}
 use Rattle.survivor_tables.specs.Tables.{Accepted}
 use Rattle.splits.specs.Splits.{fillEmpty}
+use Rattle.splits.specs.Splits.Moves.{length-fill}
 use Rattle.verdicts.specs.Verdicts.{Verdict, yes, no, setAt, setsAt, disjoint, blocksOf, verdictWith, verdictOn}
 use Rattle.verdicts.specs.Verdicts.Search.{Shared, disjoint-none}
 use Rattle.verdicts.specs.Verdicts.Firsts.{Names, disjoint-first}
 use Rattle.verdicts.specs.Verdicts.Blocks.{length-blocks}
-use Rattle.splits.specs.Splits.Moves.{length-fill}
 use Rattle.verdicts.specs.Meaning.{SharedDrive, AllFrom, Intersection, Positions, NoneShared, FirstNoneShared}
 
 -- ---- the verdict by what the search finds

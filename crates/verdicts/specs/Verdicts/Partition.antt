@@ -1,7 +1,7 @@
 -- The verdict is yes exactly if every split of the drives into k blocks, none empty, has one that holds a core
--- (k-Partition), for every k and every frame of more than k drives. If no block of a split holds a core, a set of the table lies outside each, and these k sets share no
--- drive, for a drive that they share is in no block. If k sets share no drive, the blocks of the no are a split and
--- none holds a core.
+-- (k-Partition), for every k and every frame of more than k drives. If no block of a split holds a core, a set of the
+-- table lies outside each, and these k sets share no drive, for a drive that they share is in no block. If k sets share
+-- no drive, the blocks of the no are a split and none holds a core.
 use mathlib.Core.Path.{_≡_, refl, sym, ap, _∙_}
 use mathlib.Core.Bool.{true, false}
 use mathlib.Core.Logic.{_↔_, ⊎-elim}

@@ -9,29 +9,21 @@ use native.Mathlib.Omega.{arith}
 use lib.ListN.{length, getD, length-map}
 use Rattle.drive_sets.specs.Bools.Laws.{clash, false-of}
 use Rattle.drive_sets.specs.Lists.{range, elem}
-use Rattle.drive_sets.specs.Lists.Laws.{any-elem, any-intro}
 use Rattle.drive_sets.specs.Lists.Places.{getD-elem, elem-getD}
 use Rattle.drive_sets.specs.Masks.{has, outside, subset}
-use Rattle.drive_sets.specs.Masks.Laws.{not-meets, subset-lt, subset-trans}
+use Rattle.drive_sets.specs.Masks.Laws.{not-meets, subset-has}
 use Rattle.drive_sets.specs.Masks.Outside.{subset-outside}
 use Rattle.survivor_tables.specs.Hitting.Duality.{Cores, cores-minimals, holds-core-or-complement}
 use Rattle.survivor_tables.specs.Order.{bySize}
 use Rattle.survivor_tables.specs.Tables.{cores, Accepted}
 use Rattle.survivor_tables.specs.Tables.Laws.{sets-below}
-use Rattle.splits.specs.Splits.{Split, blockOf, Parted, fillEmpty}
+use Rattle.splits.specs.Splits.{Split, blockOf, Parted, PartOf, fillEmpty}
 use Rattle.splits.specs.Splits.Moves.{length-fill, fill-keeps, fill-ends}
 use Rattle.splits.specs.Splits.Listed.{split-of-blocks}
 use Rattle.verdicts.specs.Verdicts.{no, setAt, setsAt, blocksOf, verdictOn}
 use Rattle.verdicts.specs.Verdicts.Intersection.{no-some, shared-drive, sets-from, some-first}
-use Rattle.verdicts.specs.Verdicts.Blocks.{length-blocks, blocks-lt, blocks-rule, in-block, blocks-apart, blocks-whole}
+use Rattle.verdicts.specs.Verdicts.Blocks.{length-blocks, blocks-below, blocks-rule, not-named, blocks-one}
 use Rattle.verdicts.specs.Meaning.{FirstNoneShared, holdsCore, NoWitness}
-
--- a block that holds a core has it in every larger one
-holds-more : (n : ℕ) (table : List ℕ) (b c : ℕ) → b < 2 ^ n → subset b c ≡ true → holdsCore table b ≡ true → holdsCore table c ≡ true
-unfolding holdsCore
-holds-more n table b c lt part h =
-    let w = any-elem (λ x. subset x b) (cores table) h in
-    any-intro (λ x. subset x c) (cores table) (w .0) (w .1) (subset-trans n (w .0) b c (subset-lt n (w .0) b (w .2) lt) (w .2) part)
 
 module _ (n : ℕ) (table : List ℕ) (accepted : Accepted n table) where
   -- ---- which blocks hold a core
@@ -70,43 +62,39 @@ module _ (n : ℕ) (table : List ℕ) (accepted : Accepted n table) where
 
     first-parted : Parted n first
     first-parted = record {
-      within = blocks-lt n 0 named;
-      apart = blocks-apart n named;
-      whole = blocks-whole n named (λ h. found .none-shared .share-none (shared-drive n (accepted .high) named h));
+      within = blocks-below n 0 named;
+      one = blocks-one n named (λ h. found .none-shared .share-none (shared-drive n (accepted .high) named h));
     }
 
-    first-no-core : (j : ℕ) → j < length first → holdsCore table (getD first j 0) ≡ false
-    first-no-core j h =
-        let place : j < length named = omega (arith, length-blocks n 0 named) in
-        missed-no-core (getD first j 0) (getD named j 0) (blocks-lt n 0 named j)
-        (sets-from n (accepted .high) k table ps (found .none-shared .positions) (getD named j 0) (getD-elem named j place))
-        (λ d e. in-block n named j d e .not-named)
+    kept : Parted n (fillEmpty first) × PartOf (fillEmpty first) first
+    kept = fill-keeps n (accepted .high) first first-parted
 
-    abbrev blocks : List ℕ
-    blocks = fillEmpty first
+    none-empty : k < n → elem 0 (fillEmpty first) ≡ false
+    none-empty more = fill-ends n (accepted .high) first first-parted (omega (arith, count-first))
 
-    -- each block is part of one that was formed first
-    no-core : (b : ℕ) → elem b blocks ≡ true → holdsCore table b ≡ false
+    -- each block is part of one that was formed first, and that lies outside its named set
+    no-core : (b : ℕ) → elem b (fillEmpty first) ≡ true → holdsCore table b ≡ false
     no-core b i =
-        let kept = fill-keeps n (accepted .high) first first-parted in
-        let at = elem-getD b blocks i in
-        let w = kept .1 (at .0) (omega (arith, at .1, length-fill first)) in
-        subst (λ (x : ℕ). holdsCore table x ≡ false) (at .2)
-        (false-of (holdsCore table (getD blocks (at .0) 0)) (λ c. clash (holds-more n table _ _ (kept .0 .within (at .0)) (w .2) c) (first-no-core (w .0) (w .1))))
+        let w = kept .1 b i in
+        let at = elem-getD (w .0) first (w .1) in
+        let place : at .0 < length named = omega (arith, at .1, length-blocks n 0 named) in
+        missed-no-core b (getD named (at .0) 0) (kept .0 .within b i)
+        (sets-from n (accepted .high) k table ps (found .none-shared .positions) (getD named (at .0) 0) (getD-elem named (at .0) place))
+        (λ d e. not-named n named (at .0) d place (ap (has d) (at .2) ∙ subset-has d b (w .0) (w .2) e))
 
-    blocks-witness : k < n → NoWitness k n table ps blocks
-    blocks-witness more =
-        let parted = fill-keeps n (accepted .high) first first-parted .0 in
-        record {
-          positions = found;
-          first = first;
-          formed = record { count = length-blocks n 0 named; rule = blocks-rule n named };
-          moved = refl;
-          parted = parted;
-          split = subst (λ (x : ℕ). (block : ℕ → ℕ) × Split x n block × (blocks ≡ map (blockOf n block) (range 1 x))) (length-fill first ∙ count-first)
-              (split-of-blocks n (accepted .high) blocks parted (fill-ends n (accepted .high) first first-parted (omega (arith, count-first))));
-          no-core = no-core;
-        }
+    blocks-witness : k < n → NoWitness k n table ps (fillEmpty first)
+    blocks-witness more = record {
+      positions = found;
+      first = first;
+      formed = record { count = length-blocks n 0 named; rule = blocks-rule n named };
+      moved = refl;
+      count = length-fill first ∙ count-first;
+      parted = kept .0;
+      none-empty = none-empty more;
+      split = subst (λ (x : ℕ). (block : ℕ → ℕ) × Split x n block × (fillEmpty first ≡ map (blockOf n block) (range 1 x))) (length-fill first ∙ count-first)
+          (split-of-blocks n (accepted .high) (fillEmpty first) (kept .0) (none-empty more));
+      no-core = no-core;
+    }
 
   pub no-witness : (k : ℕ) (ps blocks : List ℕ) → k < n → verdictOn k n table ≡ no ps blocks → NoWitness k n table ps blocks
   no-witness k ps blocks more e =
