@@ -1,4 +1,3 @@
 -- What the functions' proofs share.
-pub mod CrashList
 pub mod ProposalSteps
 pub mod Returns

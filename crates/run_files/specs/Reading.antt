@@ -1,6 +1,6 @@
 -- Reading as the code does it, a record at a time, and what the reader's answers say.
 use mathlib.Core.List.{List, [], _∷_, _++_}
-use mathlib.Core.Option.{Option, none, some}
+use mathlib.Core.Option.{Option, some}
 use Prim.Native.Nat.{ℕ}
 use lib.ListN.{take, drop, replicate}
 use Rattle.drive_sets.specs.declared.Answer.the-variants.{Refused}
@@ -8,25 +8,19 @@ use Rattle.drive_sets.specs.declared.Refusal.{Refusal}
 use Rattle.drive_sets.specs.Refusals.{Outcome, refused, result, number, outcomeOf}
 use Rattle.records.specs.RecordLists.{ReadList}
 use Rattle.drive_states.specs.State.{values}
-use Rattle.drive_crashes.specs.Crashes.{crashesIn, noCrashes, crashRecord}
-use Rattle.run_files.specs.declared.crash_records.CrashesRead.{CrashesRead}
-use Rattle.run_files.specs.declared.crash_records.Step.{Step}
-use Rattle.run_files.specs.declared.crash_records.Step.the-variants.{Crash, End, Stop}
+use Rattle.drive_crashes.specs.Crashes.{crashesIn, noCrashes}
 use Rattle.run_files.specs.declared.proposals.Proposals.{Proposals}
 use Rattle.run_files.specs.declared.proposals.Proposal.{Proposal}
 use Rattle.run_files.specs.declared.proposals.Proposal.the-variants as proposals
 use Rattle.run_files.specs.declared.reading.RunFile as answers
 use Rattle.run_files.specs.declared.reading.RunRecords.{RunRecords}
-use Rattle.run_files.specs.RunFiles.{RunFile, CrashList, ReadRun}
+use Rattle.run_files.specs.RunFiles.{RunFile, ReadRun}
 
 -- ---- what the answers say
 
 -- the answers of the readers of the bytes s
 unfoldable pub proposalsOutcome : ℕ → Proposals → List ℕ → Outcome (ReadList (List ℕ))
 proposalsOutcome n r s = outcomeOf (r .answer) (record { list = take n (values (r .numbers)); rest = drop (r .used) s })
-
-unfoldable pub crashesOutcome : CrashesRead → List ℕ → Outcome (ReadList CrashList)
-crashesOutcome r s = outcomeOf (r .answer) (record { list = record { crashes = crashesIn (r .crashes); last = r .last .0 }; rest = drop (r .used) s })
 
 unfoldable pub recordsOutcome : ℕ → RunRecords → List ℕ → Outcome ReadRun
 recordsOutcome n r s =
@@ -46,9 +40,3 @@ refusedFile r = record { answer = Refused r; numbers = replicate 64 (record { 0 
 abbrev pub proposalOutcome : List ℕ → Proposal → Outcome (Option (List ℕ))
 proposalOutcome given (proposals.Stop r) = refused (number r)
 proposalOutcome given (proposals.Number v) = result (some (given ++ (v .0 ∷ [])))
-
--- what a step makes of the CR records listed
-abbrev pub stepOutcome : CrashList → Step → Outcome (Option CrashList)
-stepOutcome l (Stop r) = refused (number r)
-stepOutcome l End = result none
-stepOutcome l (Crash drive round sends) = result (some (record { crashes = l .crashes ++ (crashRecord drive round sends ∷ []); last = drive .0 }))

@@ -1,6 +1,6 @@
 -- Run files as bytes: PR for each drive in order, CR (none is fine), EN with the count of CR. Reading finds the
 -- refusals from left to right.
-use mathlib.Core.Bool.{false, not}
+use mathlib.Core.Bool.{not}
 use mathlib.Core.List.{List, [], _∷_, _++_}
 use Prim.Native.Nat.{ℕ, suc}
 use lib.Dec.{eqb, leb}
@@ -9,12 +9,13 @@ use Rattle.drive_sets.specs.declared.Refusal.the-variants.{TrailingBytes, Drive
 use Rattle.drive_sets.specs.Refusals.{Outcome, result, refuseIf, andThen}
 use Rattle.drive_sets.specs.Positions.{isNone}
 use Rattle.survivor_tables.specs.Hitting.{firstMissed}
-use Rattle.records.specs.declared.Kind.the-variants.{Proposal, Crash}
-use Rattle.records.specs.declared.Due.the-variants.{AtProposal, AtCrashOrEnd}
+use Rattle.records.specs.declared.Kind.the-variants.{Proposal}
+use Rattle.records.specs.declared.Due.the-variants.{AtProposal}
 use Rattle.records.specs.Fields.{fieldAt}
 use Rattle.records.specs.RecordLists.{ListFormat, readList}
 use Rattle.survivor_tables.specs.Tables.{isEmpty, chosenCore}
-use Rattle.runs.specs.CrashRecords.{CrashRecord, crashed, checkedCrash}
+use Rattle.runs.specs.CrashRecords.{CrashRecord, crashed}
+use Rattle.crash_lists.specs.CrashLists.{noCrash, crashList}
 use Rattle.drive_sets.specs.Limits.{patternWidth}
 pub mod Laws
 pub mod Accepted
@@ -35,28 +36,6 @@ takenProposal given s =
 -- the PR records, with the numbers given so far; they end with drive n's
 abbrev pub proposalList : ℕ → ListFormat (List ℕ)
 proposalList n = record { kind = Proposal; due = λ given. AtProposal; count = length; complete = λ given. leb n (length given); taken = takenProposal }
-
--- ---- CR: drive, round, sends, 1 byte each; drives rising
-
-unfoldable pub crashFields : List ℕ → CrashRecord
-crashFields s = record { drive = fieldAt 2 1 s; round = fieldAt 3 1 s; sends = fieldAt 4 1 s }
-
--- the CR records listed so far, and the drive of the last, 0 where there is none
-pub record CrashList : Type 0 where
-  pub crashes : List CrashRecord
-  pub last : ℕ
-
-abbrev pub noCrash : CrashList
-noCrash = record { crashes = []; last = 0 }
-
--- one CR more: 8, then 9 and 10
-unfoldable pub takenCrash : ℕ → ℕ → CrashList → List ℕ → Outcome CrashList
-takenCrash n core l s =
-    andThen (checkedCrash n core (l .last) (crashFields s)) (λ c. result (record { crashes = l .crashes ++ (c ∷ []); last = c .drive }))
-
--- the records after drive n's PR
-abbrev pub crashList : ℕ → ℕ → ListFormat CrashList
-crashList n core = record { kind = Crash; due = λ l. AtCrashOrEnd; count = λ l. length (l .crashes); complete = λ l. false; taken = takenCrash n core }
 
 -- ---- a run file: PR.., CR.., EN
 

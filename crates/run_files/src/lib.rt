@@ -1,4 +1,3 @@
 // Run files: the pattern numbers that the drives propose and their crashes, read from the bytes after a table.
-mod crash_records;
 mod proposals;
 pub mod reading;

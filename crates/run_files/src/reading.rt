@@ -7,7 +7,6 @@ ghost use Rattle.run_files.specs.RunFiles.{readRecords, readBehind, read
 ghost use Rattle.run_files.specs.Reading.{recordsOutcome, runFileOutcome, refusedFile};
 ghost use Rattle.drive_sets.specs.Limits.{maxDrives};
 ghost use Rattle.drive_sets.specs.Refusals.{Alone};
-use crate::crash_records;
 use crate::proposals;
 use drive_crashes::Crashes;
 use drive_sets::Answer;
@@ -38,7 +37,7 @@ fn refused_file(r: Refusal) -> RunFile
     RunFile {
         answer: Answer::Refused(r),
         numbers: [Pattern(0); 64],
-        crashes: crash_records::none(),
+        crashes: crash_lists::none(),
     }
 }
 
@@ -48,7 +47,7 @@ fn refused_records(r: Refusal) -> RunRecords
     RunRecords {
         answer: Answer::Refused(r),
         numbers: [Pattern(0); 64],
-        crashes: crash_records::none(),
+        crashes: crash_lists::none(),
         used: 0,
     }
 }
@@ -66,7 +65,7 @@ fn read_records(s: &[u8], n: u8, core: u64) -> RunRecords
     match answer {
         Answer::Refused(r) => refused_records(r),
         Answer::Accepted => {
-            let listed = crash_records::read_crashes(&s[first..], n, core);
+            let listed = crash_lists::read_crashes(&s[first..], n, core);
             let answer = listed.answer;
             let crashes = listed.crashes;
             let used = first + listed.used;

@@ -17,7 +17,8 @@ use Rattle.runs.specs.CrashRecords.{crashed, isNext, mostSends, checkedCrash, c
 use Rattle.drive_sets.specs.Counts.{isRound}
 use Rattle.runs.specs.Statement.{coreCrashes}
 use Rattle.agreement.specs.RoundEndings.{endingAfter, endingFrom, endingOf, endings}
-use Rattle.run_files.specs.RunFiles.{takenProposal, crashFields, takenCrash, readRecords, untouchedLeft, wholeRun, readBehind, readRunFile}
+use Rattle.crash_lists.specs.CrashLists.{crashFields, takenCrash}
+use Rattle.run_files.specs.RunFiles.{takenProposal, readRecords, untouchedLeft, wholeRun, readBehind, readRunFile}
 use Rattle.simulation.specs.Simulation.{checkedCrashes, simulated}
 use Rattle.text.specs.Text.{digit, inBase, digits, joined, field, fields, named, line, lines, refusalLine}
 use Rattle.verdict_lines.specs.VerdictLines.{noPart, verdictPart, verdictLine, verdictLines}

@@ -14,7 +14,8 @@ use Rattle.records.specs.Fields.{fieldAt}
 use Rattle.records.specs.RecordLists.{readList}
 use Rattle.survivor_tables.specs.Tables.{isEmpty, chosen, normalTable, chosenCore}
 use Rattle.runs.specs.CrashRecords.{CrashRecord, crashed, isNext, mostSends, checkedCrash}
-use Rattle.run_files.specs.RunFiles.{takenProposal, proposalList, CrashList, noCrash, crashFields, takenCrash, crashList, readRecords, untouchedLeft, wholeRun, readBehind, readRunFile}
+use Rattle.crash_lists.specs.CrashLists.{crashFields, CrashList, noCrash, takenCrash, crashList}
+use Rattle.run_files.specs.RunFiles.{takenProposal, proposalList, readRecords, untouchedLeft, wholeRun, readBehind, readRunFile}
 use Rattle.simulation.specs.Simulation.{Simulated, checkedCrashes, unlessTouched, simulated}
 use Rattle.run_listing.specs.RunListing.{simulatedWith}
 use Rattle.c_replies.specs.Replies.{refusalOf}

@@ -32,9 +32,11 @@ use Rattle.drive_sets.specs.Limits.{patternLimit}
 use Rattle.records.specs.RecordLists.{readList}
 use Rattle.runs.specs.CrashRecords.{drivesOf, CrashRecord, crashed, mostSends}
 use Rattle.drive_sets.specs.Counts.{isRound}
-use Rattle.run_files.specs.RunFiles.{RunFile, proposalList, noCrash, crashList, ReadRun, readRecords, untouchedLeft, wholeRun, readBehind, readRunFile}
+use Rattle.crash_lists.specs.CrashLists.{noCrash, crashList}
+use Rattle.crash_lists.specs.CrashLists.Laws.{Passes, next-bounds, AllPass, crashes-read}
+use Rattle.run_files.specs.RunFiles.{RunFile, proposalList, ReadRun, readRecords, untouchedLeft, wholeRun, readBehind, readRunFile}
 use Rattle.records.specs.Fields.{Bytes}
-use Rattle.run_files.specs.RunFiles.Laws.{numbers-read, Passes, next-bounds, AllPass, crashes-read}
+use Rattle.run_files.specs.RunFiles.Laws.{numbers-read}
 
 -- ---- one crash
 

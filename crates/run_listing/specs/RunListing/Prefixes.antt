@@ -19,8 +19,9 @@ use Rattle.survivor_tables.specs.Tables.{withinCoreLimit, chosenCore}
 use Rattle.survivor_tables.specs.Tables.Laws.{core-given}
 use Rattle.table_files.specs.Files.{ReadTable, readListed, accepted, readTable}
 use Rattle.runs.specs.CrashRecords.{CrashRecord, checkedCrash}
-use Rattle.run_files.specs.RunFiles.{RunFile, takenProposal, proposalList, crashFields, CrashList, noCrash, takenCrash, crashList, readRecords, wholeRun, untouchedLeft, readBehind, readRunFile}
-use Rattle.run_files.specs.RunFiles.Laws.{next-bounds, checked-passes}
+use Rattle.crash_lists.specs.CrashLists.{crashFields, CrashList, noCrash, takenCrash, crashList}
+use Rattle.crash_lists.specs.CrashLists.Laws.{next-bounds, checked-passes}
+use Rattle.run_files.specs.RunFiles.{RunFile, takenProposal, proposalList, readRecords, wholeRun, untouchedLeft, readBehind, readRunFile}
 use Rattle.simulation.specs.Simulation.{Simulated, simulated}
 use Rattle.run_listing.specs.RunListing.{runText, simulatedWith, simulatedFile, runProgram}
 use Rattle.table_listing.specs.TableListing.Prefixes.{empty-prefix, listed-prefix}

@@ -1,10 +1,14 @@
 -- The numbers, then the records after them.
+use mathlib.Core.Path.{_∙_}
 use native.Mathlib.Omega.{arith}
 use lib.ListN.{length-drop}
 use lib.Seq.{drop-drop}
+use borrow.Author.Tests.{le-ltb}
+use Rattle.drive_sets.specs.Bools.Laws.{cond-false}
 use Rattle.records.proofs.Parts.{rest-is}
+use Rattle.crash_lists.specs.Reading.{crashesOutcome}
 use Rattle.run_files.specs.RunFiles.{readRecords}
-use Rattle.run_files.specs.Reading.{proposalsOutcome, crashesOutcome, recordsOutcome}
+use Rattle.run_files.specs.Reading.{proposalsOutcome, recordsOutcome}
 use Rattle.run_files.proofs.Returns.{outcome-made}
 use borrow.Author.Needs.{needs}
 use Rattle.run_files.proofs.reading.read_records.Statement.{statement}
@@ -13,9 +17,13 @@ use Rattle.run_files.proofs.reading.read_records.Tie as tie
 returns-2 : tie.Need-returns-2
 unfolding recordsOutcome readRecords proposalsOutcome crashesOutcome
 returns-2 c =
-    let s = c .before .before .before .before .before .before .before .before .before .args .s .now in let p = c .before .before .before .before .before .before .before .read-proposals in let l = c .before .before .read-crashes in let at = p .result .used in (
-      rw (← p .ensures .0, c .before .before .before .before .enum-told .given .1, ← rest-is s at, ← l .ensures .0, rest-is s at, drop-drop (l .result .used) at s) (outcome-made (l .result .answer) _ _),
-      omega (arith, p .ensures .1, l .ensures .1, length-drop at s),
+    let s = c .before .before .before .before .before .before .before .before .before .args .s .now in
+    let p = c .before .before .before .before .before .before .before .read-proposals in
+    let l = c .before .before .read-crashes in
+    let at = p .result .used in
+    let read = l .ensures .0 ∙ cond-false _ _ (le-ltb _ _ (c .before .before .before .before .before .before .before .before .before .pre)) in (
+      rw (← p .ensures .0, c .before .before .before .before .enum-told .given .1, ← rest-is s at, ← read, rest-is s at, drop-drop (l .result .used) at s) (outcome-made (l .result .answer) _ _),
+      omega (arith, p .ensures .1, l .ensures .1 .0, length-drop at s),
     )
 
 pub read-records-spec : {M : Type 1} → statement M

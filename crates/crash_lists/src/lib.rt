@@ -1,16 +1,20 @@
-// The CR records of a run file and its EN, a record at a time.
+// The CR records of a run file and its EN, a record at a time: the crashes by drive, or the first refusal. What is left
+// to read gives at each record what the whole gives.
 ghost use mathlib.Core.Path.{_≡_};
 ghost use Prim.Native.Nat.{_≤_};
+ghost use lib.Dec.{ltb};
 ghost use lib.ListN.{length};
-ghost use Rattle.records.specs.RecordLists.{stepOf, readList};
-ghost use Rattle.run_files.specs.RunFiles.{CrashList, noCrash, crashList};
-ghost use Rattle.drive_crashes.specs.Crashes.{noCrashes, withCrash};
-ghost use Rattle.run_files.specs.Reading.{stepOutcome, crashesOutcome};
 ghost use Rattle.drive_sets.specs.Limits.{maxDrives};
+ghost use Rattle.drive_sets.specs.Refusals.{refuseIf, Alone};
+ghost use Rattle.records.specs.RecordLists.{stepOf, readList};
+ghost use Rattle.drive_crashes.specs.Crashes.{noCrashes, withCrash};
+ghost use Rattle.crash_lists.specs.CrashLists.{CrashList, noCrash, crashList};
+ghost use Rattle.crash_lists.specs.Reading.{stepOutcome, crashesOutcome, refusedCrashes};
 use drive_crashes::Crashes;
 use drive_crashes::check_crash;
 use drive_sets::Answer;
 use drive_sets::Drive;
+use drive_sets::MAX_DRIVES;
 use drive_sets::Refusal;
 use drive_sets::Round;
 use records::CRASH_WIDTH;
@@ -55,7 +59,7 @@ fn next_step(s: &[u8], n: u8, core: u64, last: Drive, count: usize) -> Step
 }
 
 // No crash.
-pub(crate) fn none() -> Crashes
+pub fn none() -> Crashes
     ensures { λ r. ⌜ r ≡ noCrashes ⌝ }
 {
     Crashes {
@@ -66,7 +70,7 @@ pub(crate) fn none() -> Crashes
 }
 
 fn refused(r: Refusal) -> CrashesRead
-    ensures { λ t. ⌜ (t .answer ≡ Answer.Refused r) × (t .used ≡ 0) ⌝ }
+    ensures { λ t. ⌜ t ≡ refusedCrashes r ⌝ }
 {
     CrashesRead {
         answer: Answer::Refused(r),
@@ -93,12 +97,16 @@ fn note(c: Crashes, drive: Drive, round: Round, made: u8) -> Crashes
     }
 }
 
-// The records after drive n's PR.
-pub(crate) fn read_crashes(s: &[u8], n: u8, core: u64) -> CrashesRead
-    requires { ⌜ n ≤ maxDrives ⌝ }
-    ensures { λ r. ⌜ crashesOutcome r (now (s .entry)) ≡ readList (crashList n core) noCrash (now (s .entry)) ⌝ }
+// The records after drive n's PR, for any n and core: 3 where n is above 64, then their refusals. Beside a refusal
+// nothing is told.
+pub fn read_crashes(s: &[u8], n: u8, core: u64) -> CrashesRead
+    ensures { λ r. ⌜ crashesOutcome r (now (s .entry)) ≡ refuseIf (ltb maxDrives n) Refusal.FrameSize (readList (crashList n core) noCrash (now (s .entry))) ⌝ }
     ensures within { λ r. ⌜ r .used ≤ length (now (s .entry)) ⌝ }
+    ensures alone { λ r. ⌜ Alone (λ (u : CrashesRead). u .answer) refusedCrashes r ⌝ }
 {
+    if MAX_DRIVES < n {
+        return refused(Refusal::FrameSize);
+    }
     let mut crashes = none();
     let mut last = Drive(0);
     let mut count = 0usize;

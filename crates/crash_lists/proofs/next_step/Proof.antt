@@ -1,12 +1,12 @@
--- One record: refused, the end, or a CR that is checked.
+-- One record: refused, the end, or a CR that is checked. One that is there is whole, so its three fields are bytes.
 use native.Mathlib.Omega.{arith}
 use Rattle.records.specs.RecordLists.{stepOf}
-use Rattle.run_files.specs.RunFiles.{takenCrash}
+use Rattle.crash_lists.specs.CrashLists.{takenCrash}
 use Rattle.drive_crashes.specs.Crashes.{crashRecord}
-use Rattle.run_files.proofs.CrashList.{crash-long, crash-fields}
+use Rattle.crash_lists.proofs.CrashList.{crash-long, crash-fields}
 use borrow.Author.Needs.{needs}
-use Rattle.run_files.proofs.crash_records.next_step.Statement.{statement}
-use Rattle.run_files.proofs.crash_records.next_step.Tie as tie
+use Rattle.crash_lists.proofs.next_step.Statement.{statement}
+use Rattle.crash_lists.proofs.next_step.Tie as tie
 
 pub next-step-spec : {M : Type 1} → statement M
 unfolding stepOf takenCrash crashRecord

@@ -1,8 +1,8 @@
--- The crash of one more drive, at its place.
+-- The crash of one more drive, at its place, which both arrays have: the drive is one of 1 to 64.
 use Rattle.drive_crashes.specs.Crashes.{withCrash}
 use borrow.Author.Needs.{needs}
-use Rattle.run_files.proofs.crash_records.note.Statement.{statement}
-use Rattle.run_files.proofs.crash_records.note.Tie as tie
+use Rattle.crash_lists.proofs.note.Statement.{statement}
+use Rattle.crash_lists.proofs.note.Tie as tie
 
 pub note-spec : {M : Type 1} → statement M
 unfolding withCrash

@@ -1,4 +1,5 @@
--- The CR records: one record, and the loop over them, in which what is left to read gives what the whole gives.
+-- The CR records: one record, and the loop over them, in which what is left to read gives what the whole gives. The
+-- drives rise, so there are at most n turns, and each new crash is the last of those listed.
 use mathlib.Core.Path.{_≡_, refl, sym, ap, _∙_, subst}
 use mathlib.Core.Bool.{true}
 use mathlib.Core.Logic.{⊎-elim}
@@ -25,13 +26,13 @@ use Rattle.records.specs.RecordLists.Laws.{OwnKind, other-kind, one-whole}
 use Rattle.records.proofs.Lists.{first-byte, Reading, reading-start, reading-stop, reading-end, end-within, step-taken, reading-turn}
 use Rattle.drive_sets.specs.Limits.{maxDrives}
 use Rattle.drive_crashes.specs.declared.Crashes.{Crashes}
-use Rattle.run_files.specs.declared.crash_records.Step.{Step}
-use Rattle.run_files.specs.declared.crash_records.Step.the-variants.{Crash, End, Stop}
+use Rattle.crash_lists.specs.declared.Step.{Step}
+use Rattle.crash_lists.specs.declared.Step.the-variants.{Crash, End, Stop}
 use Rattle.runs.specs.CrashRecords.{CrashRecord, isNext, checkedCrash}
-use Rattle.run_files.specs.RunFiles.{crashFields, CrashList, noCrash, takenCrash, crashList}
-use Rattle.run_files.specs.RunFiles.Laws.{next-bounds, checked-passes}
+use Rattle.crash_lists.specs.CrashLists.{crashFields, CrashList, noCrash, takenCrash, crashList}
+use Rattle.crash_lists.specs.CrashLists.Laws.{next-bounds, checked-passes}
 use Rattle.drive_crashes.specs.Crashes.{noCrashes, crashRecord, crashesIn, withCrash}
-use Rattle.run_files.specs.Reading.{stepOutcome}
+use Rattle.crash_lists.specs.Reading.{stepOutcome}
 use Rattle.drive_crashes.specs.Crashes.Laws.{none-listed, with-crash-listed}
 
 -- ---- one record
