@@ -7,11 +7,12 @@ ghost use lib.ListN.{length};
 ghost use Rattle.drive_sets.specs.Limits.{maxDrives};
 ghost use Rattle.drive_sets.specs.Refusals.{refuseIf, Alone};
 ghost use Rattle.records.specs.RecordLists.{stepOf, readList};
-ghost use Rattle.drive_crashes.specs.Crashes.{noCrashes, withCrash};
+ghost use Rattle.drive_crashes.specs.Crashes.{withCrash};
 ghost use Rattle.crash_lists.specs.CrashLists.{CrashList, noCrash, crashList};
 ghost use Rattle.crash_lists.specs.Reading.{stepOutcome, crashesOutcome, refusedCrashes};
 use drive_crashes::Crashes;
 use drive_crashes::check_crash;
+use drive_crashes::no_crashes;
 use drive_sets::Answer;
 use drive_sets::Drive;
 use drive_sets::MAX_DRIVES;
@@ -58,23 +59,12 @@ fn next_step(s: &[u8], n: u8, core: u64, last: Drive, count: usize) -> Step
     }
 }
 
-// No crash.
-pub fn none() -> Crashes
-    ensures { λ r. ⌜ r ≡ noCrashes ⌝ }
-{
-    Crashes {
-        crashed: 0,
-        rounds: [Round(0); 64],
-        sends: [0u8; 64],
-    }
-}
-
 fn refused(r: Refusal) -> CrashesRead
     ensures { λ t. ⌜ t ≡ refusedCrashes r ⌝ }
 {
     CrashesRead {
         answer: Answer::Refused(r),
-        crashes: none(),
+        crashes: no_crashes(),
         last: Drive(0),
         used: 0,
     }
@@ -107,7 +97,7 @@ pub fn read_crashes(s: &[u8], n: u8, core: u64) -> CrashesRead
     if MAX_DRIVES < n {
         return refused(Refusal::FrameSize);
     }
-    let mut crashes = none();
+    let mut crashes = no_crashes();
     let mut last = Drive(0);
     let mut count = 0usize;
     let mut at = 0usize;

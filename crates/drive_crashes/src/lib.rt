@@ -2,7 +2,7 @@
 ghost use mathlib.Core.Path.{_≡_};
 ghost use Rattle.drive_sets.specs.Refusals.{outcomeOf};
 ghost use Rattle.runs.specs.CrashRecords.{isNext, mostSends, checkedCrash};
-ghost use Rattle.drive_crashes.specs.Crashes.{crashRecord};
+ghost use Rattle.drive_crashes.specs.Crashes.{noCrashes, crashRecord};
 use drive_sets::Answer;
 use drive_sets::Drive;
 use drive_sets::Refusal;
@@ -13,6 +13,17 @@ pub struct Crashes {
     pub crashed: u64,
     pub rounds: [Round; 64],
     pub sends: [u8; 64],
+}
+
+// No crash.
+pub fn no_crashes() -> Crashes
+    ensures { λ r. ⌜ r ≡ noCrashes ⌝ }
+{
+    Crashes {
+        crashed: 0,
+        rounds: [Round(0); 64],
+        sends: [0u8; 64],
+    }
 }
 
 // A drive of the frame, above the last.

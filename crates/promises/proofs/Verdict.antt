@@ -15,7 +15,7 @@ use Rattle.survivor_tables.specs.Order.{normal}
 use Rattle.survivor_tables.specs.Tables.{normalTable, Accepted}
 use Rattle.survivor_tables.specs.Tables.Laws.{accepted-normal, table-accepted, table-refused}
 use Rattle.verdicts.specs.Verdicts.{verdictOn, judged, verdict}
-use Rattle.verdicts.specs.Verdicts.Call.{count-within, verdict-answered, given-normal, given-few, given-more}
+use Rattle.verdicts.specs.Verdicts.Call.{block-count-within, verdict-answered, given-normal, given-few, given-more}
 use Rattle.verdicts.specs.Verdicts.Intersection.{yes-intersection}
 use Rattle.verdicts.specs.Verdicts.Partition.{yes-partition}
 use Rattle.verdicts.specs.Verdicts.Witness.{no-witness}
@@ -49,8 +49,8 @@ refused-few k n sets e =
     (λ w. ⊎-elim (λ h. absurd (omega (arith, table-refused n sets h)))
     (λ h. ⊎-elim
     (λ f. (
-      count-within k (w .0) .0,
-      count-within k (w .0) .1,
+      block-count-within k (w .0) .0,
+      block-count-within k (w .0) .1,
       table-accepted n sets (h .0) (h .1) .0,
       leb-true n k (f .0),
     ))

@@ -3,7 +3,8 @@
 -- none, and k blocks (..). No block holds a core, and yes means that every split into k blocks has one that does."
 -- Document 02: "By document 004 a partition's blocks are not empty and the frame has more than k drives. After 01's
 -- blocks are formed, while one is empty, the lowest drive of the first block with two or more moves to the first empty
--- block. (..) It refuses with 33 a verdict on such a frame, after 12 and the table's own checks."
+-- block. (..) For a frame of k drives or fewer (..) the agreement with k-Partition covers larger frames only. It
+-- refuses with 33 a verdict on such a frame, after 12 and the table's own checks."
 use mathlib.Core.Path.{_≡_}
 use mathlib.Core.List.{List}
 use mathlib.Core.Logic.{_↔_}

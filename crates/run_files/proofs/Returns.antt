@@ -1,6 +1,6 @@
 -- What the returns of the run file reader share.
 use mathlib.Core.Path.{_≡_, refl}
-use Rattle.drive_sets.specs.Refusals.{result, andThen, outcomeOf}
+use Rattle.drive_sets.specs.Refusals.{result, andThen, outcomeOf, Alone}
 use Rattle.drive_sets.specs.Refusals.Laws.{refused-alone, accepted-alone}
 use Rattle.drive_sets.specs.declared.Refusal.{Refusal}
 use Rattle.drive_sets.specs.declared.Answer.{Answer}
@@ -15,8 +15,8 @@ outcome-made answers.Accepted x f = refl
 
 -- ---- beside a refusal nothing is told
 
-pub file-refused : {t : RunFile} {q : Refusal} → t ≡ refusedFile q → (r : Refusal) → t .answer ≡ answers.Refused r → t ≡ refusedFile r
+pub file-refused : {t : RunFile} {q : Refusal} → t ≡ refusedFile q → Alone (λ (u : RunFile). u .answer) refusedFile t
 file-refused = refused-alone (λ (t : RunFile). t .answer) refusedFile (λ q. refl)
 
-pub file-accepted : {t : RunFile} → t .answer ≡ answers.Accepted → (r : Refusal) → t .answer ≡ answers.Refused r → t ≡ refusedFile r
+pub file-accepted : {t : RunFile} → t .answer ≡ answers.Accepted → Alone (λ (u : RunFile). u .answer) refusedFile t
 file-accepted = accepted-alone (λ (t : RunFile). t .answer) refusedFile (λ q. refl)

@@ -9,6 +9,7 @@ ghost use Rattle.drive_sets.specs.Limits.{maxDrives};
 ghost use Rattle.drive_sets.specs.Refusals.{Alone};
 use crate::proposals;
 use drive_crashes::Crashes;
+use drive_crashes::no_crashes;
 use drive_sets::Answer;
 use drive_sets::Pattern;
 use drive_sets::Position;
@@ -37,7 +38,7 @@ fn refused_file(r: Refusal) -> RunFile
     RunFile {
         answer: Answer::Refused(r),
         numbers: [Pattern(0); 64],
-        crashes: crash_lists::none(),
+        crashes: no_crashes(),
     }
 }
 
@@ -47,7 +48,7 @@ fn refused_records(r: Refusal) -> RunRecords
     RunRecords {
         answer: Answer::Refused(r),
         numbers: [Pattern(0); 64],
-        crashes: crash_lists::none(),
+        crashes: no_crashes(),
         used: 0,
     }
 }

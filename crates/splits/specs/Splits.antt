@@ -32,12 +32,12 @@ holders d blocks = length (filter (has d) blocks)
 abbrev pub empties : List ℕ → ℕ
 empties blocks = length (filter (λ b. eqb b 0) blocks)
 
--- blocks of the drives 1 to n: each of these is in exactly one of them, and no other drive is in any; one may be empty
+-- blocks of the drives 1 to n: each of these is in exactly one, and no other drive is in any; blocks may be empty
 pub record Parted (n : ℕ) (blocks : List ℕ) : Type 0 where
   pub within : Below n blocks
   pub one : (d : ℕ) → holders d blocks ≡ asNumber (has d (full n))
 
--- each of some blocks is part of one of the others
+-- each block of the first list is part of one of the second
 abbrev pub PartOf : List ℕ → List ℕ → Type 0
 PartOf after before = (b : ℕ) → elem b after ≡ true → (c : ℕ) × (elem c before ≡ true) × (subset b c ≡ true)
 
@@ -56,20 +56,22 @@ withMove blocks from to =
     let block = getD blocks from 0 in
     set (set blocks from (minus block (single (lowest block)))) to (single (lowest block))
 
+-- where both positions are there
+abbrev pub moveBetween : List ℕ → Position → Position → List ℕ
+moveBetween blocks (At from) (At to) = withMove blocks (from - 1) (to - 1)
+moveBetween blocks (At from) None = blocks
+moveBetween blocks None to = blocks
+
 -- one move, where a block is empty: the lowest drive of the first block with two or more, to the first empty block
-abbrev pub moveTo : List ℕ → Position → Position → List ℕ
-moveTo blocks (At to) (At from) = withMove blocks (from - 1) (to - 1)
-moveTo blocks (At to) None = blocks
-moveTo blocks None from = blocks
-
 unfoldable pub moved : List ℕ → List ℕ
-moved blocks = moveTo blocks (firstEmpty blocks) (firstLarge blocks)
+moved blocks = moveBetween blocks (firstLarge blocks) (firstEmpty blocks)
 
+-- so many moves, each of the blocks as the one before leaves them
 unfoldable pub moves : ℕ → List ℕ → List ℕ
 moves zero blocks = blocks
 moves (suc left) blocks = moves left (moved blocks)
 
--- moves while a block is empty: as many as there are blocks are enough (`Moves.fill-ends`), and where none is empty
--- nothing moves
+-- moves while a block is empty: as many as there are blocks are enough where the frame has no fewer drives
+-- (`Moves.fill-ends`), and where none is empty nothing moves
 unfoldable pub fillEmpty : List ℕ → List ℕ
 fillEmpty blocks = moves (length blocks) blocks

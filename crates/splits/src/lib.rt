@@ -42,12 +42,12 @@ fn move_lowest(blocks: &mut [u64], from: usize, to: usize)
 fn move_one(blocks: &mut [u64])
     ensures { λ _. ⌜ now (blocks .exit) ≡ moved (now (blocks .entry)) ⌝ }
 {
-    let empty = first_empty(blocks);
     let large = first_large(blocks);
-    let Position::At(to) = empty else {
+    let empty = first_empty(blocks);
+    let Position::At(from) = large else {
         return;
     };
-    let Position::At(from) = large else {
+    let Position::At(to) = empty else {
         return;
     };
     move_lowest(blocks, from - 1, to - 1)

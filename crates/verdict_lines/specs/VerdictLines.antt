@@ -1,5 +1,5 @@
 -- The lines of the verdicts on 2, 3 and 4. Document 02: "For a frame of k drives or fewer the program prints `k`, the
--- number and `few`." Such a frame is refused with 33, and an accepted table with nothing else (Laws: `few-line`,
+-- number and `few`, (..)". Such a frame is refused with 33, and an accepted table with nothing else (Laws: `few-line`,
 -- `more-line`).
 use mathlib.Core.List.{List, _++_}
 use Prim.Native.Nat.{ℕ}

@@ -17,7 +17,7 @@ use Rattle.splits.specs.Splits.{fillEmpty}
 use Rattle.verdicts.specs.Verdicts.{Verdict, yes, no, setsAt, disjoint, blocksOf, verdictOn}
 use Rattle.verdicts.specs.Verdicts.Firsts.{First, disjoint-first, named-from}
 use Rattle.verdicts.specs.Verdicts.Intersection.{none-yes, some-no, no-counts}
-use Rattle.verdicts.specs.Verdicts.Call.{count-within}
+use Rattle.verdicts.specs.Verdicts.Call.{block-count-within}
 use Rattle.verdicts.specs.Verdicts.CommonPart.{every-lt, in-every}
 use Rattle.verdicts.specs.Meaning.{inEvery}
 use Rattle.verdicts.specs.Held.{verdictOf, answerOf, withBlocks, inFour, foundIn}
@@ -26,7 +26,7 @@ use Rattle.verdicts.proofs.Loops.{found-none, found-some}
 
 -- where the number of blocks passed its test
 pub count-bounds : (k : ℕ) {good : Bool} → good ≡ (leb 2 k && leb k 4) → not good ≡ false → (2 ≤ k) × (k ≤ 4)
-count-bounds k is h = count-within k (ap not (sym is) ∙ h)
+count-bounds k is h = block-count-within k (ap not (sym is) ∙ h)
 
 -- ---- an answer says the verdict that it holds
 

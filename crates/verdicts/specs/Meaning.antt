@@ -1,5 +1,5 @@
--- What a verdict means: sets that share a drive (k-Intersection), lists of positions and their order, and splits of the
--- drives into blocks that hold a core (k-Partition). Verdicts/ has the theorems.
+-- What a verdict means: sets that share a drive (k-Intersection), lists of positions and their order, blocks that hold
+-- a core and k-Partition, and what comes with a no. Verdicts/ has the theorems.
 use mathlib.Core.Path.{_≡_}
 use mathlib.Core.Bool.{Bool, true, false, not, _&&_, _||_}
 use mathlib.Core.Logic.{_⊎_}

@@ -26,7 +26,7 @@ read-crashes-spec =
     tie.close
     (tie.spec
     Inv-loop μ-loop (λ c κs. search needs) (λ c. let r = c .refused .ensures in (rw (r, lt-ltb _ _ (c .before .if1 .taken)), (refused-within r _, crashes-refused r))) (λ c κs. search needs)
-    (λ c. rw (c .none .ensures) (listing-start _ _ _)) (λ c. search needs)
+    (λ c. rw (c .no-crashes .ensures) (listing-start _ _ _)) (λ c. search needs)
     (λ c. omega (arith, c .loop .inv .reading .within)) (λ c. search needs) (λ c κs. search needs) (λ c. search needs) (λ c κs. search needs)
     (λ c. let r = c .refused2 .ensures in (rw (r, le-ltb _ _ (c .before .before .before .before .before .before .before .before .if1 .left)) (listing-stop (c .before .before .before .before .before .before .loop .inv) (c .before .before .before .before .next-step .ensures) (c .before .before .next .given .1)), (refused-within r _, crashes-refused r)))
     (λ c. search needs) (λ c. omega (arith, listed-within (c .before .before .before .before .loop .inv) (c .before .before .next-step .ensures) (c .enum-told .given .1)))

@@ -138,5 +138,5 @@ same-sets {p} {q} f g = fun-ext (λ x. same-test (p x) (q x) (f x) (g x))
 pub true-one : {b : Bool} → b ≡ true → asNumber b ≡ 1
 true-one e = ap asNumber e
 
-pub false-none : {b : Bool} → b ≡ false → asNumber b ≡ 0
-false-none e = ap asNumber e
+pub false-zero : {b : Bool} → b ≡ false → asNumber b ≡ 0
+false-zero e = ap asNumber e

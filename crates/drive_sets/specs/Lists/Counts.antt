@@ -9,7 +9,7 @@ use native.Mathlib.Omega.{arith}
 use lib.ListN.{length, getD, set}
 use borrow.Author.Tests.{not-true}
 use Rattle.drive_sets.specs.Bools.{asNumber}
-use Rattle.drive_sets.specs.Bools.Laws.{clash, by-test, and-intro, and-left, and-right, true-one, false-none}
+use Rattle.drive_sets.specs.Bools.Laws.{clash, by-test, and-intro, and-left, and-right, true-one, false-zero}
 use Rattle.drive_sets.specs.Lists.{filter, all, elem}
 use Rattle.drive_sets.specs.Lists.Laws.{elem-head, elem-tail, elem-cases, elem-none, elem-some, elem-filter, filter-true, filter-false}
 
@@ -25,7 +25,7 @@ module _ (p : ℕ → Bool) where
   length-filter-cons x l =
       by-test (p x)
       (λ e. omega (arith, length-filter-true p x l e, true-one e))
-      (λ e. omega (arith, length-filter-false p x l e, false-none e))
+      (λ e. omega (arith, length-filter-false p x l e, false-zero e))
 
   -- with one place changed
   pub length-filter-set : (l : List ℕ) (i v : ℕ) → i < length l → length (filter p (set l i v)) + asNumber (p (getD l i 0)) ≡ length (filter p l) + asNumber (p v)

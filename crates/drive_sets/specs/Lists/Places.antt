@@ -1,15 +1,15 @@
 -- The elements of a list by their places, of a list's image under a function, and a list without one of its elements.
 use mathlib.Core.Path.{_≡_, refl, sym, ap, ap₂, _∙_, subst}
-use mathlib.Core.Bool.{Bool, true, false}
+use mathlib.Core.Bool.{Bool, true}
 use mathlib.Core.Logic.{_⊎_, inl, inr, ⊎-elim}
 use mathlib.Core.List.{List, [], _∷_, map}
 use Prim.Native.Nat.{ℕ, zero, suc, _+_, _<_, zero-le, suc-le-suc}
 use native.Mathlib.Nat.{add-zero}
 use native.Mathlib.Omega.{arith}
-use lib.ListN.{length, getD, take, drop, set, take-append-drop}
-use Rattle.drive_sets.specs.Bools.Laws.{clash, and-intro, and-left, and-right, or-false-left}
-use Rattle.drive_sets.specs.Lists.{range, all, any, elem, ordered}
-use Rattle.drive_sets.specs.Lists.Laws.{elem-head, elem-tail, elem-cases, elem-none, any-append, all-elem, all-intro}
+use lib.ListN.{length, getD, set}
+use Rattle.drive_sets.specs.Bools.Laws.{clash, and-intro, and-left, and-right}
+use Rattle.drive_sets.specs.Lists.{range, all, elem, ordered}
+use Rattle.drive_sets.specs.Lists.Laws.{elem-head, elem-tail, elem-cases, elem-none, all-elem, all-intro}
 
 -- ---- by place
 
@@ -22,10 +22,6 @@ pub elem-getD : (x : ℕ) (l : List ℕ) → elem x l ≡ true → (i : ℕ) × 
 elem-getD x [] e = absurd (clash e (elem-none x))
 elem-getD x (y ∷ l) e =
     ⊎-elim (λ q. (0, suc-le-suc zero-le, sym q)) (λ q. let w = elem-getD x l q in (suc (w .0), suc-le-suc (w .1), w .2)) (elem-cases x y l e)
-
--- what none of a list passes, none of its first elements passes
-pub any-take : (p : ℕ → Bool) (l : List ℕ) (i : ℕ) → any p l ≡ false → any p (take i l) ≡ false
-any-take p l i h = or-false-left (any p (take i l)) (any p (drop i l)) (sym (any-append p (take i l) (drop i l)) ∙ (ap (any p) (take-append-drop i l) ∙ h))
 
 -- an element of a list with one place changed
 pub elem-set : (x : ℕ) (l : List ℕ) (i v : ℕ) → elem x (set l i v) ≡ true → (x ≡ v) ⊎ (elem x l ≡ true)

@@ -1,4 +1,4 @@
--- Nothing where no block is empty or none has two drives; else the move between the two.
+-- Nothing where no block has two drives or none is empty; else the move between the two.
 use mathlib.Core.Path.{_∙_}
 use Rattle.splits.specs.Splits.{moved}
 use Rattle.splits.proofs.Moving.{place-within}
@@ -12,11 +12,11 @@ move-one-spec =
     tie.close
     (tie.spec
     (λ c κs. search needs) (λ c κs. search needs) (λ c. search needs) (λ c. search needs) (λ c. search needs)
-    (λ c. rw (← c .before .before .before .before .first-empty .ensures, c .enum-told .given .1))
+    (λ c. rw (← c .before .before .before .before .first-large .ensures, c .enum-told .given .1))
     (λ c. search needs) (λ c. search needs) (λ c. search needs)
-    (λ c. rw (← c .before .before .before .before .before .before .before .first-empty .ensures, c .before .before .before .empty .given .1, ← c .before .before .before .before .before .first-large .ensures, c .enum-told2 .given .1))
-    (λ c. place-within _ _ (c .before .before .before .before .before .before .before .first-large .ensures) (c .before .before .large .given .1) .0)
-    (λ c. place-within _ _ (c .before .before .before .before .before .before .before .before .before .first-empty .ensures) (c .before .before .before .before .before .empty .given .1) .0)
-    (λ c κs. (place-within _ _ (c .before .before .before .before .before .before .before .first-large .ensures) (c .before .before .large .given .1) .1, place-within _ _ (c .before .before .before .before .before .before .before .before .before .first-empty .ensures) (c .before .before .before .before .before .empty .given .1) .1))
+    (λ c. rw (← c .before .before .before .before .before .before .before .first-large .ensures, c .before .before .before .large .given .1, ← c .before .before .before .before .before .first-empty .ensures, c .enum-told2 .given .1))
+    (λ c. place-within _ _ (c .before .before .before .before .before .before .before .before .before .first-large .ensures) (c .before .before .before .before .before .large .given .1) .0)
+    (λ c. place-within _ _ (c .before .before .before .before .before .before .before .first-empty .ensures) (c .before .before .empty .given .1) .0)
+    (λ c κs. (place-within _ _ (c .before .before .before .before .before .before .before .before .before .first-large .ensures) (c .before .before .before .before .before .large .given .1) .1, place-within _ _ (c .before .before .before .before .before .before .before .first-empty .ensures) (c .before .before .empty .given .1) .1))
     (λ c. search needs)
-    (λ c. c .before .before .move-lowest .ensures ∙ rw (← c .before .before .before .before .before .before .before .before .before .before .before .before .first-empty .ensures, c .before .before .before .before .before .before .before .before .empty .given .1, ← c .before .before .before .before .before .before .before .before .before .before .first-large .ensures, c .before .before .before .before .before .large .given .1)))
+    (λ c. c .before .before .move-lowest .ensures ∙ rw (← c .before .before .before .before .before .before .before .before .before .before .before .before .first-large .ensures, c .before .before .before .before .before .before .before .before .large .given .1, ← c .before .before .before .before .before .before .before .before .before .before .first-empty .ensures, c .before .before .before .before .before .empty .given .1)))

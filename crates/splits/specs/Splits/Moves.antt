@@ -19,12 +19,12 @@ use Rattle.drive_sets.specs.Lists.Laws.{length-filter}
 use Rattle.drive_sets.specs.Masks.{has, full, common, minus, size}
 use Rattle.drive_sets.specs.Masks.Laws.{has-common, has-minus, full-word, common-lt, minus-lt, none-has, has-subset, subset-refl, subset-trans}
 use Rattle.drive_sets.specs.Masks.Sizes.{size-none, size-minus, size-full, size-subset}
-use Rattle.splits.specs.Splits.{holders, empties, Parted, PartOf, firstEmpty, firstLarge, withMove, moveTo, moved, moves, fillEmpty}
+use Rattle.splits.specs.Splits.{holders, empties, Parted, PartOf, firstEmpty, firstLarge, withMove, moveBetween, moved, moves, fillEmpty}
 use Rattle.splits.specs.Splits.OneMove.{Movable, move-part, move-keeps, move-fills}
 
 -- ---- while a block is empty, one has two drives or more
 
--- sets of at most one drive each that have all drives of m: the empty ones are no more than those that m leaves over
+-- sets of at most one drive each that have all drives of m: they are at least as many as these, beside the empty ones
 crowded : (blocks : List ℕ) (m : ℕ) → m < 2 ^ 64 → all (λ b. leb (size b) 1) blocks ≡ true → ((d : ℕ) → has d m ≡ true → 1 ≤ holders d blocks)
     → size m + empties blocks ≤ length blocks
 unfolding all filter
@@ -55,8 +55,8 @@ part-trans n last middle first parted p q b e =
     let d = q (c .0) (c .1) in
     (d .0, d .1, subset-trans n b (c .0) (d .0) (parted .within b e) (c .2) (d .2))
 
-movable : (blocks : List ℕ) {to from : ℕ} → firstEmpty blocks ≡ At to → firstLarge blocks ≡ At from → Movable blocks (from - 1) (to - 1)
-movable blocks {to = to} {from = from} p q =
+movable : (blocks : List ℕ) {from to : ℕ} → firstLarge blocks ≡ At from → firstEmpty blocks ≡ At to → Movable blocks (from - 1) (to - 1)
+movable blocks {from = from} {to = to} q p =
     let e = failing-at (λ b. not (eqb b 0)) 1 blocks to p in
     let l = failing-at (λ b. leb (size b) 1) 1 blocks from q in
     let to-place : to - 1 ≡ e .place = omega (arith, e .at) in
@@ -70,12 +70,12 @@ movable blocks {to = to} {from = from} p q =
 
 length-moved : (blocks : List ℕ) → length (moved blocks) ≡ length blocks
 unfolding moved withMove
-length-moved blocks = go (firstEmpty blocks) (firstLarge blocks)
+length-moved blocks = go (firstLarge blocks) (firstEmpty blocks)
   where
-    go : (to from : Position) → length (moveTo blocks to from) ≡ length blocks
-    go None from = refl
-    go (At to) None = refl
-    go (At to) (At from) = simp length-set
+    go : (from to : Position) → length (moveBetween blocks from to) ≡ length blocks
+    go None to = refl
+    go (At from) None = refl
+    go (At from) (At to) = simp length-set
 
 length-moves : (left : ℕ) (blocks : List ℕ) → length (moves left blocks) ≡ length blocks
 unfolding moves
@@ -89,25 +89,25 @@ length-fill blocks = length-moves (length blocks) blocks
 module _ (n : ℕ) (frame : n ≤ 64) where
   pub moved-keeps : (blocks : List ℕ) → Parted n blocks → Parted n (moved blocks) × PartOf (moved blocks) blocks
   unfolding moved
-  moved-keeps blocks before = go (firstEmpty blocks) (firstLarge blocks) refl refl
+  moved-keeps blocks before = go (firstLarge blocks) (firstEmpty blocks) refl refl
     where
-      go : (to from : Position) → firstEmpty blocks ≡ to → firstLarge blocks ≡ from → Parted n (moveTo blocks to from) × PartOf (moveTo blocks to from) blocks
-      go None from p q = (before, part-refl blocks)
-      go (At to) None p q = (before, part-refl blocks)
-      go (At to) (At from) p q =
+      go : (from to : Position) → firstLarge blocks ≡ from → firstEmpty blocks ≡ to → Parted n (moveBetween blocks from to) × PartOf (moveBetween blocks from to) blocks
+      go None to p q = (before, part-refl blocks)
+      go (At from) None p q = (before, part-refl blocks)
+      go (At from) (At to) p q =
           let m = movable blocks p q in
           (move-keeps n frame blocks before (from - 1) (to - 1) m, move-part n frame blocks before (from - 1) (to - 1) m)
 
   -- each move takes one from the number of empty blocks, until there is none
   pub moved-fills : (blocks : List ℕ) → Parted n blocks → length blocks ≤ n → empties (moved blocks) ≡ empties blocks - 1
   unfolding moved
-  moved-fills blocks before few = go (firstEmpty blocks) (firstLarge blocks) refl refl
+  moved-fills blocks before few = go (firstLarge blocks) (firstEmpty blocks) refl refl
     where
-      go : (to from : Position) → firstEmpty blocks ≡ to → firstLarge blocks ≡ from → empties (moveTo blocks to from) ≡ empties blocks - 1
-      go None from p q = omega (arith, length-filter-none (λ b. eqb b 0) blocks (failing-none (λ b. not (eqb b 0)) 1 blocks .0 p))
-      go (At to) None p q =
-          omega (arith, size-full n frame, crowded blocks (full n) (full-word n) (failing-none (λ b. leb (size b) 1) 1 blocks .0 q) (λ d h. omega (arith, before .one d, true-one h)))
-      go (At to) (At from) p q = omega (arith, move-fills n frame blocks before (from - 1) (to - 1) (movable blocks p q))
+      go : (from to : Position) → firstLarge blocks ≡ from → firstEmpty blocks ≡ to → empties (moveBetween blocks from to) ≡ empties blocks - 1
+      go None to p q =
+          omega (arith, size-full n frame, crowded blocks (full n) (full-word n) (failing-none (λ b. leb (size b) 1) 1 blocks .0 p) (λ d h. omega (arith, before .one d, true-one h)))
+      go (At from) None p q = omega (arith, length-filter-none (λ b. eqb b 0) blocks (failing-none (λ b. not (eqb b 0)) 1 blocks .0 q))
+      go (At from) (At to) p q = omega (arith, move-fills n frame blocks before (from - 1) (to - 1) (movable blocks p q))
 
   moves-keep : (left : ℕ) (blocks : List ℕ) → Parted n blocks → Parted n (moves left blocks) × PartOf (moves left blocks) blocks
   unfolding moves

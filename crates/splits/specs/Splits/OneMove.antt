@@ -13,7 +13,7 @@ use lib.Pow.{pow-mono}
 use lib.Seq.{getD-set-other}
 use borrow.Author.Tests.{eqb-true, ne-eqb}
 use Rattle.drive_sets.specs.Bools.{asNumber}
-use Rattle.drive_sets.specs.Bools.Laws.{by-test, and-fails-right, true-one, false-none}
+use Rattle.drive_sets.specs.Bools.Laws.{by-test, and-fails-right, true-one, false-zero}
 use Rattle.drive_sets.specs.Lists.{filter, elem}
 use Rattle.drive_sets.specs.Lists.Counts.{length-filter-set}
 use Rattle.drive_sets.specs.Lists.Places.{getD-elem, elem-set}
@@ -21,7 +21,7 @@ use Rattle.drive_sets.specs.Masks.{has, single, minus, subset, size, lowest}
 use Rattle.drive_sets.specs.Masks.Laws.{has-none, has-single, has-bounds, minus-lt, single-lt, subset-refl, subset-minus}
 use Rattle.drive_sets.specs.Masks.OneDrive.{has-remove}
 use Rattle.drive_sets.specs.Masks.Sizes.{size-none, size-single, size-remove, single-subset, lowest-has}
-use Rattle.splits.specs.Splits.{empties, Parted, PartOf, withMove}
+use Rattle.splits.specs.Splits.{holders, empties, Parted, PartOf, withMove}
 
 -- the block at place i has a drive to spare for the empty one at place j
 pub record Movable (blocks : List ℕ) (i j : ℕ) : Type 0 where
@@ -71,7 +71,7 @@ module _ (n : ℕ) (frame : n ≤ 64) (blocks : List ℕ) (before : Parted n blo
   unfolding withMove
   after-cases x e = ⊎-elim (λ q. inl q) (λ q. inr (elem-set x blocks i rest q)) (elem-set x (set blocks i rest) j (single low) e)
 
-  -- how many pass a test: two blocks are no longer there, and two others are
+  -- how many pass a test: two blocks give way to two others
   count-after : (p : ℕ → Bool) → length (filter p after) + asNumber (p block) + asNumber (p 0) ≡ length (filter p blocks) + asNumber (p rest) + asNumber (p (single low))
   unfolding withMove
   count-after p =
@@ -104,25 +104,25 @@ module _ (n : ℕ) (frame : n ≤ 64) (blocks : List ℕ) (before : Parted n blo
           (λ w. ⊎-elim (λ q. subst (λ (y : ℕ). y < 2 ^ n) (sym q) (minus-lt n block (single low) below)) (λ h. before .within x h) w)
           (after-cases x e)
 
-      same : (d : ℕ) → length (filter (has d) after) ≡ length (filter (has d) blocks)
+      same : (d : ℕ) → holders d after ≡ holders d blocks
       same d =
           let counts = count-after (has d) in
           let left = has-remove low (bounds .0) most d block in
           let alone = has-single d low (bounds .0) most in
-          let none = false-none (has-none d) in
+          let none = false-zero (has-none d) in
           by-test (eqb d low)
           (λ e. omega (
             arith,
             none,
             true-one (ap (λ (y : ℕ). has y block) (eqb-true d low e) ∙ has-low),
-            false-none (left ∙ and-fails-right (has d block) (ap not e)),
+            false-zero (left ∙ and-fails-right (has d block) (ap not e)),
             true-one (alone ∙ e),
           ))
           (λ e. omega (
             arith,
             none,
             ap (λ (b : Bool). asNumber b) (left ∙ (ap (λ (b : Bool). has d block && not b) e ∙ and-true (has d block))),
-            false-none (alone ∙ e),
+            false-zero (alone ∙ e),
           ))
 
   -- one block fewer is empty
@@ -131,7 +131,7 @@ module _ (n : ℕ) (frame : n ≤ 64) (blocks : List ℕ) (before : Parted n blo
       let counts = count-after (λ b. eqb b 0) in
       omega (
         arith,
-        false-none (some-drive block (omega arith)),
-        false-none (some-drive rest (omega (arith, size-remove low block (bounds .0) most has-low))),
-        false-none (some-drive (single low) (omega (arith, size-single low (bounds .0) most))),
+        false-zero (some-drive block (omega arith)),
+        false-zero (some-drive rest (omega (arith, size-remove low block (bounds .0) most has-low))),
+        false-zero (some-drive (single low) (omega (arith, size-single low (bounds .0) most))),
       )

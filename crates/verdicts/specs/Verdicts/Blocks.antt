@@ -10,7 +10,7 @@ use native.Mathlib.Omega.{arith}
 use lib.ListN.{length, getD, take}
 use borrow.Author.Tests.{not-true}
 use Rattle.drive_sets.specs.Bools.{asNumber}
-use Rattle.drive_sets.specs.Bools.Laws.{clash, false-of, same-test, and-intro, and-left, and-right, and-fails-right, false-none}
+use Rattle.drive_sets.specs.Bools.Laws.{clash, false-of, same-test, and-intro, and-left, and-right, and-fails-right, false-zero}
 use Rattle.drive_sets.specs.Lists.{filter, all, any}
 use Rattle.drive_sets.specs.Lists.Counts.{length-filter-cons}
 use Rattle.drive_sets.specs.Lists.Laws.{elem-none, elem-cases, all-elem}
@@ -86,10 +86,10 @@ one-more true true false r = refl
 one-more true false true r = add-zero _
 one-more true false false r = refl
 
--- a drive of the frame is in one block, if it is not taken and not in all of the named sets
+-- a drive is in one block, if it is of the frame, not taken and not in all of the named sets, and else in none
 holders-from : (n d : ℕ) (named : List ℕ) (taken : ℕ) → holders d (blocksOf n taken named) ≡ asNumber (has d (full n) && (not (has d taken) && not (all (has d) named)))
 unfolding blocksOf all filter
-holders-from n d [] taken = sym (false-none (and-fails-right (has d (full n)) (and-fails-right (not (has d taken)) refl)))
+holders-from n d [] taken = sym (false-zero (and-fails-right (has d (full n)) (and-fails-right (not (has d taken)) refl)))
 holders-from n d (s ∷ named) taken =
     let block = outside n (union s taken) in
     let here = has-outside d n (union s taken) ∙ ap (λ (b : Bool). has d (full n) && not b) (has-union d s taken) in

@@ -19,8 +19,8 @@ use Rattle.verdicts.specs.Verdicts.{Verdict, no, verdictOn, judged, verd
 use Rattle.verdicts.specs.Verdicts.Intersection.{no-counts}
 
 -- where 12 is not met
-pub count-within : (k : ℕ) → not (leb 2 k && leb k 4) ≡ false → (2 ≤ k) × (k ≤ 4)
-count-within k h =
+pub block-count-within : (k : ℕ) → not (leb 2 k && leb k 4) ≡ false → (2 ≤ k) × (k ≤ 4)
+block-count-within k h =
     let both = not-false (leb 2 k && leb k 4) h in
     (leb-true 2 k (and-left (leb 2 k) (leb k 4) both), leb-true k 4 (and-right (leb 2 k) (leb k 4) both))
 
@@ -39,8 +39,8 @@ verdict-answered k n sets v e =
     let known = table-accepted n sets (table .0) (table .1) in
     let drives = passed (leb n k) FewDrives _ (table .2) in
     record {
-      low = count-within k (count .0) .0;
-      high = count-within k (count .0) .1;
+      low = block-count-within k (count .0) .0;
+      high = block-count-within k (count .0) .1;
       accepted = known .0;
       more = leb-false n k (drives .0);
       is = sym (same-result (drives .1)) ∙ ap (verdictOn k n) (known .1);
@@ -69,7 +69,7 @@ pub given-counts : (k n : ℕ) (table : List ℕ) {ps blocks : List ℕ} → ver
 unfolding verdictGiven judged
 given-counts k n table {ps = ps} {blocks = blocks} e =
     let count = passed (not (leb 2 k && leb k 4)) BlockCount _ e in
-    let high = count-within k (count .0) .1 in
+    let high = block-count-within k (count .0) .1 in
     let checked = first-result (checkedSets n table) (judged k n) (count .1) in
     let counts = no-counts k n (checked .0) (same-result (passed (leb n k) FewDrives _ (checked .2) .1)) in
     (omega (arith, counts .0), omega (arith, counts .1))
