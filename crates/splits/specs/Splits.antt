@@ -56,7 +56,7 @@ withMove blocks from to =
     let block = getD blocks from 0 in
     set (set blocks from (minus block (single (lowest block)))) to (single (lowest block))
 
--- where both positions are there
+-- from the block at one position to that at another, where both are there
 abbrev pub moveBetween : List ℕ → Position → Position → List ℕ
 moveBetween blocks (At from) (At to) = withMove blocks (from - 1) (to - 1)
 moveBetween blocks (At from) None = blocks
