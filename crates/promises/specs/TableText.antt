@@ -1,7 +1,7 @@
 -- What the table program prints of every table that is read. Document 01 has the lines of case A; document 02: "For a
 -- frame of k drives or fewer the program prints `k`, the number and `few`, (..)".
 use mathlib.Core.Path.{_≡_}
-use mathlib.Core.Bool.{Bool, cond}
+use mathlib.Core.Bool.{cond}
 use mathlib.Core.List.{List, _++_}
 use Prim.Native.Nat.{ℕ}
 use lib.Dec.{leb}
@@ -15,13 +15,9 @@ use Rattle.verdicts.specs.Verdicts.{verdictOn}
 use Rattle.verdict_lines.specs.VerdictLines.{verdictPart}
 use Rattle.table_listing.specs.TableListing.{tableProgram}
 
--- the line of the verdict on k: `few`, or the verdict
-abbrev pub lineWith : Bool → ℕ → ℕ → List ℕ → List ℕ
-lineWith few k n table = named (ascii "k") Decimal k ++ cond few (ascii " few\n") (verdictPart (verdictOn k n table))
-
--- `few` for a frame of k drives or fewer
+-- the line of the verdict on k: `few` for a frame of k drives or fewer, else the verdict
 abbrev pub lineOn : ℕ → ℕ → List ℕ → List ℕ
-lineOn k n table = lineWith (leb n k) k n table
+lineOn k n table = named (ascii "k") Decimal k ++ cond (leb n k) (ascii " few\n") (verdictPart (verdictOn k n table))
 
 unfoldable pub TableTextOfFile : Type 0
 TableTextOfFile = (input : List ℕ) (t : ReadTable) → readWhole input ≡ result t

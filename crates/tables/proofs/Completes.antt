@@ -11,7 +11,6 @@ use borrow.Author.Tests.{lt-ltb, le-ltb}
 use Rattle.drive_sets.specs.declared.Refusal.the-variants.{TooManyCores}
 use Rattle.drive_sets.specs.declared.Refusal.{Refusal}
 use Rattle.drive_sets.specs.declared.Answer.{Answer}
-use Rattle.drive_sets.specs.declared.Answer.the-variants as answers
 use Rattle.drive_sets.specs.Refusals.{Outcome, refused, result, andThen, number, outcomeOf}
 use Rattle.drive_sets.specs.Refusals.Laws.{refused-no-result, same-result, then-refuse}
 use Rattle.set_orders.specs.declared.normal_form.NormalForm.{NormalForm}
