@@ -16,8 +16,9 @@ use Rattle.agreement.specs.Document01.{applyAll}
 use Rattle.runs.specs.World as worlds
 use Rattle.runs.specs.Scenario.{goneBy}
 use Rattle.drive_crashes.specs.declared.Crashes.{Crashes}
-use Rattle.simulated_rounds.specs.States.{crashAt, blank, stateAt, worldOf, closers}
-use Rattle.simulated_rounds.proofs.Worlds.{state-place, close-place}
+use Rattle.simulated_sends.specs.States.{blank, stateAt, worldOf}
+use Rattle.simulated_rounds.specs.Rounds.{crashAt, closers}
+use Rattle.simulated_rounds.proofs.Places.{state-place, close-place}
 use Rattle.simulated_rounds.proofs.Walks.{Walking, callsIf, walk-turn, walk-end, calls-kept, calls-single}
 
 -- ---- the loop

@@ -1,8 +1,6 @@
--- Laws of the code: the world of the array of states, and a round's closes, messages and calls.
-pub mod Worlds
+-- Laws of the code: the drives by their places in the array, and a round's closes, messages and calls.
+pub mod Places
 pub mod Walks
 pub mod Closes
-pub mod Deliveries
-pub mod SentBytes
 pub mod SenderCalls
 pub mod RoundCalls

@@ -23,8 +23,9 @@ use Rattle.runs.specs.Runs.{sender, closer, joined}
 use Rattle.runs.specs.Runs as anyRuns
 use Rattle.agreement.specs.Canonical.{room, deliveries, messageCalls, roundCalls}
 use Rattle.drive_crashes.specs.declared.Crashes.{Crashes}
-use Rattle.simulated_rounds.specs.States.{crashAt, stateAt, worldOf, closers, listFor, sendsNow, messagesBy, messagesOf, Says}
-use Rattle.simulated_rounds.proofs.Worlds.{world-at}
+use Rattle.simulated_sends.specs.States.{stateAt, worldOf, listFor}
+use Rattle.simulated_rounds.specs.Rounds.{crashAt, closers, sendsNow, messagesBy, messagesOf, Says}
+use Rattle.simulated_sends.proofs.Worlds.{world-at}
 
 -- a send changes no state
 sends-nothing : (w : World) (ds : List ℕ) → applyAll w (map (λ d. sends d room 0) ds) ≡ w

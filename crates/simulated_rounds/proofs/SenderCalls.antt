@@ -16,8 +16,9 @@ use Rattle.runs.specs.Scenario.{goneBefore}
 use Rattle.agreement.specs.Sends.{cut}
 use Rattle.agreement.specs.Canonical.{deliveries}
 use Rattle.drive_crashes.specs.declared.Crashes.{Crashes}
-use Rattle.simulated_rounds.specs.States.{crashAt, blank, worldOf, listFor, sendsNow, messagesBy, messagesOf}
-use Rattle.simulated_rounds.proofs.Worlds.{state-place}
+use Rattle.simulated_sends.specs.States.{blank, worldOf, listFor}
+use Rattle.simulated_rounds.specs.Rounds.{crashAt, sendsNow, messagesBy, messagesOf}
+use Rattle.simulated_rounds.proofs.Places.{state-place}
 use Rattle.simulated_rounds.proofs.Walks.{Walking, walk-turn, walk-end}
 
 -- a list has at most 64 drives

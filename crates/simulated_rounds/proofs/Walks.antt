@@ -15,7 +15,7 @@ use Rattle.agreement.specs.Document01.{document01, applyAll}
 use Rattle.runs.specs.World as worlds
 use Rattle.runs.specs.World.Laws.{applyAll-append}
 use Rattle.runs.specs.Runs.{joined}
-use Rattle.simulated_rounds.specs.States.{worldOf}
+use Rattle.simulated_sends.specs.States.{worldOf}
 
 -- the calls of some drives, one after the other
 abbrev pub callsOf : (ℕ → List Call) → List ℕ → List Call

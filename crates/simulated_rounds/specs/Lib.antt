@@ -1,2 +1,2 @@
--- What the code's values say: the crashes by drive, the states of the drives, and the calls of a round.
-pub mod States
+-- What the code's values say: the crashes by drive, and the calls of a round.
+pub mod Rounds

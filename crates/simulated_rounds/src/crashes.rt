@@ -6,7 +6,7 @@ ghost use lib.ListN.{length, take, getD};
 ghost use Rattle.runs.specs.Scenario.{goneBefore, goneBy};
 ghost use Rattle.agreement.specs.Sends.{cut};
 ghost use Rattle.drive_crashes.specs.Crashes.{roundAt};
-ghost use Rattle.simulated_rounds.specs.States.{crashAt};
+ghost use Rattle.simulated_rounds.specs.Rounds.{crashAt};
 use drive_crashes::Crashes;
 use drive_sets::Drive;
 use drive_sets::MAX_DRIVES;

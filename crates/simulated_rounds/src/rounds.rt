@@ -9,15 +9,16 @@ ghost use Rattle.agreement.specs.Document01.{applyAll};
 ghost use Rattle.runs.specs.Scenario.{Scenario, goneBefore};
 ghost use Rattle.agreement.specs.Sends.{cut};
 ghost use Rattle.agreement.specs.Canonical.{room, deliveries, roundCalls};
-ghost use Rattle.simulated_rounds.specs.States.{crashAt, worldOf, listFor, messagesOf, Says};
+ghost use Rattle.simulated_sends.specs.States.{worldOf, listFor};
+ghost use Rattle.simulated_rounds.specs.Rounds.{crashAt, messagesOf, Says};
 use crate::closing;
 use crate::crashes;
-use crate::delivering;
 use drive_crashes::Crashes;
 use drive_sets::Drive;
 use drive_sets::MAX_DRIVES;
 use drive_sets::Round;
 use drive_states::Exchange;
+use simulated_sends::delivering;
 
 // A core drive neither halted nor gone when the round begins, where x is its state then.
 fn is_sender(x: Exchange, core: u64, crashes: Crashes, d: Drive, round: Round) -> bool

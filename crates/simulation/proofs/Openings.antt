@@ -28,7 +28,7 @@ use Rattle.runs.specs.Scenario.{Scenario, frame, coreOf}
 use Rattle.agreement.specs.Canonical.{openingCalls}
 use Rattle.drive_crashes.specs.declared.Crashes.{Crashes}
 use Rattle.drive_states.specs.State.{pattern, numberIn}
-use Rattle.simulated_rounds.specs.States.{blank, stateAt, worldOf}
+use Rattle.simulated_sends.specs.States.{blank, stateAt, worldOf}
 use Rattle.simulation.specs.Arguments.{Told}
 
 -- ---- the loop

@@ -39,7 +39,7 @@ use Rattle.drive_states.specs.State.{values}
 use Rattle.simulation.specs.Simulation.{checkedCrashes, Simulated, simulatedOf, unlessTouched, simulated}
 use Rattle.simulation.specs.Simulation.Laws.{checked-valid}
 use Rattle.drive_states.specs.State.{pattern, numberIn}
-use Rattle.simulated_rounds.specs.States.{crashAt, Says}
+use Rattle.simulated_rounds.specs.Rounds.{crashAt, Says}
 use Rattle.simulation.specs.Arguments.{Told}
 
 -- ---- the result of a scenario

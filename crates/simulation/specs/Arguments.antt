@@ -10,7 +10,7 @@ use Rattle.drive_states.specs.State.{numberIn}
 use Rattle.runs.specs.Scenario.{Scenario}
 use Rattle.runs.specs.Statement.{Valid}
 use Rattle.drive_crashes.specs.declared.Crashes.{Crashes}
-use Rattle.simulated_rounds.specs.States.{Says}
+use Rattle.simulated_rounds.specs.Rounds.{Says}
 
 -- the frame, the core, the crashes and what the drives propose are those of the scenario, which is valid
 pub record Told (n core : ℕ) (numbers : List Pattern) (c : Crashes) (s : Scenario) : Type 0 where

@@ -5,7 +5,7 @@ ghost use Prim.Native.Nat.{ℕ, _≤_};
 ghost use Rattle.drive_sets.specs.Counts.{isDrive};
 ghost use Rattle.agreement.specs.RoundEndings.{undecided};
 ghost use Rattle.agreement.specs.Canonical.{endingOn};
-ghost use Rattle.simulated_rounds.specs.States.{stateAt};
+ghost use Rattle.simulated_sends.specs.States.{stateAt};
 ghost use Rattle.simulation.specs.Endings.{endingBy, foundOf, nothingFound, orLater};
 use crate::simulating::Notes;
 use drive_sets::Pattern;

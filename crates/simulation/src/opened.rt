@@ -5,7 +5,7 @@ ghost use Prim.Native.Nat.{ℕ, _≤_};
 ghost use Rattle.drive_sets.specs.Counts.{isDrive};
 ghost use Rattle.agreement.specs.Calls.{initial};
 ghost use Rattle.drive_states.specs.State.{numberIn};
-ghost use Rattle.simulated_rounds.specs.States.{stateAt};
+ghost use Rattle.simulated_sends.specs.States.{stateAt};
 use drive_sets::Drive;
 use drive_sets::Pattern;
 use drive_states::Exchange;

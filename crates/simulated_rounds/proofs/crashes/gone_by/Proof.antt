@@ -2,7 +2,7 @@
 use borrow.Author.Tests.{not-true, not-false}
 use Rattle.runs.specs.Scenario.{goneBy}
 use Rattle.drive_sets.specs.Masks.Laws.{tested-bounds}
-use Rattle.simulated_rounds.specs.States.{crashAt}
+use Rattle.simulated_rounds.specs.Rounds.{crashAt}
 use borrow.Author.Needs.{needs}
 use Rattle.simulated_rounds.proofs.crashes.gone_by.Statement.{statement}
 use Rattle.simulated_rounds.proofs.crashes.gone_by.Tie as tie

@@ -3,7 +3,7 @@ use lib.Seq.{take-all}
 use borrow.Author.Tests.{eq-eqb, ne-eqb, not-true, not-false}
 use Rattle.agreement.specs.Sends.{cut}
 use Rattle.drive_sets.specs.Masks.Laws.{tested-bounds}
-use Rattle.simulated_rounds.specs.States.{crashAt}
+use Rattle.simulated_rounds.specs.Rounds.{crashAt}
 use borrow.Author.Needs.{needs}
 use Rattle.simulated_rounds.proofs.crashes.sends_made.Statement.{statement}
 use Rattle.simulated_rounds.proofs.crashes.sends_made.Tie as tie

@@ -1,6 +1,6 @@
 -- The messages, then the closes; the same states where a test fails.
 use Rattle.simulated_rounds.proofs.RoundCalls.{round-made}
-use Rattle.simulated_rounds.specs.States.{closers}
+use Rattle.simulated_rounds.specs.Rounds.{closers}
 use Rattle.drive_sets.specs.Bools.Laws.{clash}
 use Rattle.drive_sets.specs.Masks.{subset}
 use Rattle.drive_sets.specs.Masks.Laws.{subset-full, full-subset}

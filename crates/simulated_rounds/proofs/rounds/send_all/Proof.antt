@@ -3,7 +3,7 @@ use borrow.Author.Needs.{needs}
 use Rattle.runs.specs.World as worlds
 use Rattle.simulated_rounds.proofs.SenderCalls.{Sending, send-turn, send-end}
 use Rattle.simulated_rounds.proofs.Walks.{walk-start}
-use Rattle.simulated_rounds.specs.States.{worldOf}
+use Rattle.simulated_sends.specs.States.{worldOf}
 use native.Mathlib.Omega.{arith}
 use lib.ListN.{length}
 use mathlib.Core.Logic.{⊎-elim}

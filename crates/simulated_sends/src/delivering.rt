@@ -3,12 +3,12 @@ ghost use mathlib.Core.Path.{_≡_};
 ghost use mathlib.Core.List.{map};
 ghost use Prim.Native.Nat.{ℕ, _-_, _^_, _≤_, _<_};
 ghost use lib.ListN.{take};
-ghost use Rattle.drive_sets.specs.Masks.{size, drives};
+ghost use Rattle.drive_sets.specs.Masks.{outside, size, drives};
 ghost use Rattle.agreement.specs.Calls.{sending};
 ghost use Rattle.runs.specs.World.{delivers};
 ghost use Rattle.agreement.specs.Document01.{applyAll};
 ghost use Rattle.agreement.specs.Canonical.{room, deliveries};
-ghost use Rattle.simulated_rounds.specs.States.{worldOf, listFor};
+ghost use Rattle.simulated_sends.specs.States.{worldOf, listFor};
 use drive_sets::Drive;
 use drive_states::Exchange;
 use messages::LONGEST;
@@ -49,7 +49,7 @@ fn left_after(sends: u8, m: u64) -> u8
     sends - first as u8
 }
 
-// The bytes to the first drives of a sender's list.
+// The bytes to the first drives of a sender's list, in every frame that has room for them.
 fn deliver(
     states: [Exchange; 64],
     bytes: &[u8],
@@ -58,8 +58,7 @@ fn deliver(
     own: Drive,
     sends: u8,
 ) -> [Exchange; 64]
-    requires { ⌜ (n ≤ 64) × (core < 2 ^ n) ⌝ }
-    ensures { λ r. ⌜ worldOf n r ≡ applyAll (worldOf n states) (map (λ e. delivers e (now (bytes .entry))) (take sends (listFor n core (own .0)))) ⌝ }
+    ensures { λ r. ⌜ ((k : ℕ) → k ≤ 64 → core < 2 ^ k → outside n core < 2 ^ k → worldOf k r ≡ applyAll (worldOf k states) (map (λ e. delivers e (now (bytes .entry))) (take sends (listFor n core (own .0))))) ⌝ }
 {
     let others = drive_sets::remove(core, own);
     let served = deliver_to(states, bytes, others, sends);
@@ -68,8 +67,9 @@ fn deliver(
     deliver_to(served, bytes, listeners, left)
 }
 
-// A sender's message to the first drives of its list; none where the send is refused.
-pub(crate) fn send_from(
+// A sender's message to the first drives of its list, in every frame that has room for them, as that of 64 drives has;
+// none where the send is refused.
+pub fn send_from(
     x: Exchange,
     states: [Exchange; 64],
     n: u8,
@@ -77,8 +77,7 @@ pub(crate) fn send_from(
     own: Drive,
     sends: u8,
 ) -> [Exchange; 64]
-    requires { ⌜ (n ≤ 64) × (core < 2 ^ n) ⌝ }
-    ensures { λ r. ⌜ worldOf n r ≡ applyAll (worldOf n states) (deliveries (sending x room 0) (take sends (listFor n core (own .0)))) ⌝ }
+    ensures { λ r. ⌜ ((k : ℕ) → k ≤ 64 → core < 2 ^ k → outside n core < 2 ^ k → worldOf k r ≡ applyAll (worldOf k states) (deliveries (sending x room 0) (take sends (listFor n core (own .0))))) ⌝ }
 {
     let mut buf = [0u8; LONGEST];
     let written = sending::send(x, &mut buf, 0);

@@ -1,25 +1,25 @@
 -- The world of the array of states: storing a state is putting it into the world, and a call on the drive is a store.
-use mathlib.Core.Path.{_≡_, refl, sym, ap, ap₂, _∙_, fun-ext}
+use mathlib.Core.Path.{_≡_, refl, sym, ap, _∙_, fun-ext}
 use mathlib.Core.Bool.{true, false}
 use mathlib.Core.List.{List}
-use Prim.Native.Nat.{ℕ, _+_, _-_, _≤_, _<_}
+use Prim.Native.Nat.{ℕ, _-_, _≤_}
 use native.Mathlib.Omega.{arith}
 use lib.Dec.{eqb}
-use lib.ListN.{length, getD, set}
+use lib.ListN.{length, set}
 use lib.Seq.{getD-set-same, getD-set-other}
 use borrow.Author.Tests.{eqb-true, eqb-false}
 use Rattle.drive_sets.specs.Bools.Laws.{by-test, cond-true}
 use Rattle.drive_sets.specs.Refusals.{Outcome, refused, result}
 use Rattle.drive_states.specs.declared.Exchange.{Exchange}
 use Rattle.drive_sets.specs.Counts.{isDrive}
-use Rattle.drive_sets.specs.Counts.Laws.{drive-bounds, is-drive}
-use Rattle.agreement.specs.Calls.{receiving, closing}
+use Rattle.drive_sets.specs.Counts.Laws.{drive-bounds}
+use Rattle.agreement.specs.Calls.{receiving}
 use Rattle.exchange.specs.Replies.{stateAfter}
-use Rattle.runs.specs.World.{opened, put, afterCall, onState, delivers, closes}
+use Rattle.runs.specs.World.{opened, put, afterCall, onState, delivers}
 use Rattle.agreement.specs.Document01.{apply}
 use Rattle.runs.specs.World as worlds
 use Rattle.runs.specs.World.Laws.{put-same, put-other}
-use Rattle.simulated_rounds.specs.States.{blank, stateAt, worldOf}
+use Rattle.simulated_sends.specs.States.{blank, stateAt, worldOf}
 
 after-call : (x : Exchange) (o : Outcome Exchange) → afterCall (opened x) o ≡ opened (stateAfter x o)
 unfolding afterCall
@@ -33,7 +33,7 @@ module _ (n : ℕ) (states : List Exchange) (d : ℕ) (g : isDrive n d ≡ true)
 
   module _ (long : n ≤ length states) where
     -- a state stored at the drive's place
-    pub world-set : (x : Exchange) → worldOf n (set states (d - 1) x) ≡ put (worldOf n states) d (opened x)
+    world-set : (x : Exchange) → worldOf n (set states (d - 1) x) ≡ put (worldOf n states) d (opened x)
     unfolding worldOf stateAt
     world-set x = fun-ext (λ e. by-test (eqb e d) (λ t. here e (eqb-true e d t)) (λ t. there e (eqb-false e d t) t))
       where
@@ -49,36 +49,14 @@ module _ (n : ℕ) (states : List Exchange) (d : ℕ) (g : isDrive n d ≡ true)
             (λ b. rw b))
 
     -- so a call on the drive's state is the call in the world
-    by-call : (call : Exchange → Outcome Exchange)
+    pub by-call : (call : Exchange → Outcome Exchange)
         → worldOf n (set states (d - 1) (stateAfter (stateAt states d) (call (stateAt states d)))) ≡ put (worldOf n states) d (onState call (worldOf n states d))
     unfolding onState
     by-call call =
         world-set (stateAfter (stateAt states d) (call (stateAt states d)))
         ∙ ap (put (worldOf n states) d) (sym (ap (onState call) world-at ∙ after-call (stateAt states d) (call (stateAt states d))))
 
-    pub world-close : worldOf n (set states (d - 1) (stateAfter (stateAt states d) (closing (stateAt states d)))) ≡ apply (worldOf n states) (closes d)
-    unfolding worlds.apply
-    world-close = by-call closing
-
     pub world-deliver : (bytes : List ℕ)
         → worldOf n (set states (d - 1) (stateAfter (stateAt states d) (receiving (stateAt states d) bytes))) ≡ apply (worldOf n states) (delivers d bytes)
     unfolding worlds.apply
     world-deliver bytes = by-call (λ y. receiving y bytes)
-
--- ---- the drive whose state is at place i
-
-pub place : (i : ℕ) → i + 1 - 1 ≡ i
-place i = omega arith
-
-pub state-place : (states : List Exchange) (i : ℕ) → stateAt states (i + 1) ≡ getD states i blank
-unfolding stateAt
-state-place states i = ap (λ (k : ℕ). getD states k blank) (place i)
-
-pub place-drive : (n i : ℕ) → i < n → isDrive n (i + 1) ≡ true
-place-drive n i h = is-drive n (i + 1) (omega arith) (omega arith)
-
-pub close-place : (n : ℕ) (states : List Exchange) (i : ℕ) → i < n → n ≤ length states
-    → worldOf n (set states i (stateAfter (getD states i blank) (closing (getD states i blank)))) ≡ apply (worldOf n states) (closes (i + 1))
-close-place n states i h long =
-    sym (ap₂ (λ (k : ℕ) (x : Exchange). worldOf n (set states k (stateAfter x (closing x)))) (place i) (state-place states i))
-    ∙ world-close n states (i + 1) (place-drive n i h) long

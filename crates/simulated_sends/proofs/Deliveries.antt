@@ -6,7 +6,6 @@ use native.Mathlib.Omega.{arith}
 use lib.ListN.{length, take, getD, set, length-set}
 use Rattle.drive_sets.specs.Masks.{single, minus, outside, size, lowest, drives}
 use Rattle.drive_sets.specs.Masks.Laws.{has-bounds, minus-lt}
-use Rattle.drive_sets.specs.Masks.Outside.{outside-lt}
 use Rattle.drive_sets.specs.Masks.Sizes.{lowest-has, length-drives, drives-none}
 use Rattle.drive_sets.specs.Loops.Drives.{removed, taken-drives}
 use Rattle.drive_states.specs.declared.Exchange.{Exchange}
@@ -17,8 +16,8 @@ use Rattle.runs.specs.World.{Call, delivers, World}
 use Rattle.agreement.specs.Document01.{document01, apply, applyAll}
 use Rattle.runs.specs.World as worlds
 use Rattle.runs.specs.World.Laws.{applyAll-append}
-use Rattle.simulated_rounds.specs.States.{blank, stateAt, worldOf, listFor}
-use Rattle.simulated_rounds.proofs.Worlds.{world-deliver}
+use Rattle.simulated_sends.specs.States.{blank, stateAt, worldOf, listFor}
+use Rattle.simulated_sends.proofs.Worlds.{world-deliver}
 
 -- the messages with these bytes
 abbrev pub messages : List ℕ → List ℕ → List Call
@@ -95,19 +94,20 @@ abbrev pub Delivered : List ℕ → List Exchange → ℕ → ℕ → List Excha
 Delivered bytes states m sends r = (n : ℕ) → n ≤ 64 → m < 2 ^ n → worldOf n r ≡ applyAll (worldOf n states) (messages bytes (take sends (drives m)))
 
 module _ (n core own sends : ℕ) (bytes : List ℕ) (states : List Exchange) where
-  pub deliver-both : n ≤ 64 → core < 2 ^ n → (others : ℕ) → others ≡ minus core (single own) → (served : List Exchange) → Delivered bytes states others sends served
+  pub deliver-both : (others : ℕ) → others ≡ minus core (single own) → (served : List Exchange) → Delivered bytes states others sends served
       → (left : ℕ) → left ≡ sends - size others → (listeners : ℕ) → listeners ≡ outside n core → (r : List Exchange) → Delivered bytes served listeners left r
-      → worldOf n r ≡ applyAll (worldOf n states) (messages bytes (take sends (listFor n core own)))
+      → (k : ℕ) → k ≤ 64 → core < 2 ^ k → outside n core < 2 ^ k
+      → worldOf k r ≡ applyAll (worldOf k states) (messages bytes (take sends (listFor n core own)))
   unfolding listFor
-  deliver-both few within others e served f left g listeners k r h =
+  deliver-both others e served f left g listeners h r t k few within held =
       let first = take sends (drives others) in
       let last = take left (drives listeners) in
       let both : first ++ last ≡ take sends (drives others ++ drives listeners) =
       ap (λ (j : ℕ). first ++ take j (drives listeners)) (g ∙ ap (λ (j : ℕ). sends - j) (sym (length-drives others)))
       ∙ sym (take-both sends (drives others) (drives listeners)) in
-      h n few (subst (λ (x : ℕ). x < 2 ^ n) (sym k) (outside-lt n core))
-      ∙ (ap (λ (w : World). applyAll w (messages bytes last)) (f n few (subst (λ (x : ℕ). x < 2 ^ n) (sym e) (minus-lt n core (single own) within)))
-      ∙ (sym (applyAll-append document01 (worldOf n states) (messages bytes first) (messages bytes last))
-      ∙ (ap (applyAll (worldOf n states)) (sym (map-append (λ x. delivers x bytes) first last))
-      ∙ (ap (λ (es : List ℕ). applyAll (worldOf n states) (messages bytes es)) both
-      ∙ ap₂ (λ (a b : ℕ). applyAll (worldOf n states) (messages bytes (take sends (drives a ++ drives b)))) e k))))
+      t k few (subst (λ (x : ℕ). x < 2 ^ k) (sym h) held)
+      ∙ (ap (λ (w : World). applyAll w (messages bytes last)) (f k few (subst (λ (x : ℕ). x < 2 ^ k) (sym e) (minus-lt k core (single own) within)))
+      ∙ (sym (applyAll-append document01 (worldOf k states) (messages bytes first) (messages bytes last))
+      ∙ (ap (applyAll (worldOf k states)) (sym (map-append (λ x. delivers x bytes) first last))
+      ∙ (ap (λ (es : List ℕ). applyAll (worldOf k states) (messages bytes es)) both
+      ∙ ap₂ (λ (a b : ℕ). applyAll (worldOf k states) (messages bytes (take sends (drives a ++ drives b)))) e h))))

@@ -1,61 +1,29 @@
--- What the code's values say: the crashes by drive, the world of the array of states, the calls of a round, and the
--- scenario that they are of.
+-- What the code's values say: the crashes by drive, the calls of a round, and the scenario that they are of.
 use mathlib.Core.Path.{_≡_}
-use mathlib.Core.Bool.{Bool, false, not, _&&_, cond}
-use mathlib.Core.List.{List, [], _++_, map}
+use mathlib.Core.Bool.{Bool, not, _&&_, cond}
+use mathlib.Core.List.{List, [], map}
 use Prim.Native.Nat.{ℕ, _-_}
 use lib.ListN.{getD}
 use Rattle.drive_sets.specs.Lists.{range, filter}
-use Rattle.drive_sets.specs.Masks.{has, single, minus, outside, drives}
+use Rattle.drive_sets.specs.Masks.{has}
 use Rattle.drive_states.specs.declared.Exchange.{Exchange}
-use Rattle.drive_states.specs.declared.Announcement.the-variants.{Absent}
-use Rattle.drive_states.specs.declared.Decision.the-variants.{Undecided}
-use Rattle.drive_sets.specs.Counts.{isDrive}
 use Rattle.agreement.specs.Calls.{sending}
-use Rattle.runs.specs.World.{Call, World, unopened, opened, active}
+use Rattle.runs.specs.World.{Call, opened, active}
 use Rattle.runs.specs.Scenario.{Crash, stays, crashes, Scenario, coreOf, goneBefore, goneBy}
 use Rattle.agreement.specs.Sends.{cut}
 use Rattle.runs.specs.Runs.{joined}
 use Rattle.agreement.specs.Canonical.{room, deliveries}
 use Rattle.drive_crashes.specs.declared.Crashes.{Crashes}
 use Rattle.drive_crashes.specs.Crashes.{roundAt}
+use Rattle.simulated_sends.specs.States.{stateAt, listFor}
 
 -- the CR of a drive
 unfoldable pub crashAt : Crashes → ℕ → Crash
 crashAt c d = cond (has d (c .crashed)) (crashes (roundAt (c .rounds) d) (getD (c .sends) (d - 1) 0)) stays
 
--- a state for the places that an array does not have
-abbrev pub blank : Exchange
-blank = record {
-  n = 0;
-  own = record { 0 = 0 };
-  core = 0;
-  round = record { 0 = 0 };
-  before = 0;
-  heard = 0;
-  known = 0;
-  start = 0;
-  numbers = [];
-  announced = Absent;
-  decision = Undecided;
-  halted = false;
-}
-
--- the state of a drive
-unfoldable pub stateAt : List Exchange → ℕ → Exchange
-stateAt states d = getD states (d - 1) blank
-
--- the world in which the drives 1 to n are open and in these states
-unfoldable pub worldOf : ℕ → List Exchange → World
-worldOf n states d = cond (isDrive n d) (opened (stateAt states d)) unopened
-
 -- the drives that close, where they were in these states when the round began
 unfoldable pub closers : ℕ → List Exchange → Crashes → ℕ → List ℕ
 closers n began c round = filter (λ d. active (opened (stateAt began d)) && not (goneBy (crashAt c d) round)) (range 1 n)
-
--- the list of a sender: the other core drives, then the listeners
-unfoldable pub listFor : ℕ → ℕ → ℕ → List ℕ
-listFor n core own = drives (minus core (single own)) ++ drives (outside n core)
 
 -- the drive is called to send, where it was in this state when the round began
 unfoldable pub sendsNow : ℕ → List Exchange → Crashes → ℕ → ℕ → Bool

@@ -1,11 +1,11 @@
 -- The drives of the mask from the lowest, until the sends are used up.
 use borrow.Author.Needs.{needs}
-use Rattle.simulated_rounds.proofs.Deliveries.{Delivering, deliver-start, deliver-turn, deliver-none, deliver-end}
+use Rattle.simulated_sends.proofs.Deliveries.{Delivering, deliver-start, deliver-turn, deliver-none, deliver-end}
 use Rattle.drive_sets.specs.Masks.{size}
 use Rattle.drive_sets.specs.Loops.Drives.{removed, taken-fewer, lowest-bounds}
 use native.Mathlib.Omega.{arith}
-use Rattle.simulated_rounds.proofs.delivering.deliver_to.Statement.{statement}
-use Rattle.simulated_rounds.proofs.delivering.deliver_to.Tie as tie
+use Rattle.simulated_sends.proofs.delivering.deliver_to.Statement.{statement}
+use Rattle.simulated_sends.proofs.delivering.deliver_to.Tie as tie
 
 abbrev Inv-loop : tie.InvT-loop
 Inv-loop bytes m sends all₀ rest₀ left₀ all rest left = Delivering bytes m sends all₀ all rest left
