@@ -1,10 +1,9 @@
--- The minimal hitting sets in the first places of a lent slice, in an order; and what a search that may give up leaves
--- in its list.
+-- The minimal hitting sets in the first places of a lent slice, in an order.
 use mathlib.Core.Path.{_≡_}
-use mathlib.Core.Bool.{Bool, true}
+use mathlib.Core.Bool.{Bool}
 use mathlib.Core.List.{List}
-use Prim.Native.Nat.{ℕ, suc, _≤_, min}
-use lib.ListN.{length, take}
+use Prim.Native.Nat.{ℕ, suc, min}
+use lib.ListN.{length}
 use Rattle.survivor_tables.specs.Hitting.{minimals}
 use Rattle.survivor_tables.specs.Order.{sort}
 use Rattle.drive_sets.specs.Lent.{fitting, bufferAfter}
@@ -20,10 +19,3 @@ roomIn out = min maxCores (length out)
 pub record Found (before : ℕ → ℕ → Bool) (sets out out' : List ℕ) (r : ℕ) : Type 0 where
   pub total : r ≡ min (suc (roomIn out)) (length (minimals sets))
   pub list : out' ≡ bufferAfter (fitting 0 (roomIn out) (sort before (minimals sets))) 0 out
-
--- A search that may give up, in a list with so much room: where it is done r is their number, and one more than the
--- room says that there are more; those that have room stand in the first places, at most 1024 in order. All else in the
--- list is free.
-pub record Attempted (before : ℕ → ℕ → Bool) (sets : List ℕ) (room : ℕ) (list : List ℕ) (done : Bool) (r : ℕ) : Type 0 where
-  pub total : done ≡ true → r ≡ min (suc room) (length (minimals sets))
-  pub listed : done ≡ true → r ≤ room → r ≤ maxCores → take r list ≡ sort before (minimals sets)

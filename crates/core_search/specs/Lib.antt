@@ -1,2 +1,2 @@
--- What the searches leave in a slice.
+-- What the search leaves in a lent slice.
 pub mod Found

@@ -2,9 +2,9 @@
 use mathlib.Core.Path.{refl}
 use native.Mathlib.Omega.{arith}
 use borrow.Author.Needs.{needs}
-use Rattle.core_search.proofs.Turns.{same-room}
-use Rattle.core_search.proofs.finding.search_until_done.Statement.{statement}
-use Rattle.core_search.proofs.finding.search_until_done.Tie as tie
+use Rattle.search_turns.proofs.Turns.{same-room}
+use Rattle.search_turns.proofs.search_until_done.Statement.{statement}
+use Rattle.search_turns.proofs.search_until_done.Tie as tie
 
 returns : tie.Need-returns
 returns c = (c .before .before .before .before .search-once .ensures .0, c .if1 .taken)

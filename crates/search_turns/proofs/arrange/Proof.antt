@@ -3,8 +3,8 @@ use borrow.Author.Needs.{needs}
 use mathlib.Core.Path.{ap, _∙_}
 use Rattle.drive_sets.specs.Lists.{times}
 use Rattle.set_orders.specs.Sorting.Laws.{times-sortFirst}
-use Rattle.core_search.proofs.finding.arrange.Statement.{statement}
-use Rattle.core_search.proofs.finding.arrange.Tie as tie
+use Rattle.search_turns.proofs.arrange.Statement.{statement}
+use Rattle.search_turns.proofs.arrange.Tie as tie
 
 returns-2 : tie.Need-returns-2
 returns-2 c x = ap (times x) (c .before .before .sort .ensures) ∙ times-sortFirst _ x _ _

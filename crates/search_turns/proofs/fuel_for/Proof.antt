@@ -3,8 +3,8 @@ use Prim.Native.Nat.{_+_}
 use native.Mathlib.Nat.{div-le-self}
 use native.Mathlib.Omega.{arith}
 use borrow.Author.Needs.{needs}
-use Rattle.core_search.proofs.finding.fuel_for.Statement.{statement}
-use Rattle.core_search.proofs.finding.fuel_for.Tie as tie
+use Rattle.search_turns.proofs.fuel_for.Statement.{statement}
+use Rattle.search_turns.proofs.fuel_for.Tie as tie
 
 add-result-2 : tie.Need-add-result-2
 add-result-2 c = record { fits = omega (arith, div-le-self (c .before .args .work) (c .before .args .n + 16)) }

@@ -2,10 +2,10 @@
 use native.Mathlib.Omega.{arith}
 use lib.ListN.{replicate}
 use borrow.Author.Needs.{needs}
-use Rattle.core_search.proofs.Finds.{tried-none}
-use Rattle.core_search.proofs.Turns.{tried-copy}
-use Rattle.core_search.proofs.finding.search_again.Statement.{statement}
-use Rattle.core_search.proofs.finding.search_again.Tie as tie
+use Rattle.search_attempts.proofs.Tries.{tried-none}
+use Rattle.search_turns.proofs.Turns.{tried-copy}
+use Rattle.search_turns.proofs.search_again.Statement.{statement}
+use Rattle.search_turns.proofs.search_again.Tie as tie
 
 returns : tie.Need-returns
 returns c = tried-none (c .given-up .ensures)

@@ -6,10 +6,10 @@ use borrow.Author.Needs.{needs}
 use Rattle.set_orders.specs.Sorting.Laws.{precedes-strict}
 use Rattle.drive_sets.specs.Masks.Frames.{below-places}
 use Rattle.search_orders.specs.Rearranged.{Permuted}
-use Rattle.core_search.proofs.Finds.{tried-none}
-use Rattle.core_search.proofs.Turns.{tried-other, same-room}
-use Rattle.core_search.proofs.finding.in_turns.Statement.{statement}
-use Rattle.core_search.proofs.finding.in_turns.Tie as tie
+use Rattle.search_attempts.proofs.Tries.{tried-none}
+use Rattle.search_turns.proofs.Turns.{tried-other, same-room}
+use Rattle.search_turns.proofs.in_turns.Statement.{statement}
+use Rattle.search_turns.proofs.in_turns.Tie as tie
 
 abbrev Inv-loop : tie.InvT-loop
 Inv-loop order sets₀ list₀ ends₀ fuel₀ turn₀ sets list ends fuel turn = Permuted sets₀ sets × (length sets ≡ length sets₀) × (length list ≡ length list₀) × (length ends ≡ length ends₀)

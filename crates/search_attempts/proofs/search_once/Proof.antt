@@ -2,9 +2,9 @@
 use mathlib.Core.Path.{refl}
 use mathlib.Core.Bool.{false}
 use borrow.Author.Needs.{needs}
-use Rattle.core_search.proofs.Finds.{tried-none, tried-more, tried-all, unlimited-all}
-use Rattle.core_search.proofs.finding.search_once.Statement.{statement}
-use Rattle.core_search.proofs.finding.search_once.Tie as tie
+use Rattle.search_attempts.proofs.Tries.{tried-none, tried-more, tried-all, unlimited-all}
+use Rattle.search_attempts.proofs.search_once.Statement.{statement}
+use Rattle.search_attempts.proofs.search_once.Tie as tie
 
 returns : tie.Need-returns
 returns c = (tried-more _ _ _ _ _ _ (search needs) (c .before .before .before .before .before .search-all .ensures) (c .if1 .taken), λ u lt. refl)

@@ -11,7 +11,7 @@ use Rattle.drive_sets.specs.Lists.Times.{elem-same-times}
 use Rattle.survivor_tables.specs.Hitting.{minimals}
 use Rattle.survivor_tables.specs.Hitting.Laws.{hits-same-elements}
 use Rattle.drive_sets.specs.Masks.{Below}
-use Rattle.core_search.specs.Found.{Attempted}
+use Rattle.search_attempts.specs.Attempts.{Attempted}
 use Rattle.search_orders.specs.Rearranged.{Permuted}
 use Rattle.survivor_tables.specs.Order.{sort}
 use Rattle.survivor_tables.specs.Order.Strict.{Strict}

@@ -1,0 +1,2 @@
+-- What one search leaves in its list.
+pub mod Attempts
