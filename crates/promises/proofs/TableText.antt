@@ -12,7 +12,7 @@ use Rattle.survivor_tables.specs.Tables.Laws.{accepted-normal}
 use Rattle.text.specs.declared.Base.the-variants.{Decimal}
 use Rattle.text.specs.Text.{named}
 use Rattle.table_files.specs.Files.Laws.{table-read, whole-table}
-use Rattle.verdicts.specs.Verdicts.{verdictGiven}
+use Rattle.verdicts.specs.Calls.{verdictGiven}
 use Rattle.verdict_lines.specs.VerdictLines.{verdictLine, verdictLines}
 use Rattle.verdict_lines.specs.VerdictLines.Laws.{few-line, more-line}
 use Rattle.table_listing.specs.TableListing.{listing, tableProgram}

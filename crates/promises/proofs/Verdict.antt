@@ -14,11 +14,13 @@ use Rattle.drive_sets.specs.Refusals.Laws.{refused-no-result, refused-by, first
 use Rattle.survivor_tables.specs.Order.{normal}
 use Rattle.survivor_tables.specs.Tables.{normalTable, Accepted}
 use Rattle.survivor_tables.specs.Tables.Laws.{accepted-normal, table-accepted, table-refused}
-use Rattle.verdicts.specs.Verdicts.{verdictOn, judged, verdict}
-use Rattle.verdicts.specs.Verdicts.Call.{block-count-within, verdict-answered, given-normal, given-few, given-more}
-use Rattle.verdicts.specs.Verdicts.Intersection.{yes-intersection}
-use Rattle.verdicts.specs.Verdicts.Partition.{yes-partition}
-use Rattle.verdicts.specs.Verdicts.Witness.{no-witness}
+use Rattle.verdict_search.specs.Verdicts.{verdictOn}
+use Rattle.verdicts.specs.Calls.{judged, verdict}
+use Rattle.verdict_search.specs.Verdicts.BlockCounts.{block-count-within}
+use Rattle.verdicts.specs.Calls.Laws.{verdict-answered, given-normal, given-few, given-more}
+use Rattle.verdict_search.specs.Verdicts.Intersection.{yes-intersection}
+use Rattle.verdicts.specs.Partitions.Laws.{yes-partition}
+use Rattle.verdicts.specs.Partitions.Witness.{no-witness}
 use Rattle.promises.specs.Verdict.{VerdictSays, VerdictOfCall, VerdictGiven, FewRefused}
 
 pub verdict-of-call : VerdictOfCall

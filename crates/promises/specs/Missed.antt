@@ -13,7 +13,7 @@ use Rattle.drive_sets.specs.Masks.{has, subset}
 use Rattle.drive_sets.specs.Refusals.{result}
 use Rattle.survivor_tables.specs.Order.{normal}
 use Rattle.survivor_tables.specs.Tables.{isSet, cores, missedSet, Accepted}
-use Rattle.verdicts.specs.Verdicts.{setAt}
+use Rattle.verdict_search.specs.Verdicts.{setAt}
 
 -- a drive of the set is in the group
 abbrev pub Meet : ℕ → ℕ → Type 0

@@ -11,7 +11,7 @@ use Rattle.survivor_tables.specs.Tables.{cores, chosen}
 use Rattle.text.specs.declared.Base.the-variants.{Decimal, Hexadecimal}
 use Rattle.text.specs.Text.{named, line, lines}
 use Rattle.table_files.specs.Files.{ReadTable, readWhole}
-use Rattle.verdicts.specs.Verdicts.{verdictOn}
+use Rattle.verdict_search.specs.Verdicts.{verdictOn}
 use Rattle.verdict_lines.specs.VerdictLines.{verdictPart}
 use Rattle.table_listing.specs.TableListing.{tableProgram}
 

@@ -12,8 +12,10 @@ use Prim.Native.Nat.{ℕ, _≤_, _<_}
 use Rattle.drive_sets.specs.Refusals.{refused, result}
 use Rattle.survivor_tables.specs.Order.{normal}
 use Rattle.survivor_tables.specs.Tables.{Accepted}
-use Rattle.verdicts.specs.Verdicts.{Verdict, yes, no, verdict}
-use Rattle.verdicts.specs.Meaning.{Intersection, Partition, NoWitness}
+use Rattle.verdict_search.specs.Verdicts.{Verdict, yes, no}
+use Rattle.verdicts.specs.Calls.{verdict}
+use Rattle.verdict_search.specs.Meaning.{Intersection}
+use Rattle.verdicts.specs.Partitions.{Partition, NoWitness}
 
 pub record VerdictSays (k n : ℕ) (table : List ℕ) (v : Verdict) : Type 0 where
   -- yes exactly if every k sets of the table, repeats allowed, share a drive

@@ -15,9 +15,9 @@ use Rattle.tables.specs.declared.completing.TableWithCores.{TableWithCores}
 use Rattle.tables.specs.Complete.{completeTable, completeOutcome}
 use Rattle.survivor_tables.specs.Tables.{cores, coreList}
 use Rattle.tables.proofs.Accepts.{accept-taken, asks-refused, asks-taken}
-use Rattle.verdicts.specs.declared.Verdict.{Verdict as Held}
+use Rattle.verdict_search.specs.declared.Verdict.{Verdict as Held}
 use Rattle.verdicts.specs.Held.{heldIn}
-use Rattle.verdicts.specs.Verdicts.{Verdict}
+use Rattle.verdict_search.specs.Verdicts.{Verdict}
 use Rattle.c_replies.specs.declared.SizeReply.{SizeReply}
 use Rattle.table_calls.specs.declared.calls.VerdictReply.{VerdictReply}
 use Rattle.c_replies.specs.Replies.{refusalIn, refusalOf, sizeReply, flagOf}

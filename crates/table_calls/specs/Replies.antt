@@ -8,7 +8,7 @@ use Rattle.drive_sets.specs.Positions.{positionNumber}
 use Rattle.drive_sets.specs.Refusals.{Outcome, refused, result, andThen}
 use Rattle.drive_sets.specs.Lent.{fitting}
 use Rattle.table_files.specs.Files.{ReadTable}
-use Rattle.verdicts.specs.Verdicts.{Verdict}
+use Rattle.verdict_search.specs.Verdicts.{Verdict}
 use Rattle.verdicts.specs.Held.{heldIn}
 use Rattle.c_replies.specs.Replies.{refusalOf, flagOf}
 use Rattle.table_calls.specs.declared.reading.TableReply.{TableReply}

@@ -7,7 +7,7 @@ ghost use Rattle.survivor_tables.specs.Tables.{coreList, missedSet, survivorSet
 ghost use Rattle.table_writing.specs.Writing.{writeTable};
 ghost use Rattle.threshold.specs.Threshold.{thresholdList};
 ghost use Rattle.drive_sets.specs.Lent.{fitting, sizeWritten, bufferAfter};
-ghost use Rattle.verdicts.specs.Verdicts.{verdict};
+ghost use Rattle.verdicts.specs.Calls.{verdict};
 ghost use Rattle.c_replies.specs.Replies.{sizeReply};
 ghost use Rattle.table_calls.specs.Replies.{missedReply, verdictReply};
 use crate::lists;

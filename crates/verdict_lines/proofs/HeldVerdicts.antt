@@ -6,9 +6,9 @@ use Prim.Native.Nat.{ℕ, _-_}
 use native.Mathlib.Omega.{arith}
 use lib.ListN.{length, getD, take}
 use Rattle.drive_sets.specs.Bools.Laws.{cond-true, cond-false}
-use Rattle.verdicts.specs.declared.Verdict.{Verdict as Held}
-use Rattle.verdicts.specs.Verdicts.{yes, no}
-use Rattle.verdicts.specs.Held.{verdictOf}
+use Rattle.verdict_search.specs.declared.Verdict.{Verdict as Held}
+use Rattle.verdict_search.specs.Verdicts.{yes, no}
+use Rattle.verdict_search.specs.Held.{verdictOf}
 
 -- four positions are the four items of their array
 pub all-four : (l : List ℕ) → length l ≡ 4 → getD l 0 0 ∷ getD l 1 0 ∷ getD l 2 0 ∷ getD l 3 0 ∷ [] ≡ l

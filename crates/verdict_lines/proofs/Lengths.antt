@@ -6,8 +6,9 @@ use native.Mathlib.Omega.{arith}
 use lib.ListN.{length, length-append}
 use Rattle.drive_sets.specs.Refusals.{Outcome, refused, result}
 use Rattle.records.specs.Marks.{ascii}
-use Rattle.verdicts.specs.Verdicts.{Verdict, yes, no, verdictGiven}
-use Rattle.verdicts.specs.Verdicts.Call.{given-counts}
+use Rattle.verdict_search.specs.Verdicts.{Verdict, yes, no}
+use Rattle.verdicts.specs.Calls.{verdictGiven}
+use Rattle.verdicts.specs.Calls.Laws.{given-counts}
 use Rattle.text.specs.declared.Base.the-variants.{Decimal, Hexadecimal}
 use Rattle.text.specs.Text.{fields, named}
 use Rattle.text.proofs.Lengths.{fields-length, named-length}

@@ -5,7 +5,8 @@ use mathlib.Core.List.{List, _++_}
 use Prim.Native.Nat.{ℕ}
 use Rattle.drive_sets.specs.Refusals.{Outcome, refused, result}
 use Rattle.records.specs.Marks.{ascii}
-use Rattle.verdicts.specs.Verdicts.{Verdict, yes, no, verdictGiven}
+use Rattle.verdict_search.specs.Verdicts.{Verdict, yes, no}
+use Rattle.verdicts.specs.Calls.{verdictGiven}
 use Rattle.text.specs.declared.Base.the-variants.{Decimal, Hexadecimal}
 use Rattle.text.specs.Text.{fields, named}
 pub mod Laws

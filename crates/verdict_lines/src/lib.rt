@@ -2,15 +2,16 @@
 ghost use mathlib.Core.Path.{_≡_};
 ghost use Prim.Native.Nat.{_≤_};
 ghost use Rattle.drive_sets.specs.Filled.{Filled};
-ghost use Rattle.verdicts.specs.Held.{verdictOf, judgementOf};
-ghost use Rattle.verdicts.specs.Verdicts.{verdictGiven};
+ghost use Rattle.verdict_search.specs.Held.{verdictOf};
+ghost use Rattle.verdicts.specs.Held.{judgementOf};
+ghost use Rattle.verdicts.specs.Calls.{verdictGiven};
 ghost use Rattle.verdict_lines.specs.VerdictLines.{noPart, verdictPart, verdictLine, verdictLines};
 use drive_sets::Answer;
 use text::Base;
 use text::lines::put_fields;
 use text::lines::put_named;
 use text::text::put_all;
-use verdicts::Verdict;
+use verdict_search::Verdict;
 use verdicts::calls::Judgement;
 
 // The positions as the numbers of fields.

@@ -1,4 +1,4 @@
--- The verdict on k, what it means, the theorems, and what the code's values say.
-pub mod Verdicts
-pub mod Meaning
+-- The verdict of a call, what it means for splits with the theorems, and what the code's values say.
+pub mod Calls
+pub mod Partitions
 pub mod Held

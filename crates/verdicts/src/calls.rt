@@ -1,31 +1,23 @@
 // The verdict calls: given n and sets, 12, then the table's refusals, then 33; and given a normal table, 12, then what
 // needs no search for cores, then 33.
 ghost use mathlib.Core.Path.{_≡_};
-ghost use mathlib.Core.Bool.{_&&_};
 ghost use Prim.Native.Nat.{ℕ, _≤_};
-ghost use lib.Dec.{leb};
 ghost use lib.ListN.{length};
 ghost use Rattle.drive_sets.specs.Refusals.{refused, number};
-ghost use Rattle.verdicts.specs.Verdicts.{judged, verdict, verdictGiven};
+ghost use Rattle.verdicts.specs.Calls.{judged, verdict, verdictGiven};
 ghost use Rattle.verdicts.specs.Held.{judgementOf, heldIn};
 ghost use Rattle.drive_sets.specs.Limits.{maxSets};
-use crate::MAX_BLOCKS;
-use crate::MIN_BLOCKS;
-use crate::Verdict;
 use drive_sets::Answer;
 use drive_sets::Refusal;
+use verdict_search::Verdict;
+use verdict_search::find_verdict;
+use verdict_search::is_block_count;
+use verdict_search::no_verdict;
 
 // A verdict where the call is accepted.
 pub struct Judgement {
     pub answer: Answer,
     pub verdict: Verdict,
-}
-
-// k, the number of blocks, is 2 to 4.
-fn is_block_count(k: u8) -> bool
-    ensures { λ r. ⌜ r ≡ (leb 2 k && leb k 4) ⌝ }
-{
-    MIN_BLOCKS <= k && k <= MAX_BLOCKS
 }
 
 fn refused(r: Refusal) -> Judgement
@@ -34,11 +26,7 @@ fn refused(r: Refusal) -> Judgement
 {
     Judgement {
         answer: Answer::Refused(r),
-        verdict: Verdict {
-            shared: false,
-            positions: [0u8; 4],
-            blocks: [0u64; 4],
-        },
+        verdict: no_verdict(),
     }
 }
 
@@ -53,7 +41,7 @@ fn on_normal(k: u8, n: u8, table: &[u64]) -> Judgement
     }
     Judgement {
         answer: Answer::Accepted,
-        verdict: crate::find_verdict(k, n, table),
+        verdict: find_verdict(k, n, table),
     }
 }
 

@@ -7,7 +7,8 @@ use Rattle.drive_sets.specs.Masks.{outside, lowest, ofDrives}
 use Rattle.survivor_tables.specs.Tables.{checkedSets, chosenCore}
 use Rattle.records.specs.RecordLists.{nextOf, widthOf, stepOf, readFrom, readList}
 use Rattle.table_files.specs.Files.{dueAfter, takenSet, readListed, accepted, readTable, readWhole}
-use Rattle.verdicts.specs.Verdicts.{firstWith, disjoint, blocksOf, verdictOn, judged, verdictGiven}
+use Rattle.verdict_search.specs.Verdicts.{firstWith, disjoint, blocksOf, verdictOn}
+use Rattle.verdicts.specs.Calls.{judged, verdictGiven}
 use Rattle.splits.specs.Splits.{withMove, moved, moves, fillEmpty}
 use Rattle.agreement.specs.Calls.Evaluated.{evaluated}
 use Rattle.sync_crash.specs.Rounds.{start, smallestOf, sends, reaches, adds, known, announces, announced, heard, unchanged, stable, ifStable, decides, halts, closes, closed, step, after}

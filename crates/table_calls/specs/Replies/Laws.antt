@@ -22,7 +22,7 @@ use Rattle.table_files.specs.Files.{ReadTable, takenSet, setList, listedTable, 
 use Rattle.table_writing.specs.Writing.{writeTable}
 use Rattle.tables.specs.Complete.{completeTable}
 use Rattle.threshold.specs.Threshold.{thresholdSets, thresholdTable, thresholdList}
-use Rattle.verdicts.specs.Verdicts.{judged, verdict}
+use Rattle.verdicts.specs.Calls.{judged, verdict}
 use Rattle.c_replies.specs.Replies.{refusalOf}
 use Rattle.table_calls.specs.Replies.{fittingTable, tableReply, missedReply}
 

@@ -5,7 +5,8 @@ use Rattle.drive_sets.specs.declared.Answer.{Answer}
 use Rattle.drive_sets.specs.Refusals.{outcomeOf}
 use Rattle.drive_sets.specs.Filled.Laws.{filled-same}
 use Rattle.text.proofs.Puts.{filled-both}
-use Rattle.verdicts.specs.Held.{verdictOf, judgementOf}
+use Rattle.verdict_search.specs.Held.{verdictOf}
+use Rattle.verdicts.specs.Held.{judgementOf}
 use Rattle.verdict_lines.specs.VerdictLines.{verdictLine}
 use borrow.Author.Needs.{needs}
 use Rattle.verdict_lines.proofs.put_verdict.Statement.{statement}

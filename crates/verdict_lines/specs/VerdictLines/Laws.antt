@@ -5,8 +5,9 @@ use Prim.Native.Nat.{ℕ, _≤_, _<_}
 use Rattle.drive_sets.specs.Refusals.{Outcome}
 use Rattle.records.specs.Marks.{ascii}
 use Rattle.survivor_tables.specs.Tables.{Accepted}
-use Rattle.verdicts.specs.Verdicts.{Verdict, verdictOn, verdictGiven}
-use Rattle.verdicts.specs.Verdicts.Call.{given-few, given-more}
+use Rattle.verdict_search.specs.Verdicts.{Verdict, verdictOn}
+use Rattle.verdicts.specs.Calls.{verdictGiven}
+use Rattle.verdicts.specs.Calls.Laws.{given-few, given-more}
 use Rattle.text.specs.declared.Base.the-variants.{Decimal}
 use Rattle.text.specs.Text.{named}
 use Rattle.verdict_lines.specs.VerdictLines.{verdictPart, answerPart, verdictLine}

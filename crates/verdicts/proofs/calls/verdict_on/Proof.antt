@@ -1,9 +1,9 @@
 -- 12, what is met before the cores are looked for, or the verdict on the table.
 use mathlib.Core.Path.{sym}
-use Rattle.verdicts.specs.Verdicts.{verdictGiven}
+use Rattle.verdicts.specs.Calls.{verdictGiven}
 use Rattle.survivor_tables.specs.Tables.Laws.{checked-most}
 use Rattle.tables.proofs.Completes.{check-said}
-use Rattle.verdicts.proofs.Answers.{count-bounds}
+use Rattle.verdict_search.proofs.Answers.{count-bounds}
 use borrow.Author.Needs.{needs}
 use Rattle.verdicts.proofs.calls.verdict_on.Statement.{statement}
 use Rattle.verdicts.proofs.calls.verdict_on.Tie as tie
