@@ -57,7 +57,7 @@ def copy_of_repository(work: Path) -> tuple[Path, dict[str, str]]:
         shutil.copy(ROOT / name, copy / name)
     for name in ("tools", "reference"):
         shutil.copytree(ROOT / name, copy / name, ignore=shutil.ignore_patterns("__pycache__"))
-    for name in ("tables", "table_program", "run_listing"):
+    for name in ("complete_tables", "table_program", "run_listing"):
         (copy / "crates" / name / "src").mkdir(parents=True)
         (copy / "crates" / name / "src" / "lib.rt").write_text(name)
     (bin_ / "rt").write_text(STAND_IN)
@@ -123,7 +123,7 @@ def builds(work: Path) -> Iterator[Case]:
         count, f"regdulyn: building table_program from {count} crates",
         f"regdulyn: proved {NEEDED[1]}, 2 of {count} crates",
         f"regdulyn: proved table_program, {count} of {count} crates")
-    yield "build, log", "fn tables::some: proved" in (copy / "target" / "build.log").read_text(), True
+    yield "build, log", "fn complete_tables::some: proved" in (copy / "target" / "build.log").read_text(), True
     yield "second use", (table(), calls(copy)), ((0, b"first\n", ""), 2)
     yield "no listing to draw", regdulyn("picture", a, root=copy, env=env), (
         3, b"", f"regdulyn: cannot draw {a}: this is not the listing of a table\n")
@@ -131,15 +131,15 @@ def builds(work: Path) -> Iterator[Case]:
     (copy / "answer").write_text("refused 6")
     (copy / "crates/run_listing/src/lib.rt").write_text("changed")
     yield "another crate changes", (table()[1], calls(copy)), (b"first\n", 2)
-    os.utime(copy / "crates/tables/src/lib.rt")
+    os.utime(copy / "crates/complete_tables/src/lib.rt")
     yield "only a time changes", (table()[1], calls(copy)), (b"first\n", 2)
-    (copy / "crates/tables/src/more.rt").write_text("new")
-    os.utime(copy / "crates/tables/src/more.rt", (0, 0))
+    (copy / "crates/complete_tables/src/more.rt").write_text("new")
+    os.utime(copy / "crates/complete_tables/src/more.rt", (0, 0))
     status, printed, said = table()
     yield "an old file is new", (status, printed, said.splitlines()[-1], calls(copy)), (
         1, b"refused 6\n", "regdulyn: refused 6: the count after EN differs", 3)
     (copy / "answer").write_text("third")
-    (copy / "crates/tables/src/more.rt").unlink()
+    (copy / "crates/complete_tables/src/more.rt").unlink()
     yield "a file is gone", (table()[1], calls(copy)), (b"third\n", 4)
     (copy / "target/bin/table_program").unlink()
     yield "the command keeps its program", (table()[1], calls(copy)), (b"third\n", 4)
@@ -161,7 +161,7 @@ def interrupts(copy: Path, env: dict[str, str], file: str) -> Iterator[Case]:
     """A signal in a build ends all of it, and the next use works; a build whose command is killed is waited for."""
     for number, status in ((signal.SIGINT, 130), (signal.SIGTERM, 143)):
         (copy / "slow").touch()
-        (copy / "crates/tables/src/lib.rt").write_text(f"for {status}")
+        (copy / "crates/complete_tables/src/lib.rt").write_text(f"for {status}")
         before = calls(copy)
         started = subprocess.Popen([copy / "regdulyn", "table", file], env=env, stdout=subprocess.PIPE,
                                    stderr=subprocess.PIPE, preexec_fn=heed_interrupts)
@@ -177,7 +177,7 @@ def interrupts(copy: Path, env: dict[str, str], file: str) -> Iterator[Case]:
         (copy / "sleeper").unlink()
         (copy / "answer").write_text(f"after {status}")
         yield f"next use after {status}", regdulyn("table", file, root=copy, env=env)[:2], (0, b"after %d\n" % status)
-    (copy / "crates/tables/src/lib.rt").write_text("for a kill")
+    (copy / "crates/complete_tables/src/lib.rt").write_text("for a kill")
     (copy / "pause").touch()
     started = subprocess.Popen([copy / "regdulyn", "table", file], env=env, stdout=subprocess.PIPE,
                                stderr=subprocess.PIPE)
@@ -192,7 +192,7 @@ def interrupts(copy: Path, env: dict[str, str], file: str) -> Iterator[Case]:
 
 def at_the_same_time(copy: Path, env: dict[str, str], file: str) -> Iterator[Case]:
     """Of several commands one builds."""
-    (copy / "crates/tables/src/lib.rt").write_text("for several")
+    (copy / "crates/complete_tables/src/lib.rt").write_text("for several")
     (copy / "answer").write_text("several")
     (copy / "pause").touch()
     before = calls(copy)
@@ -230,7 +230,7 @@ def libraries(work: Path) -> Iterator[Case]:
     slow.write_text(f'#!/bin/sh\n{shutil.which("ar")} "$@" && sleep 0.5\n')
     slow.chmod(0o755)
     for changed, made_again in (("for several", 3), ("for several", 0)):
-        (copy / "crates/tables/src/lib.rt").write_text(changed)
+        (copy / "crates/complete_tables/src/lib.rt").write_text(changed)
         before = calls(copy)
         started = [subprocess.Popen([copy / "regdulyn", "library"], env=env, stdout=subprocess.PIPE,
                                     stderr=subprocess.PIPE) for _ in range(4)]

@@ -16,8 +16,8 @@ use Rattle.survivor_tables.specs.Hitting.Laws.{hits-meets, minimal-lt}
 use Rattle.survivor_tables.specs.Order.{normal}
 use Rattle.survivor_tables.specs.Tables.{isSet, cores, survivorSets, Accepted}
 use Rattle.survivor_tables.specs.Tables.Laws.{accepted-frame, sets-below, sets-word, accepted-normal, core-minimal, dual-cores, some-core}
-use Rattle.tables.specs.Complete.{Complete, withCores}
-use Rattle.tables.proofs.Completes.{some-elements}
+use Rattle.complete_tables.specs.Complete.{Complete, withCores}
+use Rattle.complete_tables.proofs.Completes.{some-elements}
 use Rattle.promises.specs.Back.{BackFromCores, BackOf, BackFromCall, BackFromRead, BackFromWhole}
 use Rattle.promises.proofs.Tables.{TableOf, call-table, read-table, whole-read}
 

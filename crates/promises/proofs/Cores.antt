@@ -24,7 +24,7 @@ use Rattle.survivor_tables.specs.Order.Strict.{bySize-strict, strict-irr}
 use Rattle.survivor_tables.specs.Order.Normal.{normal-elem, antichain-normal, holds-normal}
 use Rattle.survivor_tables.specs.Tables.{coreOrder, cores, chosen, Accepted}
 use Rattle.survivor_tables.specs.Tables.Laws.{core-given, sets-below, sets-word, accepted-normal, core-minimal, minimal-core, cores-ordered, some-core}
-use Rattle.tables.specs.Complete.{Complete, withCores}
+use Rattle.complete_tables.specs.Complete.{Complete, withCores}
 use Rattle.promises.specs.Cores.{TableSays, FirstCore, ListingDescribes, CoresOfCall, ChosenOfCall, CoresOfRead, CoresOfWhole, CoresOfSurvivors}
 use Rattle.promises.proofs.Tables.{call-table, read-table, whole-read}
 

@@ -23,7 +23,7 @@ use Rattle.survivor_tables.specs.Tables.Laws.{table-accepted, accepted-table, a
 use Rattle.table_files.specs.Files.{ReadTable, readTable, tableBytes}
 use Rattle.table_writing.specs.Writing.{writeTable}
 use Rattle.table_files.specs.Files.Laws.{read-written, table-whole}
-use Rattle.tables.specs.Complete.{Complete, withCores}
+use Rattle.complete_tables.specs.Complete.{Complete, withCores}
 use Rattle.table_files.specs.WithCores.{readWithCores, readComplete, readWholeComplete}
 use Rattle.promises.specs.RoundTrip.{ReadsBack, WrittenReadsBack, ReadsAgain, ReadIsWritten}
 use Rattle.promises.proofs.Tables.{TableOf, read-table}

@@ -9,7 +9,7 @@ use Rattle.survivor_tables.specs.Tables.{normalTable, Accepted}
 use Rattle.survivor_tables.specs.Tables.Laws.{table-accepted}
 use Rattle.table_files.specs.Files.{ReadTable, readTable, readWhole}
 use Rattle.table_files.specs.Files.Laws.{table-read, whole-table}
-use Rattle.tables.specs.Complete.{Complete, withCores, completeTable}
+use Rattle.complete_tables.specs.Complete.{Complete, withCores, completeTable}
 use Rattle.table_files.specs.WithCores.{ReadComplete, readWithCores, readComplete, readWholeComplete}
 
 -- the table beside its cores is the normal table of some accepted sets

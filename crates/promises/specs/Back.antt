@@ -6,7 +6,7 @@ use Prim.Native.Nat.{ℕ}
 use Rattle.drive_sets.specs.Refusals.{result}
 use Rattle.survivor_tables.specs.Order.{normal}
 use Rattle.survivor_tables.specs.Tables.{cores, survivorSets, Accepted}
-use Rattle.tables.specs.Complete.{Complete, completeTable}
+use Rattle.complete_tables.specs.Complete.{Complete, completeTable}
 use Rattle.table_files.specs.WithCores.{ReadComplete, readComplete, readWholeComplete}
 
 -- from the cores of an accepted table Back gives the normal table, and so refuses none

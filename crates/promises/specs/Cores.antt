@@ -12,7 +12,7 @@ use Rattle.drive_sets.specs.Refusals.{result}
 use Rattle.survivor_tables.specs.Executions.{Core, Survivor, Describes}
 use Rattle.survivor_tables.specs.Order.{normal}
 use Rattle.survivor_tables.specs.Tables.{coreOrder, Accepted, chosenCore}
-use Rattle.tables.specs.Complete.{Complete, completeTable}
+use Rattle.complete_tables.specs.Complete.{Complete, completeTable}
 use Rattle.table_files.specs.WithCores.{ReadComplete, readComplete, readWholeComplete}
 
 -- what a table with its cores says of executions of which `correct` gives the correct processes

@@ -10,7 +10,7 @@ use Rattle.records.specs.LentBuffers.{writingOutcome, WrittenIfRoom}
 use Rattle.survivor_tables.specs.Order.{normal}
 use Rattle.table_files.specs.Files.{tableBytes}
 use Rattle.table_writing.specs.Writing.{writeTable}
-use Rattle.tables.specs.Complete.{Complete, withCores}
+use Rattle.complete_tables.specs.Complete.{Complete, withCores}
 use Rattle.table_files.specs.WithCores.{ReadComplete, readComplete, readWholeComplete}
 
 -- a table of so many bytes was written from the starting place on, over the old bytes

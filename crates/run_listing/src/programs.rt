@@ -1,7 +1,7 @@
 // The run program as a function: from the bytes on the input to the text that is printed, in a lent buffer.
 ghost use Prim.Native.Nat.{_≤_};
 ghost use Rattle.drive_sets.specs.Filled.{Filled};
-ghost use Rattle.tables.specs.Complete.{setsOf};
+ghost use Rattle.complete_tables.specs.Complete.{setsOf};
 ghost use Rattle.simulation.specs.Endings.{simulatedOutcome};
 ghost use Rattle.run_listing.specs.RunListing.{runText, simulatedWith, runProgram};
 ghost use Rattle.text.specs.Printing.{Printed};

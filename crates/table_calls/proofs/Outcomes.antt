@@ -11,10 +11,10 @@ use Rattle.drive_sets.specs.declared.Refusal.the-variants.{NoRoom}
 use Rattle.drive_sets.specs.Refusals.{Outcome, refused, result, andThen, number, outcomeOf}
 use Rattle.drive_sets.specs.Lent.{fitting, sizeWritten, bufferAfter}
 use Rattle.drive_sets.specs.Lent.Laws.{has-room, no-room, after-copy, after-none}
-use Rattle.tables.specs.declared.completing.TableWithCores.{TableWithCores}
-use Rattle.tables.specs.Complete.{completeTable, completeOutcome}
+use Rattle.complete_tables.specs.declared.TableWithCores.{TableWithCores}
+use Rattle.complete_tables.specs.Complete.{completeTable, completeOutcome}
 use Rattle.survivor_tables.specs.Tables.{cores, coreList}
-use Rattle.tables.proofs.Accepts.{accept-taken, asks-refused, asks-taken}
+use Rattle.complete_tables.proofs.Accepts.{accept-taken, asks-refused, asks-taken}
 use Rattle.verdict_search.specs.declared.Verdict.{Verdict as Held}
 use Rattle.verdicts.specs.Held.{heldIn}
 use Rattle.verdict_search.specs.Verdicts.{Verdict}

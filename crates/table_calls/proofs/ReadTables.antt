@@ -17,9 +17,9 @@ use Rattle.drive_sets.specs.Refusals.{Outcome, refused, result, andThen, number
 use Rattle.drive_sets.specs.Refusals.Laws.{first-result}
 use Rattle.drive_sets.specs.Lent.{fitting, bufferAfter}
 use Rattle.drive_sets.specs.Lent.Laws.{has-room, no-room, written-fits, writtenAt-start}
-use Rattle.tables.specs.declared.completing.TableWithCores.{TableWithCores}
+use Rattle.complete_tables.specs.declared.TableWithCores.{TableWithCores}
 use Rattle.survivor_tables.specs.declared.frames.Table.{Table}
-use Rattle.tables.specs.Complete.{Complete, withCores, completeOutcome, setsOf}
+use Rattle.complete_tables.specs.Complete.{Complete, withCores, completeOutcome, setsOf}
 use Rattle.table_files.specs.Files.{ReadTable, readTable, readWhole}
 use Rattle.table_files.specs.WithCores.{readWithCores, readComplete, readWholeComplete, tableRead, restAfter}
 use Rattle.table_files.specs.Files.Laws.{whole-table}

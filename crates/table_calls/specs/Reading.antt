@@ -8,7 +8,7 @@ use Rattle.drive_sets.specs.declared.Answer.the-variants.{Accepted, Refused}
 use Rattle.drive_sets.specs.declared.Refusal.{Refusal}
 use Rattle.drive_sets.specs.Refusals.{Outcome, refused, result, number}
 use Rattle.survivor_tables.specs.declared.frames.Table.{Table}
-use Rattle.tables.specs.Complete.{setsOf}
+use Rattle.complete_tables.specs.Complete.{setsOf}
 use Rattle.table_files.specs.Files.{ReadTable}
 
 -- the refusal of what is read, or its table, which took so many of the bytes s

@@ -52,7 +52,7 @@ pub extern "C" fn regdulyn_cores(n: u8, sets: &[u64], out: &mut [u64]) -> SizeRe
     ensures { λ r. ⌜ r ≡ sizeReply (sizeWritten (andThen (coreList n (now (sets .entry))) (fitting 0 (length (now (out .entry)))))) ⌝ }
     ensures { λ _. ⌜ now (out .exit) ≡ bufferAfter (andThen (coreList n (now (sets .entry))) (fitting 0 (length (now (out .entry))))) 0 (now (out .entry)) ⌝ }
 {
-    let t = tables::completing::accept(n, sets);
+    let t = complete_tables::accept(n, sets);
     let answer = t.answer;
     let cores = t.cores;
     let found = t.found;

@@ -9,15 +9,15 @@ use Rattle.drive_sets.specs.declared.Answer.the-variants.{Accepted, Refused}
 use Rattle.drive_sets.specs.declared.Refusal.{Refusal}
 use Rattle.drive_sets.specs.Refusals.{Outcome, refused, result, andThen, number, outcomeOf}
 use Rattle.drive_sets.specs.Refusals.Laws.{refused-no-result, first-result, same-result}
-use Rattle.tables.specs.declared.completing.TableWithCores.{TableWithCores}
+use Rattle.complete_tables.specs.declared.TableWithCores.{TableWithCores}
 use Rattle.table_files.specs.declared.reading.TableRead.{TableRead}
 use Rattle.survivor_tables.specs.Tables.{cores, withinCoreLimit, normalTable}
 use Rattle.table_files.specs.Files.{ReadTable, accepted, readListed, readTable}
 use Rattle.table_files.specs.Files.Laws.{listed-checked}
-use Rattle.tables.specs.Complete.{setsOf, Complete, withCores, completeSets, completeTable, completeOutcome}
+use Rattle.complete_tables.specs.Complete.{setsOf, Complete, withCores, completeSets, completeTable, completeOutcome}
 use Rattle.table_files.specs.Reading.{readOutcome}
 use Rattle.table_files.specs.WithCores.{completed, ReadComplete, readWithCores, readComplete, tableRead, restAfter}
-use Rattle.tables.proofs.Accepts.{then-refused}
+use Rattle.complete_tables.proofs.Accepts.{then-refused}
 
 -- a listing that is accepted, with its cores, and with what stands behind
 pub accepted-completed : (t : ReadTable) → andThen (accepted t) (λ a. result (withCores (a .n) (a .sets))) ≡ completed t

@@ -6,7 +6,7 @@ use lib.ListN.{length, drop}
 use Rattle.drive_sets.specs.Refusals.{Outcome, refused, result, number, outcomeOf}
 use Rattle.table_files.specs.declared.reading.Step.{Step}
 use Rattle.table_files.specs.declared.reading.Step.the-variants.{Set, End, Stop}
-use Rattle.tables.specs.Complete.{setsOf}
+use Rattle.complete_tables.specs.Complete.{setsOf}
 use Rattle.table_files.specs.declared.reading.TableRead.{TableRead}
 use Rattle.drive_sets.specs.Limits.{maxSets}
 use Rattle.table_files.specs.Files.{ReadTable}

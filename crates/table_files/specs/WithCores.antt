@@ -2,7 +2,7 @@
 use mathlib.Core.List.{List}
 use Prim.Native.Nat.{ℕ}
 use Rattle.drive_sets.specs.Refusals.{Outcome, refused, result, andThen}
-use Rattle.tables.specs.Complete.{Complete, withCores, completeSets}
+use Rattle.complete_tables.specs.Complete.{Complete, withCores, completeSets}
 use Rattle.table_files.specs.Files.{ReadTable, readTable, readWhole}
 
 -- what is listed, made complete

@@ -3,16 +3,15 @@ ghost use mathlib.Core.Path.{_≡_};
 ghost use Prim.Native.Nat.{_≤_};
 ghost use Rattle.drive_sets.specs.Limits.{maxSets};
 ghost use Rattle.drive_sets.specs.Refusals.{andThen};
-ghost use Rattle.tables.specs.Complete.{completeOutcome, CompleteWithin};
+ghost use Rattle.complete_tables.specs.Complete.{completeOutcome, CompleteWithin};
 ghost use Rattle.table_files.specs.Files.{readListed};
 ghost use Rattle.table_files.specs.Reading.{readOutcome};
 ghost use Rattle.table_files.specs.WithCores.{completed, readComplete, tableRead, restAfter, readWholeComplete};
 use crate::reading;
 use crate::reading::TableRead;
+use complete_tables::TableWithCores;
 use drive_sets::Answer;
 use drive_sets::Refusal;
-use tables::completing;
-use tables::completing::TableWithCores;
 
 // What the bytes list, made complete.
 fn finish(s: &[u8], listed: TableRead) -> TableWithCores
@@ -25,8 +24,8 @@ fn finish(s: &[u8], listed: TableRead) -> TableWithCores
     let sets = table.sets;
     let count = table.count;
     match answer {
-        Answer::Refused(r) => completing::refused(r),
-        Answer::Accepted => completing::accept(table.n, &sets[0..count]),
+        Answer::Refused(r) => complete_tables::refused(r),
+        Answer::Accepted => complete_tables::accept(table.n, &sets[0..count]),
     }
 }
 
@@ -58,10 +57,10 @@ pub fn read_whole(s: &[u8]) -> TableWithCores
     let answer = listed.answer;
     let used = listed.used;
     match answer {
-        Answer::Refused(r) => completing::refused(r),
+        Answer::Refused(r) => complete_tables::refused(r),
         Answer::Accepted => {
             if used < s.len() {
-                return completing::refused(Refusal::TrailingBytes);
+                return complete_tables::refused(Refusal::TrailingBytes);
             }
             finish(s, listed)
         }

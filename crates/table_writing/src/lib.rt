@@ -73,7 +73,7 @@ fn write_sets(n: u8, sets: &[u64], buf: &mut [u8], start: usize) -> Writing
 pub fn write_table(n: u8, sets: &[u64], buf: &mut [u8], start: usize) -> Writing
     ensures { λ r. ⌜ WrittenIfRoom (writeTable n (now (sets .entry))) start (now (buf .entry)) (now (buf .exit)) r ⌝ }
 {
-    let t = tables::completing::accept(n, sets);
+    let t = complete_tables::accept(n, sets);
     let answer = t.answer;
     let table = t.table;
     let normal = table.sets;

@@ -1,3 +1,2 @@
 -- What the functions' proofs share.
-pub mod Accepts
-pub mod Completes
+pub mod CallAnswers

@@ -1,3 +1,2 @@
--- Normal tables with their cores, and what the answers of the calls say.
-pub mod Complete
+-- What the answers of the calls say.
 pub mod Answers

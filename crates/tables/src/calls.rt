@@ -3,8 +3,8 @@ ghost use mathlib.Core.Path.{_≡_};
 ghost use Rattle.drive_sets.specs.Refusals.{refused, number};
 ghost use Rattle.survivor_tables.specs.Tables.{chosenCore, missedSet, survivorSets};
 ghost use Rattle.tables.specs.Answers.{chosenOutcome, missedOutcome, listOutcome, ListWithin};
-use crate::completing;
-use crate::completing::all_sets;
+use complete_tables::accept;
+use complete_tables::all_sets;
 use drive_sets::Answer;
 use drive_sets::Position;
 use drive_sets::Refusal;
@@ -36,7 +36,7 @@ pub struct SetList {
 pub fn chosen_core(n: u8, sets: &[u64]) -> Chosen
     ensures { λ r. ⌜ chosenOutcome r ≡ chosenCore n (now (sets .entry)) ⌝ }
 {
-    let t = completing::accept(n, sets);
+    let t = accept(n, sets);
     let answer = t.answer;
     let cores = t.cores;
     match answer {
@@ -50,7 +50,7 @@ pub fn chosen_core(n: u8, sets: &[u64]) -> Chosen
 pub fn missed_set(n: u8, sets: &[u64], group: u64) -> MissedSet
     ensures { λ r. ⌜ missedOutcome r ≡ missedSet n (now (sets .entry)) group ⌝ }
 {
-    let t = completing::accept(n, sets);
+    let t = accept(n, sets);
     let answer = t.answer;
     let table = t.table;
     let normal = table.sets;

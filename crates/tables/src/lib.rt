@@ -1,3 +1,2 @@
-// Survivor tables given as n and sets: the normal table, its cores and the way back.
+// Calls about survivor tables given as n and sets: the chosen core, the first set missed, and the way back.
 pub mod calls;
-pub mod completing;

@@ -9,7 +9,7 @@ use Rattle.drive_sets.specs.Limits.{maxSets}
 use Rattle.drive_sets.specs.Masks.{outside, size}
 use Rattle.drive_sets.specs.Refusals.{Outcome, result, refuseIf, andThen}
 use Rattle.survivor_tables.specs.Tables.{isFrame}
-use Rattle.tables.specs.Complete.{Complete, completeTable}
+use Rattle.complete_tables.specs.Complete.{Complete, completeTable}
 use Rattle.threshold.specs.Groups.{groups}
 pub mod Laws
 

@@ -1,8 +1,9 @@
 // A table from n and t, for a frame of which it is known only that at most t of its n drives drop out.
 ghost use mathlib.Core.Path.{_≡_};
 ghost use Rattle.tables.specs.Answers.{listOutcome, ListWithin};
-ghost use Rattle.tables.specs.Complete.{completeOutcome, CompleteWithin};
+ghost use Rattle.complete_tables.specs.Complete.{completeOutcome, CompleteWithin};
 ghost use Rattle.threshold.specs.Threshold.{thresholdList, thresholdTable};
+use complete_tables::TableWithCores;
 use drive_sets::Answer;
 use drive_sets::Refusal;
 use survivor_tables::MAX_CORES;
@@ -11,7 +12,6 @@ use survivor_tables::frames::Table;
 use survivor_tables::frames::is_frame;
 use tables::calls::SetList;
 use tables::calls::no_list;
-use tables::completing::TableWithCores;
 
 mod counts;
 mod group_counts;
@@ -54,7 +54,7 @@ pub fn threshold_table(n: u8, t: u8) -> TableWithCores
     let sets = made.sets;
     let count = made.count;
     match answer {
-        Answer::Refused(r) => tables::completing::refused(r),
+        Answer::Refused(r) => complete_tables::refused(r),
         Answer::Accepted => {
             let mut cores = [0u64; MAX_CORES];
             let found = groups::fill_groups(n, t + 1, &mut cores);

@@ -53,7 +53,7 @@ pub fn judge(k: u8, n: u8, sets: &[u64]) -> Judgement
     if !is_block_count(k) {
         return refused(Refusal::BlockCount);
     }
-    let t = tables::completing::accept(n, sets);
+    let t = complete_tables::accept(n, sets);
     let answer = t.answer;
     let table = t.table;
     let normal = table.sets;
@@ -73,7 +73,7 @@ pub fn verdict_on(k: u8, n: u8, table: &[u64]) -> Judgement
     if !is_block_count(k) {
         return refused(Refusal::BlockCount);
     }
-    let checked = tables::completing::check_sets(n, table);
+    let checked = complete_tables::check_sets(n, table);
     match checked {
         Answer::Refused(r) => refused(r),
         Answer::Accepted => on_normal(k, n, table),

@@ -20,7 +20,7 @@ use Rattle.survivor_tables.specs.Tables.{isFrame, isSet, isEmpty, withinCoreLim
 use Rattle.survivor_tables.specs.Tables.Numbered.{limit-numbered, normal-numbered, cores-numbered, back-numbered}
 use Rattle.table_files.specs.Files.{ReadTable, takenSet, setList, listedTable, readListed, accepted, readTable, readWhole, tableBytes}
 use Rattle.table_writing.specs.Writing.{writeTable}
-use Rattle.tables.specs.Complete.{completeTable}
+use Rattle.complete_tables.specs.Complete.{completeTable}
 use Rattle.threshold.specs.Threshold.{thresholdSets, thresholdTable, thresholdList}
 use Rattle.verdicts.specs.Calls.{judged, verdict}
 use Rattle.c_replies.specs.Replies.{refusalOf}

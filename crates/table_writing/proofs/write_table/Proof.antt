@@ -1,6 +1,6 @@
 -- The table's refusals, then the room.
-use Rattle.tables.proofs.Accepts.{accept-refused, accept-taken}
-use Rattle.tables.proofs.Completes.{first-taken}
+use Rattle.complete_tables.proofs.Accepts.{accept-refused, accept-taken}
+use Rattle.complete_tables.proofs.Completes.{first-taken}
 use Rattle.table_writing.specs.Writing.{writeTable}
 use lib.ListN.{length}
 use native.Mathlib.Omega.{arith}

@@ -3,8 +3,9 @@ use mathlib.Core.Path.{sym, _∙_}
 use native.Mathlib.Omega.{arith}
 use borrow.Author.Needs.{needs}
 use Rattle.drive_sets.specs.Refusals.Laws.{accepted-not-refused}
-use Rattle.tables.specs.Complete.{Complete, completeOutcome, setsOf}
-use Rattle.tables.proofs.Accepts.{list-said, then-refused}
+use Rattle.complete_tables.specs.Complete.{Complete, completeOutcome, setsOf}
+use Rattle.tables.proofs.CallAnswers.{list-said}
+use Rattle.complete_tables.proofs.Accepts.{then-refused}
 use Rattle.threshold.specs.Threshold.{thresholdTable, thresholdComplete, thresholdList}
 use Rattle.threshold.specs.Threshold.Laws.{list-given}
 use Rattle.threshold.proofs.threshold_table.Statement.{statement}

@@ -31,7 +31,7 @@ use Rattle.survivor_tables.specs.Order.Normal.{normal-fixed}
 use Rattle.survivor_tables.specs.Order.Strict.{equal, byMask-strict}
 use Rattle.survivor_tables.specs.Tables.{isFrame, isSet, cores, chosen, withinCoreLimit, checkedSets, normalTable}
 use Rattle.survivor_tables.specs.Tables.Laws.{frame-high, cores-unique, some-not-empty}
-use Rattle.tables.specs.Complete.{withCores, completeTable}
+use Rattle.complete_tables.specs.Complete.{withCores, completeTable}
 use Rattle.threshold.specs.Groups.{groups, groupCount}
 use Rattle.threshold.specs.Groups.Laws.{groups-sound, groups-complete, groups-ordered, some-groups, first-group, count-others}
 use Rattle.threshold.specs.Threshold.{AtMost, thresholdSets, thresholdTable, thresholdComplete, thresholdList}

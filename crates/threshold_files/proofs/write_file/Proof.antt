@@ -5,7 +5,7 @@ use native.Mathlib.Nat.{sub-zero}
 use native.Mathlib.Omega.{arith}
 use lib.ListN.{length, take}
 use borrow.Author.Needs.{needs}
-use Rattle.tables.proofs.Accepts.{list-said}
+use Rattle.tables.proofs.CallAnswers.{list-said}
 use Rattle.threshold_files.specs.ThresholdFiles.{thresholdFile}
 use Rattle.threshold_files.proofs.write_file.Statement.{statement}
 use Rattle.threshold_files.proofs.write_file.Tie as tie

@@ -1,7 +1,7 @@
 -- The records refused, bytes behind the end, every survivor set touched, or the file.
 use mathlib.Core.Path.{refl}
 use Prim.Native.Nat.{_^_, _<_}
-use Rattle.tables.proofs.Completes.{rest-none, rest-some}
+use Rattle.complete_tables.proofs.Completes.{rest-none, rest-some}
 use Rattle.run_files.specs.RunFiles.{untouchedLeft, wholeRun, readBehind}
 use Rattle.run_files.specs.Reading.{recordsOutcome, runFileOutcome}
 use Rattle.drive_crashes.specs.Crashes.Laws.{crashed-in}

@@ -5,7 +5,7 @@ use Prim.Native.Nat.{ℕ}
 use native.Mathlib.Omega.{arith}
 use lib.ListN.{length}
 use Rattle.drive_sets.specs.Filled.Laws.{filled-same}
-use Rattle.tables.specs.Complete.{setsOf}
+use Rattle.complete_tables.specs.Complete.{setsOf}
 use Rattle.text.proofs.Puts.{cut}
 use Rattle.run_listing.specs.RunListing.{runText, simulatedWith}
 use borrow.Author.Needs.{needs}

@@ -1,6 +1,6 @@
 -- The refusal, or the groups that were found.
 use mathlib.Core.Path.{refl}
-use Rattle.tables.proofs.Accepts.{list-said}
+use Rattle.tables.proofs.CallAnswers.{list-said}
 use borrow.Author.Needs.{needs}
 use Rattle.table_calls.proofs.calls.regdulyn_back.Statement.{statement}
 use Rattle.table_calls.proofs.calls.regdulyn_back.Tie as tie

@@ -1,5 +1,5 @@
 -- The refusal, 14, or the sets, copied.
-use Rattle.tables.specs.Complete.{setsOf}
+use Rattle.complete_tables.specs.Complete.{setsOf}
 use Rattle.table_calls.proofs.ReadTables.{put-refused, put-full, put-all}
 use borrow.Author.Needs.{needs}
 use Rattle.table_calls.proofs.reading.put_table.Statement.{statement}

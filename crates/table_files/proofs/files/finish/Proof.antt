@@ -2,8 +2,8 @@
 use mathlib.Core.Path.{_≡_, ap, _∙_}
 use native.Mathlib.Omega.{arith}
 use lib.ListN.{length}
-use Rattle.tables.specs.Complete.{completeTable}
-use Rattle.tables.proofs.Completes.{first-taken}
+use Rattle.complete_tables.specs.Complete.{completeTable}
+use Rattle.complete_tables.proofs.Completes.{first-taken}
 use Rattle.table_files.specs.Reading.{readOutcome}
 use Rattle.table_files.proofs.TableReads.{listed-complete}
 use borrow.Author.Needs.{needs}

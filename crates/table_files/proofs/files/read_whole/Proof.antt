@@ -4,7 +4,7 @@ use Rattle.table_files.specs.Files.{readWhole}
 use Rattle.table_files.specs.Reading.{readOutcome}
 use Rattle.table_files.specs.WithCores.{readWholeComplete}
 use Rattle.table_files.proofs.TableReads.{accepted-completed}
-use Rattle.tables.proofs.Completes.{rest-none, rest-some}
+use Rattle.complete_tables.proofs.Completes.{rest-none, rest-some}
 use borrow.Author.Needs.{needs}
 use Rattle.table_files.proofs.files.read_whole.Statement.{statement}
 use Rattle.table_files.proofs.files.read_whole.Tie as tie

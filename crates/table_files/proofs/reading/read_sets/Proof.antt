@@ -1,7 +1,7 @@
 -- The loop over the records after FR: what is left to read gives what the whole gives.
 use borrow.Author.Needs.{needs}
 use Rattle.table_files.proofs.Steps.{Listing, listing-start, listing-stop, listed-within, listing-end, listing-turn}
-use Rattle.tables.specs.Complete.{setsOf}
+use Rattle.complete_tables.specs.Complete.{setsOf}
 use Rattle.table_files.specs.Reading.{readOutcome}
 use Prim.Native.Nat.{_-_}
 use native.Mathlib.Omega.{arith}

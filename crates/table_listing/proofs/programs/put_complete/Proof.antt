@@ -4,7 +4,7 @@ use native.Mathlib.Omega.{arith}
 use lib.ListN.{length}
 use Rattle.drive_sets.specs.Filled.Laws.{filled-same}
 use Rattle.survivor_tables.specs.Tables.{cores}
-use Rattle.tables.specs.Complete.{setsOf}
+use Rattle.complete_tables.specs.Complete.{setsOf}
 use Rattle.text.proofs.Puts.{cut}
 use Rattle.table_listing.specs.TableListing.{listing}
 use borrow.Author.Needs.{needs}

@@ -2,7 +2,7 @@
 use mathlib.Core.Path.{ap, _∙_}
 use Rattle.drive_sets.specs.Filled.Laws.{filled-same}
 use Rattle.table_files.specs.Files.{readWhole}
-use Rattle.tables.specs.Complete.{Complete, withCores}
+use Rattle.complete_tables.specs.Complete.{Complete, withCores}
 use Rattle.table_files.specs.WithCores.{readWholeComplete}
 use Rattle.table_files.proofs.TableReads.{read-refused, read-accepted, read-cores}
 use Rattle.table_listing.specs.TableListing.{listing, listingOf, tableProgram}

@@ -1,5 +1,6 @@
 -- The first of the cores.
-use Rattle.tables.proofs.Accepts.{accept-refused, accept-taken, first-core}
+use Rattle.complete_tables.proofs.Accepts.{accept-refused, accept-taken}
+use Rattle.tables.proofs.CallAnswers.{first-core}
 use Rattle.survivor_tables.specs.Tables.{chosenCore}
 use borrow.Author.Needs.{needs}
 use Rattle.tables.proofs.calls.chosen_core.Statement.{statement}

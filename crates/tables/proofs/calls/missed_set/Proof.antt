@@ -2,8 +2,8 @@
 use native.Mathlib.Omega.{arith}
 use mathlib.Core.Path.{_≡_}
 use lib.ListN.{length}
-use Rattle.tables.proofs.Accepts.{accept-refused, accept-taken}
-use Rattle.tables.proofs.Completes.{first-taken}
+use Rattle.complete_tables.proofs.Accepts.{accept-refused, accept-taken}
+use Rattle.complete_tables.proofs.Completes.{first-taken}
 use Rattle.survivor_tables.specs.Tables.{missedSet}
 use borrow.Author.Needs.{needs}
 use Rattle.tables.proofs.calls.missed_set.Statement.{statement}

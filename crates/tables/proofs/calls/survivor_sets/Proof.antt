@@ -1,7 +1,7 @@
 -- The refusals in order, then what is found.
-use Rattle.tables.proofs.Accepts.{dual-more, dual-found}
+use Rattle.tables.proofs.CallAnswers.{dual-more, dual-found}
 use Rattle.drive_sets.specs.Refusals.Laws.{accepted-not-refused}
-use Rattle.tables.proofs.Completes.{no-elements, some-elements}
+use Rattle.complete_tables.proofs.Completes.{no-elements, some-elements}
 use Rattle.survivor_tables.specs.Tables.{survivorSets}
 use Rattle.tables.specs.Answers.{listOutcome}
 use borrow.Author.Tests.{lt-ltb, le-ltb}

@@ -3,8 +3,8 @@ use mathlib.Core.Path.{_≡_}
 use native.Mathlib.Omega.{arith}
 use lib.ListN.{length}
 use Rattle.verdicts.specs.Calls.{verdict}
-use Rattle.tables.proofs.Accepts.{accept-refused, accept-taken}
-use Rattle.tables.proofs.Completes.{first-taken}
+use Rattle.complete_tables.proofs.Accepts.{accept-refused, accept-taken}
+use Rattle.complete_tables.proofs.Completes.{first-taken}
 use Rattle.verdict_search.proofs.Answers.{count-bounds}
 use borrow.Author.Needs.{needs}
 use Rattle.verdicts.proofs.calls.judge.Statement.{statement}

@@ -2,7 +2,7 @@
 use mathlib.Core.Path.{sym}
 use Rattle.verdicts.specs.Calls.{verdictGiven}
 use Rattle.survivor_tables.specs.Tables.Laws.{checked-most}
-use Rattle.tables.proofs.Completes.{check-said}
+use Rattle.complete_tables.proofs.Completes.{check-said}
 use Rattle.verdict_search.proofs.Answers.{count-bounds}
 use borrow.Author.Needs.{needs}
 use Rattle.verdicts.proofs.calls.verdict_on.Statement.{statement}

@@ -2,9 +2,9 @@
 use mathlib.Core.Path.{sym, _∙_}
 use borrow.Author.Needs.{needs}
 use Rattle.survivor_tables.specs.Tables.Laws.{checked-most}
-use Rattle.tables.proofs.Completes.{check-said, complete-said}
-use Rattle.tables.proofs.completing.accept.Statement.{statement}
-use Rattle.tables.proofs.completing.accept.Tie as tie
+use Rattle.complete_tables.proofs.Completes.{check-said, complete-said}
+use Rattle.complete_tables.proofs.accept.Statement.{statement}
+use Rattle.complete_tables.proofs.accept.Tie as tie
 
 pub accept-spec : {M : Type 1} → statement M
 accept-spec =

@@ -1,10 +1,10 @@
 -- A refusal.
 use mathlib.Core.Path.{refl, ap}
 use native.Mathlib.Omega.{arith}
-use Rattle.tables.specs.Complete.{completeOutcome, refusedTable}
+use Rattle.complete_tables.specs.Complete.{completeOutcome, refusedTable}
 use Rattle.drive_sets.specs.Refusals.Laws.{same-refusal}
-use Rattle.tables.proofs.completing.refused.Statement.{statement}
-use Rattle.tables.proofs.completing.refused.Tie as tie
+use Rattle.complete_tables.proofs.refused.Statement.{statement}
+use Rattle.complete_tables.proofs.refused.Tie as tie
 
 pub refused-spec : {M : Type 1} → statement M
 unfolding completeOutcome refusedTable

@@ -7,8 +7,8 @@ use borrow.Author.Tests.{not-true, not-false}
 use lib.ListN.{length}
 use Prim.Native.Nat.{_-_}
 use mathlib.Core.Path.{sym, _∙_}
-use Rattle.tables.proofs.completing.all_sets.Statement.{statement}
-use Rattle.tables.proofs.completing.all_sets.Tie as tie
+use Rattle.complete_tables.proofs.all_sets.Statement.{statement}
+use Rattle.complete_tables.proofs.all_sets.Tie as tie
 
 abbrev Inv-loop : tie.InvT-loop
 Inv-loop n sets i₀ i = Scan (all (isSet n) sets) (all (isSet n)) sets i

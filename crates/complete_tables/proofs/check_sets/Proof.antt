@@ -2,9 +2,9 @@
 use borrow.Author.Tests.{lt-ltb, le-ltb}
 use borrow.Author.Needs.{needs}
 use Rattle.survivor_tables.specs.Tables.{checkedSets}
-use Rattle.tables.proofs.Completes.{no-elements, some-elements}
-use Rattle.tables.proofs.completing.check_sets.Statement.{statement}
-use Rattle.tables.proofs.completing.check_sets.Tie as tie
+use Rattle.complete_tables.proofs.Completes.{no-elements, some-elements}
+use Rattle.complete_tables.proofs.check_sets.Statement.{statement}
+use Rattle.complete_tables.proofs.check_sets.Tie as tie
 
 pub check-sets-spec : {M : Type 1} → statement M
 unfolding checkedSets

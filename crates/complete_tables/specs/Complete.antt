@@ -7,7 +7,7 @@ use Rattle.drive_sets.specs.declared.Answer.the-variants.{Refused}
 use Rattle.drive_sets.specs.declared.Refusal.{Refusal}
 use Rattle.drive_sets.specs.declared.Refusal.the-variants.{TooManyCores}
 use Rattle.drive_sets.specs.Refusals.{Outcome, result, refuseIf, andThen, outcomeOf, Alone}
-use Rattle.tables.specs.declared.completing.TableWithCores.{TableWithCores}
+use Rattle.complete_tables.specs.declared.TableWithCores.{TableWithCores}
 use Rattle.drive_sets.specs.Limits.{maxSets, maxCores}
 use Rattle.survivor_tables.specs.Tables.{cores, withinCoreLimit, normalTable}
 use Rattle.survivor_tables.specs.declared.frames.Table.{Table}

@@ -30,7 +30,7 @@ use Rattle.survivor_tables.specs.Order.Normal.{length-normal}
 use Rattle.survivor_tables.specs.declared.frames.Table.{Table}
 use Rattle.drive_sets.specs.Limits.{maxSets, maxCores}
 use Rattle.survivor_tables.specs.Tables.{isEmpty, cores, withinCoreLimit, checkedSets, normalTable}
-use Rattle.tables.specs.Complete.{setsOf, withCores, completeNormal, completeSets, completeTable}
+use Rattle.complete_tables.specs.Complete.{setsOf, withCores, completeNormal, completeSets, completeTable}
 
 -- ---- the normal table
 

@@ -1,10 +1,10 @@
 -- The normal form, which has room, then the cores.
 use mathlib.Core.Path.{ap, _∙_}
 use borrow.Author.Needs.{needs}
-use Rattle.tables.specs.Complete.{completeNormal, setsOf}
-use Rattle.tables.proofs.Completes.{form-given, count-le, normal-taken, complete-normal}
-use Rattle.tables.proofs.completing.complete_sets.Statement.{statement}
-use Rattle.tables.proofs.completing.complete_sets.Tie as tie
+use Rattle.complete_tables.specs.Complete.{completeNormal, setsOf}
+use Rattle.complete_tables.proofs.Completes.{form-given, count-le, normal-taken, complete-normal}
+use Rattle.complete_tables.proofs.complete_sets.Statement.{statement}
+use Rattle.complete_tables.proofs.complete_sets.Tie as tie
 
 with-cores-requires : tie.Need-with-cores-requires
 with-cores-requires c κs = count-le (c .before .before .before .before .before .before .before .args .sets .now) (c .before .before .before .before .before .before .before .pre) _ (c .before .before .before .before .normal2 .ensures .0) (c .before .form2 .given .1)

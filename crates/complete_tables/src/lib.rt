@@ -2,7 +2,7 @@
 ghost use mathlib.Core.Path.{_≡_};
 ghost use Prim.Native.Nat.{_≤_};
 ghost use lib.ListN.{length};
-ghost use Rattle.tables.specs.Complete.{completeNormal, completeSets, completeTable, completeOutcome, CompleteWithin, setsOf};
+ghost use Rattle.complete_tables.specs.Complete.{completeNormal, completeSets, completeTable, completeOutcome, CompleteWithin, setsOf};
 ghost use Rattle.drive_sets.specs.Limits.{maxSets};
 ghost use Rattle.survivor_tables.specs.Tables.{isSet, checkedSets};
 ghost use Rattle.drive_sets.specs.Lists.{all};
@@ -86,7 +86,7 @@ fn complete_sets(n: u8, sets: &[u64]) -> TableWithCores
 }
 
 // Each is a set of the frame.
-pub(crate) fn all_sets(n: u8, sets: &[u64]) -> bool
+pub fn all_sets(n: u8, sets: &[u64]) -> bool
     ensures { λ r. ⌜ r ≡ all (isSet n) (now (sets .entry)) ⌝ }
 {
     let mut i = 0;

@@ -3,11 +3,11 @@ use mathlib.Core.Path.{_≡_, refl, _∙_}
 use lib.ListN.{length}
 use native.Mathlib.Omega.{arith}
 use borrow.Author.Needs.{needs}
-use Rattle.tables.specs.Complete.{completeOutcome}
+use Rattle.complete_tables.specs.Complete.{completeOutcome}
 use Rattle.drive_sets.specs.Refusals.Laws.{accepted-not-refused}
-use Rattle.tables.proofs.Completes.{first-taken, too-many, completed}
-use Rattle.tables.proofs.completing.with_cores.Statement.{statement}
-use Rattle.tables.proofs.completing.with_cores.Tie as tie
+use Rattle.complete_tables.proofs.Completes.{first-taken, too-many, completed}
+use Rattle.complete_tables.proofs.with_cores.Statement.{statement}
+use Rattle.complete_tables.proofs.with_cores.Tie as tie
 
 part-end : tie.Need-part-minimal-hitting-sets-end
 part-end c = let long : length (c .before .before .args .table .sets) ≡ 128 = search needs in omega arith

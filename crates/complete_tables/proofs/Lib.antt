@@ -1,0 +1,3 @@
+-- What the functions' proofs share, and what an answer says of those who ask for a table.
+pub mod Accepts
+pub mod Completes

@@ -1,0 +1,2 @@
+-- Normal tables with their cores.
+pub mod Complete
