@@ -52,7 +52,7 @@ opening n sets own number =
 
 -- ---- send: 28, 23, 27, 14
 
--- an undecided core drive sends KN with all it knew when the round began; a decided one sends DC
+-- an undecided core drive sends KW with all it knew when the round began; a decided one sends DW
 unfoldable pub contentBy : Exchange → Decision → Content
 contentBy x Undecided = knownOf (x .start) (numberOf x)
 contentBy x (Decided v) = decided (v .0)
@@ -94,8 +94,8 @@ unfoldable pub announcing : Announcement → ℕ → Content → Announcement
 announcing announced d (known mask entries) = announced
 announcing announced d (decided v) = lower announced d v
 
--- the state after an accepted message: every accepted sender counts as heard, a KN adds its drives' numbers, a DC
--- announces a decision
+-- the state after an accepted message: every accepted sender counts as heard, a KN or KW adds its drives' numbers, a DC
+-- or DW announces a decision
 unfoldable pub accept : Exchange → Message → Exchange
 accept x m = record {
   n = x .n;
@@ -147,7 +147,7 @@ decisionOn (some v) = Decided (record { 0 = v })
 unfoldable pub stableDecision : Exchange → Decision
 stableDecision x = cond (stable x) (decisionOn (smallest (numberOf x) (drives (x .known)))) Undecided
 
--- a decided drive keeps its number; for the others: if a DC came, decide the value of the lowest-numbered DC sender
+-- a decided drive keeps its number; for the others: if a DC or DW came, decide the value of its lowest-numbered sender
 unfoldable pub decide : Exchange → Decision → Announcement → Decision
 decide x (Decided v) announced = Decided v
 decide x Undecided (By d v) = Decided v

@@ -84,7 +84,7 @@ stateOf x = record {
   by = announcedDrive (x .announced);
   decided = decidedFlag (x .decision);
   halted = flagOf (x .halted);
-  reserved = replicate 5 0;
+  reserved = replicate 1 0;
 }
 
 -- ---- replies

@@ -26,7 +26,7 @@ pub struct State {
     pub start: u64,
     // The pattern numbers, drive 1 first; one counts where its drive is known.
     pub numbers: [Pattern; 64],
-    // The number announced in this round by a DC, where `announced` is set.
+    // The number announced in this round by a DW or DC, where `announced` is set.
     pub told: Pattern,
     // The drive's own decision, where `decided` is set.
     pub decision: Pattern,
@@ -36,7 +36,7 @@ pub struct State {
     pub own: Drive,
     // The round that the drive is in; the last one after it has halted.
     pub round: Round,
-    // A flag: a DC came in this round.
+    // A flag: a DW or DC came in this round.
     pub announced: u8,
     // Its sender, the lowest of several.
     pub by: Drive,
@@ -45,7 +45,7 @@ pub struct State {
     // A flag: the drive has ended its part, and every further call but an opening is refused.
     pub halted: u8,
     // Read by no call, and 0 in what an accepted call gives: so that no bytes of the struct lie between its fields.
-    pub reserved: [u8; 5],
+    pub reserved: [u8; 1],
 }
 
 // What a call that is handed a state gives: the new state, or the refusal's number and the state as it was handed.
@@ -163,7 +163,7 @@ pub fn state_of(x: Exchange) -> State
     let told = announced_number(a);
     let by = announced_drive(a);
     let decision = decided_number(d);
-    let reserved = [0u8; 5];
+    let reserved = [0u8; 1];
     State {
         core: x.core,
         before: x.before,

@@ -14,7 +14,7 @@ pub mod Laws
 
 -- the version of the state's layout
 unfoldable pub stateVersion : ℕ
-stateVersion = 1
+stateVersion = 2
 
 -- the state of a drive that was never opened
 unfoldable pub unopenedState : State

@@ -15,7 +15,7 @@ use drive_sets::Pattern;
 mod receivers;
 
 // Raised when the layout of the state changes.
-const STATE_VERSION: u32 = 1;
+const STATE_VERSION: u32 = 2;
 
 // The version of the state's layout, to be compared with the header's.
 #[no_mangle]
@@ -36,7 +36,7 @@ pub extern "C" fn regdulyn_unopened() -> State
 
 // An opening from a table, a drive number and a pattern number: the table's refusals, then 8.
 #[no_mangle]
-pub extern "C" fn regdulyn_open(s: State, n: u8, sets: &[u64], own: u8, number: u16) -> StateReply
+pub extern "C" fn regdulyn_open(s: State, n: u8, sets: &[u64], own: u8, number: u32) -> StateReply
     ensures { λ r. ⌜ r ≡ openReply s n (now (sets .entry)) own number ⌝ }
 {
     let x = c_states::exchange_of(s);

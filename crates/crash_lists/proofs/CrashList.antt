@@ -21,9 +21,9 @@ use Rattle.records.specs.declared.Kind.the-variants as kinds
 use Rattle.records.specs.declared.Next.{Next}
 use Rattle.records.specs.declared.Next.the-variants as nexts
 use Rattle.records.specs.Marks.{bodyWidth, isDue}
-use Rattle.records.specs.RecordLists.{nextOf, ReadList, widthOf, stepOf, readList}
-use Rattle.records.specs.RecordLists.Laws.{OwnKind, other-kind, one-whole}
-use Rattle.records.proofs.Lists.{first-byte, Reading, reading-start, reading-stop, reading-end, end-within, step-taken, reading-turn}
+use Rattle.records.specs.RecordLists.{nextOf, ReadList, stepOf, readList}
+use Rattle.records.specs.RecordLists.Laws.{OwnKind, own-width, other-kind, one-whole}
+use Rattle.records.proofs.Lists.{first-byte, Reading, reading-start, reading-stop, reading-end, end-within, step-taken, reading-own}
 use Rattle.drive_sets.specs.Limits.{maxDrives}
 use Rattle.drive_crashes.specs.declared.Crashes.{Crashes}
 use Rattle.crash_lists.specs.declared.Step.{Step}
@@ -37,13 +37,15 @@ use Rattle.drive_crashes.specs.Crashes.Laws.{none-listed, with-crash-listed}
 
 -- ---- one record
 
-own-crash : (n core : ℕ) → OwnKind (crashList n core)
+own-crash : (n core : ℕ) → OwnKind (crashList n core) kinds.Crash
 unfolding isDue
 own-crash n core l k d t = other-kind kinds.Crash k d t
 
 pub crash-long : (count : ℕ) (s : List ℕ) {next : Next} → next ≡ nextOf AtCrashOrEnd count s → next ≡ nexts.One → 5 ≤ length s
-unfolding widthOf bodyWidth
-crash-long count s h e = one-whole (crashList 0 0) (own-crash 0 0) noCrash count s (sym h ∙ e)
+unfolding bodyWidth
+crash-long count s h e =
+    let is = sym h ∙ e in
+    omega (arith, one-whole AtCrashOrEnd count s is, own-width (crashList 0 0) kinds.Crash (own-crash 0 0) noCrash count s is)
 
 -- its fields are its bytes
 pub crash-fields : (s : List ℕ) → 5 ≤ length s → crashFields s ≡ record { drive = getD s 2 0; round = getD s 3 0; sends = getD s 4 0 }
@@ -103,7 +105,7 @@ module _ {s : List ℕ} {n core : ℕ} {c : Crashes} {last count at : ℕ} (r : 
     pub crash-bounds : (1 ≤ d .0) × (d .0 ≤ n) × (last < d .0)
     unfolding takenCrash crashRecord
     crash-bounds =
-        let taken = step-taken (crashList n core) (readAll n core s) s (listed c last) at (r .reading) refl (own-crash n core) (said (Crash d q m) e) in
+        let taken = step-taken (crashList n core) (readAll n core s) s (listed c last) at (r .reading) refl (said (Crash d q m) e) in
         let w = first-result (checkedCrash n core last (crashFields (drop at s))) (λ x. result (record { crashes = crashesIn c ++ (x ∷ []); last = x .drive })) taken in
         let passes = checked-passes n core last (crashFields (drop at s)) (w .1) in
         next-bounds n last (d .0)
@@ -121,7 +123,7 @@ module _ {s : List ℕ} {n core : ℕ} {c : Crashes} {last count at : ℕ} (r : 
       one-more = with-crash-listed c (d .0) q m (r .word) (r .rounds) (r .sends) low high (λ x h. omega (arith, r .below x h, crash-bounds .2))
 
       pub listing-turn : Listing s n core (withCrash c (d .0) q m) (d .0) (count + 1) (at + 5)
-      unfolding withCrash widthOf bodyWidth
+      unfolding withCrash bodyWidth
       listing-turn = record {
         upTo = crash-bounds .1;
         word = insert-lt (d .0) low high (c .crashed) (r .word);
@@ -132,5 +134,5 @@ module _ {s : List ℕ} {n core : ℕ} {c : Crashes} {last count at : ℕ} (r : 
         few = omega (arith, r .few, crash-bounds .2);
         reading =
             subst (λ (l : List CrashRecord). Reading (crashList n core) (readAll n core s) s (record { crashes = l; last = d .0 }) (at + 5)) (sym one-more)
-            (reading-turn (crashList n core) (readAll n core s) s (listed c last) at (r .reading) refl (own-crash n core) (said (Crash d q m) e));
+            (reading-own (crashList n core) (readAll n core s) s (listed c last) at (r .reading) refl (said (Crash d q m) e) kinds.Crash (own-crash n core));
       }

@@ -5,7 +5,6 @@ use mathlib.Core.List.{List, [], _∷_, _++_}
 use Prim.Native.Nat.{ℕ}
 use lib.ListN.{length}
 use Rattle.drive_sets.specs.Refusals.{Outcome, result, andThen}
-use Rattle.records.specs.declared.Kind.the-variants.{Crash}
 use Rattle.records.specs.declared.Due.the-variants.{AtCrashOrEnd}
 use Rattle.records.specs.Fields.{fieldAt}
 use Rattle.records.specs.RecordLists.{ListFormat}
@@ -29,6 +28,6 @@ unfoldable pub takenCrash : ℕ → ℕ → CrashList → List ℕ → Outcome C
 takenCrash n core l s =
     andThen (checkedCrash n core (l .last) (crashFields s)) (λ c. result (record { crashes = l .crashes ++ (c ∷ []); last = c .drive }))
 
--- the records after drive n's PR
+-- the records after drive n's PR or PW
 abbrev pub crashList : ℕ → ℕ → ListFormat CrashList
-crashList n core = record { kind = Crash; due = λ l. AtCrashOrEnd; count = λ l. length (l .crashes); complete = λ l. false; taken = takenCrash n core }
+crashList n core = record { due = λ l. AtCrashOrEnd; count = λ l. length (l .crashes); complete = λ l. false; taken = takenCrash n core }

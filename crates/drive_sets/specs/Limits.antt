@@ -11,12 +11,15 @@ maxSets = 128
 abbrev pub maxCores : ℕ
 maxCores = 1024
 
--- how many bytes a pattern number takes, and the first that does not fit
+-- how many bytes a pattern number takes, and the first that does not fit; narrow ones, of old records, take fewer
 abbrev pub patternWidth : ℕ
-patternWidth = 2
+patternWidth = 4
 
 abbrev pub patternLimit : ℕ
-patternLimit = 65536
+patternLimit = 4294967296
+
+abbrev pub narrowWidth : ℕ
+narrowWidth = 2
 
 -- the bytes of an input that a program reads, and the longest text that one prints
 abbrev pub maxInput : ℕ

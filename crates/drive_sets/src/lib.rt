@@ -15,14 +15,16 @@ pub struct Drive(pub u8);
 #[repr(C)]
 pub struct Round(pub u8);
 
-// A pattern number: the value that is proposed and decided. Each of 0 to 65535 is one.
+// A pattern number: the value that is proposed and decided. Each of 0 to 4294967295 is one.
 #[repr(C)]
-pub struct Pattern(pub u16);
+pub struct Pattern(pub u32);
 
 pub const MAX_DRIVES: u8 = 64;
 
-// How many bytes a pattern number takes.
-pub const PATTERN_BYTES: usize = 2;
+// How many bytes a pattern number takes; a narrow one, of old records, takes fewer.
+pub const PATTERN_BYTES: usize = 4;
+
+pub const NARROW_PATTERN_BYTES: usize = 2;
 
 // Why a call is refused, by the lists of documents 01 and 02; `number` has its numbers.
 pub enum Refusal {

@@ -10,7 +10,7 @@ pub enum Decision {
     Decided(Pattern),
 }
 
-// The decision that the lowest-numbered DC sender of this round announced: the sender and its decision.
+// The decision that the lowest-numbered sender of a DC or DW announced in this round: the sender and its decision.
 pub enum Announcement {
     Absent,
     By(Drive, Pattern),

@@ -1,6 +1,7 @@
-// The two messages into the part of a lent buffer from the cursor on.
+// The two messages that drives send, into the part of a lent buffer from the cursor on.
 ghost use mathlib.Core.Path.{_≡_};
 ghost use mathlib.Core.List.{_++_, map};
+ghost use Rattle.drive_sets.specs.Limits.{patternWidth};
 ghost use Rattle.drive_sets.specs.Masks.{drives};
 ghost use Rattle.records.specs.Fields.{toBytes};
 ghost use Rattle.drive_sets.specs.Lent.{written};
@@ -12,13 +13,13 @@ use drive_sets::Drive;
 use drive_sets::PATTERN_BYTES;
 use drive_sets::Pattern;
 use drive_sets::Round;
-use records::DECIDE;
-use records::KNOWN;
+use records::WIDE_DECIDE;
+use records::WIDE_KNOWN;
 
 // The pattern numbers of the mask's drives, from the lowest, over the first bytes of the part; every other byte stays.
 // Nothing where they do not fit.
 fn put_numbers(part: &mut [u8], mask: u64, numbers: [Pattern; 64])
-    ensures { λ _. ⌜ now (part .exit) ≡ written (entryBytes (map (entryOf (numberIn numbers)) (drives mask))) (now (part .entry)) ⌝ }
+    ensures { λ _. ⌜ now (part .exit) ≡ written (entryBytes patternWidth (map (entryOf (numberIn numbers)) (drives mask))) (now (part .entry)) ⌝ }
 {
     if part.len() / PATTERN_BYTES < drive_sets::size(mask) as usize {
         return;
@@ -46,25 +47,25 @@ fn put_start(part: &mut [u8], m: u64, sender: Drive, round: Round)
     records::put_field(&mut part[3..], 1, round.0 as u64);
 }
 
-// KN over the first bytes of the part; every other byte stays. Nothing where it does not fit.
+// KW over the first bytes of the part; every other byte stays. Nothing where it does not fit.
 pub fn put_known(part: &mut [u8], sender: Drive, round: Round, mask: u64, numbers: [Pattern; 64])
     ensures { λ _. ⌜ now (part .exit) ≡ written (messageBytes (message (sender .0) (round .0) (knownOf mask (numberIn numbers)))) (now (part .entry)) ⌝ }
 {
     if part.len() < 12 + PATTERN_BYTES * drive_sets::size(mask) as usize {
         return;
     }
-    put_start(part, KNOWN, sender, round);
+    put_start(part, WIDE_KNOWN, sender, round);
     records::put_field(&mut part[4..], 8, mask);
     put_numbers(&mut part[12..], mask, numbers);
 }
 
-// DC over the first bytes of the part; every other byte stays. Nothing where it does not fit.
+// DW over the first bytes of the part; every other byte stays. Nothing where it does not fit.
 pub fn put_decide(part: &mut [u8], sender: Drive, round: Round, pattern: Pattern)
     ensures { λ _. ⌜ now (part .exit) ≡ written (messageBytes (message (sender .0) (round .0) (decided (pattern .0)))) (now (part .entry)) ⌝ }
 {
     if part.len() < DECIDE_BYTES {
         return;
     }
-    put_start(part, DECIDE, sender, round);
+    put_start(part, WIDE_DECIDE, sender, round);
     records::put_field(&mut part[4..], PATTERN_BYTES, pattern.0 as u64);
 }

@@ -9,3 +9,4 @@ pub mod Verdict
 pub mod TableText
 pub mod Exchange
 pub mod RunText
+pub mod OldRecords

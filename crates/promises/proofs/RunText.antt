@@ -1,5 +1,5 @@
 -- What the run program prints: the simulated exchange of the table and of the run file that are read, whose pattern
--- numbers are fields of two bytes.
+-- numbers are fields of two or four bytes.
 use mathlib.Core.Path.{_≡_, sym, ap, _∙_}
 use mathlib.Core.Bool.{true, false}
 use mathlib.Core.List.{List, [], _∷_}

@@ -2,6 +2,7 @@
 ghost use mathlib.Core.Path.{_≡_};
 ghost use lib.ListN.{length};
 ghost use Rattle.drive_sets.specs.Refusals.{andThen};
+ghost use Rattle.records.specs.Marks.{numberWidth};
 ghost use Rattle.drive_states.specs.Messages.{entriesIn, senderOf, contentOf, messageOf, checked};
 ghost use Rattle.agreement.specs.Calls.{outsideCore, anyDiffers, lower, announcing, accept, admitting, receiving};
 ghost use Rattle.exchange.specs.Replies.{Replied};
@@ -39,7 +40,7 @@ fn outside_core(kind: Kind, x: Exchange, s: &[u8]) -> bool
 fn differs(kind: Kind, x: Exchange, s: &[u8]) -> bool
     ensures { λ r. ⌜ r ≡ anyDiffers x (entriesIn (contentOf kind (now (s .entry)))) ⌝ }
 {
-    entries::any_differs(x, reading::mask_in(kind, s), s)
+    entries::any_differs(kind, x, reading::mask_in(kind, s), s)
 }
 
 // The announcement of the lower-numbered sender.
@@ -57,18 +58,22 @@ fn lower(announced: Announcement, d: Drive, v: Pattern) -> Announcement
     }
 }
 
-// A DC announces a decision.
+// A DC or DW announces a decision.
 fn announcing(announced: Announcement, kind: Kind, s: &[u8]) -> Announcement
     ensures { λ r. ⌜ r ≡ announcing announced (senderOf (now (s .entry))) (contentOf kind (now (s .entry))) ⌝ }
 {
-    if records::is_kind(kind, Kind::Known) {
+    if reading::is_known(kind) {
         return announced;
     }
-    lower(announced, reading::sender_of(s), reading::pattern_of(s))
+    lower(
+        announced,
+        reading::sender_of(s),
+        reading::pattern_of(kind, s),
+    )
 }
 
-// The state after an accepted message: every accepted sender counts as heard, a KN adds its drives' numbers, a DC
-// announces a decision.
+// The state after an accepted message: every accepted sender counts as heard, a KN or KW adds its drives' numbers, a DC
+// or DW announces a decision.
 fn accept(kind: Kind, x: Exchange, s: &[u8]) -> Exchange
     ensures { λ r. ⌜ r ≡ accept x (messageOf kind (now (s .entry))) ⌝ }
 {
@@ -78,7 +83,7 @@ fn accept(kind: Kind, x: Exchange, s: &[u8]) -> Exchange
     let before = x.announced;
     let decision = x.decision;
     let mask = reading::mask_in(kind, s);
-    let numbers = entries::stored(held, mask, s);
+    let numbers = entries::stored(kind, held, mask, s);
     let heard = drive_sets::insert(x.heard, reading::sender_of(s));
     let announced = announcing(before, kind, s);
     Exchange {
@@ -128,7 +133,7 @@ fn admit(kind: Kind, x: Exchange, s: &[u8]) -> Reply
 
 // A message of this kind, from its sender on: 8, 15, values cut (1), 7, and what follows.
 fn receive(kind: Kind, x: Exchange, s: &[u8]) -> Reply
-    ensures { λ r. ⌜ Replied (andThen (checked (x .n) (length (now (s .entry))) (messageOf kind (now (s .entry)))) (admitting x)) x r ⌝ }
+    ensures { λ r. ⌜ Replied (andThen (checked (x .n) (numberWidth kind) (length (now (s .entry))) (messageOf kind (now (s .entry)))) (admitting x)) x r ⌝ }
 {
     if !drive_sets::is_drive(x.n, reading::sender_of(s)) {
         return refused(x, Refusal::DriveNumber);
@@ -146,7 +151,7 @@ fn receive(kind: Kind, x: Exchange, s: &[u8]) -> Reply
     admit(kind, x, s)
 }
 
-// The message call: 28, 23, then mark cut (1), 2, the rest up to a KN's mask cut (1), and what follows.
+// The message call: 28, 23, then mark cut (1), 2, the rest up to the mask of a KN or KW cut (1), and what follows.
 pub fn message(x: Exchange, s: &[u8]) -> Reply
     ensures { λ r. ⌜ Replied (receiving x (now (s .entry))) x r ⌝ }
 {

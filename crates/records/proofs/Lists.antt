@@ -1,5 +1,5 @@
 -- The loop over a list of records: what is left to read gives what the whole gives.
-use mathlib.Core.Path.{_≡_, refl, sym, ap, _∙_}
+use mathlib.Core.Path.{_≡_, refl, sym, ap, _∙_, subst}
 use mathlib.Core.Bool.{true, false}
 use mathlib.Core.List.{List}
 use mathlib.Core.Option.{Option, none, some}
@@ -8,9 +8,12 @@ use native.Mathlib.Omega.{arith}
 use lib.ListN.{length, getD, take, drop, length-drop}
 use lib.Seq.{drop-cons, drop-drop}
 use Rattle.drive_sets.specs.Refusals.{Outcome, refused, result, andThen}
+use Rattle.records.specs.declared.Kind.{Kind}
+use Rattle.records.specs.declared.Next.the-variants.{One}
 use Rattle.records.specs.Fields.{fromBytes, fieldAt}
-use Rattle.records.specs.RecordLists.{ListFormat, ReadList, widthOf, stepOf, following, readFrom, readList}
-use Rattle.records.specs.RecordLists.Laws.{OwnKind, step-more, end-whole, one-whole, read-complete, read-step}
+use Rattle.records.specs.Marks.{bodyWidth, widthAt}
+use Rattle.records.specs.RecordLists.{nextOf, ListFormat, ReadList, stepOf, following, readFrom, readList}
+use Rattle.records.specs.RecordLists.Laws.{OwnKind, own-width, step-more, end-whole, one-whole, read-complete, read-step}
 use Rattle.records.proofs.Parts.{rest-is}
 
 -- a field of one byte is the byte
@@ -54,18 +57,22 @@ module _ {S : Type 0} (f : ListFormat S) where
         pub reading-end : result (record { list = state; rest = drop (at + 3) s }) ≡ whole
         reading-end = ap (λ (l : List ℕ). result (record { list = state; rest = l })) (sym (drop-drop 3 at s)) ∙ followed (result none) e
 
-      module _ (own : OwnKind f) {t : S} (e : result (some t) ≡ stepOf f state (take (length s - at) (drop at s))) where
+      module _ {t : S} (e : result (some t) ≡ stepOf f state (take (length s - at) (drop at s))) where
+        one : nextOf (f .due state) (f .count state) (drop at s) ≡ One
+        one = step-more f state (drop at s) (step e) .0
+
         -- the record was taken
         pub step-taken : f .taken state (drop at s) ≡ result t
         step-taken = step-more f state (drop at s) (step e) .1
 
-        pub reading-turn : Reading whole s t (at + widthOf f)
-        unfolding widthOf
-        reading-turn =
-            let long = one-whole f own state (f .count state) (drop at s) (step-more f state (drop at s) (step e) .0) in
-            record {
-              bytes = r .bytes - 1;
-              enough = omega (arith, r .enough);
-              within = omega (arith, length-drop at s, r .within);
-              same = ap (readFrom f (r .bytes - 1) t) (sym (drop-drop (widthOf f) at s)) ∙ followed (result (some t)) e;
-            }
+        pub reading-turn : Reading whole s t (at + widthAt (drop at s))
+        reading-turn = record {
+          bytes = r .bytes - 1;
+          enough = omega (arith, r .enough);
+          within = omega (arith, one-whole (f .due state) (f .count state) (drop at s) one, length-drop at s, r .within);
+          same = ap (readFrom f (r .bytes - 1) t) (sym (drop-drop (widthAt (drop at s)) at s)) ∙ followed (result (some t)) e;
+        }
+
+        -- where all are of one kind
+        pub reading-own : (kind : Kind) → OwnKind f kind → Reading whole s t (at + (2 + bodyWidth kind))
+        reading-own kind own = subst (λ (width : ℕ). Reading whole s t (at + width)) (own-width f kind own state (f .count state) (drop at s) one) reading-turn

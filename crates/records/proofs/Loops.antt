@@ -1,25 +1,18 @@
 -- The loops over a field's bytes: reading from the last byte to the first, writing from the first to the last.
 use mathlib.Core.Path.{_≡_, refl, sym, ap, _∙_, subst}
-use mathlib.Core.List.{List, [], _∷_}
-use Prim.Native.Nat.{ℕ, zero, suc, _+_, _*_, _-_, _/_, _%_, _^_, _≤_, _<_, min}
+use mathlib.Core.List.{List, _∷_}
+use Prim.Native.Nat.{ℕ, suc, _+_, _*_, _-_, _/_, _%_, _^_, _≤_, _<_, min}
 use native.Mathlib.Omega.{arith}
 use lib.ListN.{length, getD, take, drop, length-take, length-drop}
-use lib.Seq.{getD-drop, getD-take}
+use lib.Seq.{getD-take}
 use Rattle.drive_sets.specs.Loops.Back.{Back, back-start, back-turn}
 use Rattle.drive_sets.specs.Loops.Filling.{Filling, filling-end}
-use Rattle.records.specs.Fields.{fromBytes, toBytes}
+use Rattle.records.specs.Fields.{Bytes, fromBytes, toBytes}
 use Rattle.drive_sets.specs.Lent.{written}
-use Rattle.records.specs.Fields.Laws.{fromBytes-lt, length-toBytes}
+use Rattle.records.specs.Fields.Laws.{length-toBytes, fromBytes-lt, bytes-take, bytes-drop}
 use Rattle.drive_sets.specs.Lent.Laws.{written-fits, written-none}
 
 -- ---- reading
-
--- a byte of the first ones is a byte of the whole
-pub bytes-take : (n : ℕ) (s : List ℕ) → ((i : ℕ) → getD s i 0 < 256) → (i : ℕ) → getD (take n s) i 0 < 256
-bytes-take zero s h i = omega arith
-bytes-take (suc n) [] h i = omega arith
-bytes-take (suc n) (x ∷ s) h zero = h 0
-bytes-take (suc n) (x ∷ s) h (suc i) = bytes-take n s (λ j. h (suc j)) i
 
 -- from byte i on, of at most 8, the field is x
 abbrev pub Reading : List ℕ → ℕ → ℕ → Type 0
@@ -37,12 +30,9 @@ module _ (s : List ℕ) {i : ℕ} where
       back-turn r h (x * 256 + b) (λ l q. omega arith)
 
   -- the next sum fits
-  pub reading-fits : {x : ℕ} → ((j : ℕ) → getD s j 0 < 256) → Reading s i x → 0 < i → x * 256 + 255 < 2 ^ 64
+  pub reading-fits : {x : ℕ} → Bytes s → Reading s i x → 0 < i → x * 256 + 255 < 2 ^ 64
   reading-fits b r h =
-      omega (arith, r .rest, fromBytes-lt 7 (drop i (take 8 s)) (omega (arith, length-drop i (take 8 s), length-take 8 s)) bytes)
-    where
-      bytes : (j : ℕ) → getD (drop i (take 8 s)) j 0 < 256
-      bytes j = subst (λ (y : ℕ). y < 256) (sym (getD-drop i (take 8 s) j 0)) (bytes-take 8 s b (i + j))
+      omega (arith, r .rest, fromBytes-lt 7 (drop i (take 8 s)) (omega (arith, length-drop i (take 8 s), length-take 8 s)) (bytes-drop i (take 8 s) (bytes-take 8 s b)))
 
 -- ---- writing
 

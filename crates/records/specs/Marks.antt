@@ -9,8 +9,9 @@ use Prim.Native.Char.{code}
 use lib.Dec.{eqb, ltb}
 use lib.ListN.{length, take}
 use Rattle.drive_sets.specs.declared.Refusal.the-variants.{EndsTooSoon, WrongMark}
+use Rattle.drive_sets.specs.Limits.{patternWidth, narrowWidth}
 use Rattle.records.specs.declared.Kind.{Kind}
-use Rattle.records.specs.declared.Kind.the-variants.{Frame, Survivor, Proposal, Crash, End, Known, Decide, Unknown}
+use Rattle.records.specs.declared.Kind.the-variants.{Frame, Survivor, Proposal, Crash, End, Known, Decide, WideProposal, WideKnown, WideDecide, Unknown}
 use Rattle.records.specs.declared.Due.{Due}
 use Rattle.records.specs.declared.Due.the-variants.{AtFrame, AtFirstSet, AtSetOrEnd, AtProposal, AtCrashOrEnd, AtMessage}
 use Rattle.records.specs.declared.Head.{Head}
@@ -32,20 +33,49 @@ markText Crash = "CR"
 markText End = "EN"
 markText Known = "KN"
 markText Decide = "DC"
+markText WideProposal = "PW"
+markText WideKnown = "KW"
+markText WideDecide = "DW"
 markText Unknown = ""
 
 unfoldable pub mark : Kind → ℕ
 mark k = fromBytes (ascii (markText k))
 
--- how many bytes follow the mark; of a Known record up to its mask
+-- pattern numbers are narrow in PR, KN and DC, and wide in PW, KW and DW: two bytes, and four
+pub data Form : Type 0 where
+  narrow : Form
+  wide : Form
+
+abbrev pub widthIn : Form → ℕ
+widthIn narrow = narrowWidth
+widthIn wide = patternWidth
+
+-- how many bytes a pattern number takes in a record of this kind; the others have none
+unfoldable pub numberWidth : Kind → ℕ
+numberWidth Frame = 0
+numberWidth Survivor = 0
+numberWidth Proposal = narrowWidth
+numberWidth Crash = 0
+numberWidth End = 0
+numberWidth Known = narrowWidth
+numberWidth Decide = narrowWidth
+numberWidth WideProposal = patternWidth
+numberWidth WideKnown = patternWidth
+numberWidth WideDecide = patternWidth
+numberWidth Unknown = 0
+
+-- how many bytes follow the mark; of a KN or KW up to its mask
 unfoldable pub bodyWidth : Kind → ℕ
 bodyWidth Frame = 1
 bodyWidth Survivor = 8
-bodyWidth Proposal = 3
+bodyWidth Proposal = 1 + narrowWidth
 bodyWidth Crash = 3
 bodyWidth End = 1
 bodyWidth Known = 10
-bodyWidth Decide = 4
+bodyWidth Decide = 2 + narrowWidth
+bodyWidth WideProposal = 1 + patternWidth
+bodyWidth WideKnown = 10
+bodyWidth WideDecide = 2 + patternWidth
 bodyWidth Unknown = 0
 
 -- the kind of record that a mark starts
@@ -57,7 +87,10 @@ kindOf m =
     (cond (eqb m (mark Crash)) Crash
     (cond (eqb m (mark End)) End
     (cond (eqb m (mark Known)) Known
-    (cond (eqb m (mark Decide)) Decide Unknown))))))
+    (cond (eqb m (mark Decide)) Decide
+    (cond (eqb m (mark WideProposal)) WideProposal
+    (cond (eqb m (mark WideKnown)) WideKnown
+    (cond (eqb m (mark WideDecide)) WideDecide Unknown)))))))))
 
 -- a kind is known by its mark
 unfoldable pub isKind : Kind → Kind → Bool
@@ -68,15 +101,22 @@ unfoldable pub isDue : Due → Kind → Bool
 isDue AtFrame k = isKind Frame k
 isDue AtFirstSet k = isKind Survivor k
 isDue AtSetOrEnd k = isKind Survivor k || isKind End k
-isDue AtProposal k = isKind Proposal k
+isDue AtProposal k = isKind Proposal k || isKind WideProposal k
 isDue AtCrashOrEnd k = isKind Crash k || isKind End k
-isDue AtMessage k = isKind Known k || isKind Decide k
+isDue AtMessage k = (isKind Known k || isKind Decide k) || (isKind WideKnown k || isKind WideDecide k)
+
+-- the kind of the record at the start of the bytes, and how many of them it has: of a KN or KW up to its mask
+abbrev pub kindAt : List ℕ → Kind
+kindAt s = kindOf (fromBytes (take 2 s))
+
+abbrev pub widthAt : List ℕ → ℕ
+widthAt s = 2 + bodyWidth (kindAt s)
 
 -- what stands at the start of the bytes: mark cut (1), unknown or in the wrong place (2), rest cut (1), or a record of
 -- some kind
 unfoldable pub headOf : Due → List ℕ → Head
 headOf due s =
-    let k = kindOf (fromBytes (take 2 s)) in
+    let k = kindAt s in
     cond (ltb (length s) 2) (Refused EndsTooSoon)
     (cond (not (isDue due k)) (Refused WrongMark)
     (cond (ltb (length s) (2 + bodyWidth k)) (Refused EndsTooSoon) (Record k)))

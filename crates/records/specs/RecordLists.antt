@@ -1,5 +1,4 @@
--- Lists of records of one kind, read from left to right: a list ends by itself, or with EN and the count of its
--- records.
+-- Lists of records, read from left to right: a list ends by itself, or with EN and the count of its records.
 use mathlib.Core.Bool.{Bool, cond}
 use mathlib.Core.List.{List, [], _∷_, _++_}
 use mathlib.Core.Option.{Option, none, some}
@@ -16,7 +15,7 @@ use Rattle.records.specs.declared.Head.the-variants as heads
 use Rattle.records.specs.declared.Next.{Next}
 use Rattle.records.specs.declared.Next.the-variants.{One, End, Stop}
 use Rattle.records.specs.Fields.{fieldAt}
-use Rattle.records.specs.Marks.{mark, bodyWidth, isKind, headOf, recordBytes}
+use Rattle.records.specs.Marks.{mark, bodyWidth, isKind, widthAt, headOf, recordBytes}
 pub mod Laws
 pub mod Numbered
 pub mod Prefixes
@@ -36,10 +35,9 @@ nextAt (heads.Record k) count s = cond (isKind kinds.End k) (cond (eqb (fieldAt 
 unfoldable pub nextOf : Due → ℕ → List ℕ → Next
 nextOf due count s = nextAt (headOf due s) count s
 
--- how a list of records of one kind is read. A state is what was read so far: what is due in it, how many records are
--- listed, whether the list ends by itself, and what the record at the start of the bytes makes of it
+-- how a list of records is read. A state is what was read so far: what is due in it, how many records are listed,
+-- whether the list ends by itself, and what the record at the start of the bytes makes of it
 pub record ListFormat (S : Type 0) : Type 0 where
-  pub kind : Kind
   pub due : S → Due
   pub count : S → ℕ
   pub complete : S → Bool
@@ -51,10 +49,6 @@ pub record ReadList (S : Type 0) : Type 0 where
   pub rest : List ℕ
 
 module _ {S : Type 0} where
-  -- how many bytes a record has, with its mark
-  unfoldable pub widthOf : ListFormat S → ℕ
-  widthOf f = 2 + bodyWidth (f .kind)
-
   -- one step: a refusal, none at the end, or the next state
   abbrev pub stepAt : Next → Outcome S → Outcome (Option S)
   stepAt (Stop r) more = refused (number r)
@@ -67,7 +61,7 @@ module _ {S : Type 0} where
   -- what follows a step: what is read so far and what stands behind EN, or the records behind this one
   abbrev pub following : ListFormat S → (S → List ℕ → Outcome (ReadList S)) → S → List ℕ → Option S → Outcome (ReadList S)
   following f later state s none = result (record { list = state; rest = drop 3 s })
-  following f later state s (some next) = later next (drop (widthOf f) s)
+  following f later state s (some next) = later next (drop (widthAt s) s)
 
   -- the records from a state on; the number is at least that of the bytes, so where it is zero they have ended
   unfoldable pub readFrom : ListFormat S → ℕ → S → List ℕ → Outcome (ReadList S)

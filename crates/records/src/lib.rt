@@ -3,12 +3,16 @@
 // what is due.
 ghost use mathlib.Core.Path.{_≡_};
 ghost use Prim.Native.Nat.{_+_, min};
-ghost use lib.Dec.{leb};
+ghost use mathlib.Core.Bool.{_||_};
+ghost use lib.Dec.{eqb, leb};
 ghost use lib.ListN.{take, drop};
-ghost use Rattle.records.specs.Fields.{fromBytes, toBytes};
+ghost use Rattle.records.specs.Fields.{fromBytes, toBytes, fieldAt};
 ghost use Rattle.drive_sets.specs.Lent.{written};
-ghost use Rattle.records.specs.Marks.{mark, kindOf, bodyWidth, isKind, isDue, headOf, recordBytes};
+ghost use Rattle.records.specs.Marks.{mark, kindOf, numberWidth, bodyWidth, isKind, isDue, headOf, recordBytes};
 ghost use Rattle.records.specs.RecordLists.{nextOf};
+use drive_sets::NARROW_PATTERN_BYTES;
+use drive_sets::PATTERN_BYTES;
+use drive_sets::Pattern;
 use drive_sets::Refusal;
 
 // The kind of a record.
@@ -20,6 +24,10 @@ pub enum Kind {
     End,
     Known,
     Decide,
+    // A proposal, known numbers and a decision again, with wide pattern numbers.
+    WideProposal,
+    WideKnown,
+    WideDecide,
     Unknown,
 }
 
@@ -67,12 +75,16 @@ pub const KNOWN: u64 = 0x4e4b;
 
 pub const DECIDE: u64 = 0x4344;
 
+pub const WIDE_PROPOSAL: u64 = 0x5750;
+
+pub const WIDE_KNOWN: u64 = 0x574b;
+
+pub const WIDE_DECIDE: u64 = 0x5744;
+
 // How many bytes a record of a list has, with its mark.
 pub const FRAME_WIDTH: usize = 3;
 
 pub const SURVIVOR_WIDTH: usize = 10;
-
-pub const PROPOSAL_WIDTH: usize = 5;
 
 pub const CRASH_WIDTH: usize = 5;
 
@@ -190,22 +202,68 @@ pub(crate) fn kind_of(m: u64) -> Kind
         END => Kind::End,
         KNOWN => Kind::Known,
         DECIDE => Kind::Decide,
+        WIDE_PROPOSAL => Kind::WideProposal,
+        WIDE_KNOWN => Kind::WideKnown,
+        WIDE_DECIDE => Kind::WideDecide,
         _ => Kind::Unknown,
     }
 }
 
-// How many bytes follow the mark; of a Known record up to its mask.
-pub(crate) fn body_width(k: Kind) -> usize
+// How many bytes a pattern number takes in a record of this kind.
+pub fn number_width(k: Kind) -> usize
+    ensures { λ r. ⌜ r ≡ numberWidth k ⌝ }
+{
+    match k {
+        Kind::Frame => 0,
+        Kind::Survivor => 0,
+        Kind::Proposal => NARROW_PATTERN_BYTES,
+        Kind::Crash => 0,
+        Kind::End => 0,
+        Kind::Known => NARROW_PATTERN_BYTES,
+        Kind::Decide => NARROW_PATTERN_BYTES,
+        Kind::WideProposal => PATTERN_BYTES,
+        Kind::WideKnown => PATTERN_BYTES,
+        Kind::WideDecide => PATTERN_BYTES,
+        Kind::Unknown => 0,
+    }
+}
+
+// The pattern number at a place in a record of this kind. The usual width has a call of its own, since a loop over a
+// constant number of bytes is faster.
+pub fn pattern_at(s: &[u8], at: usize, k: Kind) -> Pattern
+    ensures { λ r. ⌜ r .0 ≡ fieldAt at (numberWidth k) (now (s .entry)) ⌝ }
+{
+    let width = number_width(k);
+    if width == PATTERN_BYTES {
+        return Pattern(field(s, at, PATTERN_BYTES) as u32);
+    }
+    Pattern(field(s, at, width) as u32)
+}
+
+// What follows the mark where a pattern number does: a drive, or a sender and a round, and the number.
+const PROPOSAL_BODY: usize = 1 + NARROW_PATTERN_BYTES;
+
+const DECIDE_BODY: usize = 2 + NARROW_PATTERN_BYTES;
+
+const WIDE_PROPOSAL_BODY: usize = 1 + PATTERN_BYTES;
+
+const WIDE_DECIDE_BODY: usize = 2 + PATTERN_BYTES;
+
+// How many bytes follow the mark; of a KN or KW up to its mask.
+pub fn body_width(k: Kind) -> usize
     ensures { λ r. ⌜ r ≡ bodyWidth k ⌝ }
 {
     match k {
         Kind::Frame => 1,
         Kind::Survivor => 8,
-        Kind::Proposal => 3,
+        Kind::Proposal => PROPOSAL_BODY,
         Kind::Crash => 3,
         Kind::End => 1,
         Kind::Known => 10,
-        Kind::Decide => 4,
+        Kind::Decide => DECIDE_BODY,
+        Kind::WideProposal => WIDE_PROPOSAL_BODY,
+        Kind::WideKnown => 10,
+        Kind::WideDecide => WIDE_DECIDE_BODY,
         Kind::Unknown => 0,
     }
 }
@@ -222,6 +280,9 @@ fn mark_of(k: Kind) -> u64
         Kind::End => END,
         Kind::Known => KNOWN,
         Kind::Decide => DECIDE,
+        Kind::WideProposal => WIDE_PROPOSAL,
+        Kind::WideKnown => WIDE_KNOWN,
+        Kind::WideDecide => WIDE_DECIDE,
         Kind::Unknown => 0,
     }
 }
@@ -233,6 +294,13 @@ pub fn is_kind(k: Kind, this: Kind) -> bool
     mark_of(k) == mark_of(this)
 }
 
+// The mark is one of the two.
+fn is_either(m: u64, one: u64, other: u64) -> bool
+    ensures { λ r. ⌜ r ≡ (eqb m one || eqb m other) ⌝ }
+{
+    m == one || m == other
+}
+
 // A record of this kind may stand here.
 pub(crate) fn is_due(due: Due, k: Kind) -> bool
     ensures { λ r. ⌜ r ≡ isDue due k ⌝ }
@@ -241,10 +309,10 @@ pub(crate) fn is_due(due: Due, k: Kind) -> bool
     match due {
         Due::AtFrame => m == FRAME,
         Due::AtFirstSet => m == SURVIVOR,
-        Due::AtSetOrEnd => m == SURVIVOR || m == END,
-        Due::AtProposal => m == PROPOSAL,
-        Due::AtCrashOrEnd => m == CRASH || m == END,
-        Due::AtMessage => m == KNOWN || m == DECIDE,
+        Due::AtSetOrEnd => is_either(m, SURVIVOR, END),
+        Due::AtProposal => is_either(m, PROPOSAL, WIDE_PROPOSAL),
+        Due::AtCrashOrEnd => is_either(m, CRASH, END),
+        Due::AtMessage => is_either(m, KNOWN, DECIDE) || is_either(m, WIDE_KNOWN, WIDE_DECIDE),
     }
 }
 

@@ -1,12 +1,14 @@
--- The PR records: one record, and the loop over them, in which what is left to read gives what the whole gives.
+-- The PR and PW records: one record, and the loop over them, in which what is left to read gives what the whole gives.
 use mathlib.Core.Path.{_≡_, refl, sym, ap, _∙_, subst}
 use mathlib.Core.List.{List, [], _∷_, _++_}
+use mathlib.Core.Logic.{⊎-elim}
 use Prim.Native.Nat.{ℕ, zero, suc, _+_, _-_, _≤_, _<_}
 use native.Mathlib.Omega.{arith}
 use native.Mathlib.Numerals.{add-one}
 use lib.ListN.{length, getD, take, drop, set, length-map, length-set}
 use lib.Seq.{take-suc-set, length-take-le}
 use borrow.Author.Tests.{le-leb, lt-leb}
+use Rattle.drive_sets.specs.Bools.Laws.{or-cases}
 use Rattle.drive_sets.specs.declared.Pattern.{Pattern}
 use Rattle.drive_sets.specs.declared.Refusal.{Refusal}
 use Rattle.drive_sets.specs.Refusals.{refused, result, number}
@@ -17,10 +19,11 @@ use Rattle.records.specs.declared.Head.{Head}
 use Rattle.records.specs.declared.Head.the-variants as heads
 use Rattle.records.specs.declared.Next.the-variants as nexts
 use Rattle.records.specs.Fields.{fromBytes, fieldAt}
-use Rattle.records.specs.Marks.{ascii, markText, mark, bodyWidth, isKind, isDue, headOf}
-use Rattle.records.specs.Marks.Laws.{kind-is}
-use Rattle.records.specs.RecordLists.{nextOf, widthOf, stepOf, readList}
-use Rattle.records.specs.RecordLists.Laws.{OwnKind, other-next, one-whole}
+use Rattle.records.specs.Marks.{ascii, markText, mark, bodyWidth, isKind, isDue, widthAt, headOf}
+use Rattle.records.specs.Marks.Laws.{Present, head-present, kind-is}
+use Rattle.records.specs.RecordLists.{nextOf, stepOf, readList}
+use Rattle.records.specs.RecordLists.Laws.{other-next}
+use Rattle.records.proofs.Parts.{rest-is}
 use Rattle.records.proofs.Lists.{first-byte, Reading, reading-start, reading-complete, reading-stop, reading-turn}
 use Rattle.drive_sets.specs.Limits.{maxDrives}
 use Rattle.run_files.specs.declared.proposals.Proposal.{Proposal}
@@ -31,22 +34,31 @@ use Rattle.run_files.specs.Reading.{proposalOutcome}
 
 -- ---- one record
 
-own-proposal : (n : ℕ) → OwnKind (proposalList n)
-unfolding isDue
-own-proposal n given k d t = kind-is kinds.Proposal k d
-
 module _ (s : List ℕ) {head : Head} (h : head ≡ headOf AtProposal s) {k : Kind} (e : head ≡ heads.Record k) where
   -- EN is not due
   pub one : (count : ℕ) → nextOf AtProposal count s ≡ nexts.One
   unfolding isDue isKind mark markText ascii fromBytes
   one count = other-next AtProposal count s k refl (sym h ∙ e)
 
+  pub there : Present AtProposal s k
+  there = head-present AtProposal s k (sym h ∙ e)
+
   pub proposal-long : 5 ≤ length s
-  unfolding widthOf bodyWidth
-  proposal-long = one-whole (proposalList 0) (own-proposal 0) [] 0 s (one 0)
+  unfolding isDue bodyWidth
+  proposal-long =
+      ⊎-elim (λ p. let same = kind-is kinds.Proposal k p in omega (arith, there .long, ap bodyWidth same))
+      (λ p. let same = kind-is kinds.WideProposal k p in omega (arith, there .long, ap bodyWidth same))
+      (or-cases (isKind kinds.Proposal k) (isKind kinds.WideProposal k) (there .is-due))
 
   pub drive-byte : fieldAt 2 1 s ≡ getD s 2 0
   drive-byte = sym (first-byte s 2 (omega (arith, proposal-long)))
+
+-- how many bytes a record has is told beside its number alone
+pub no-width : {r : Refusal} {v : Pattern} {width : ℕ} → Stop r ≡ Number v width → ⊥
+no-width e = let z : _≡_ {A = ℕ} 0 1 = cc in omega arith
+
+pub same-width : {v v′ : Pattern} {width width′ : ℕ} → Number v width ≡ Number v′ width′ → width′ ≡ width
+same-width e = cc
 
 -- ---- the loop
 
@@ -86,14 +98,14 @@ module _ {s : List ℕ} {n : ℕ} {numbers : List Pattern} {given at : ℕ} (fra
     proposing-stop {q} e =
         reading-stop (proposalList n) _ s (take given (values numbers)) at (r .reading) (lt-leb n (length (take given (values numbers))) (omega (arith, listed))) (number q) (said (Stop q) e)
 
-    pub proposing-turn : {v : Pattern} → step ≡ Number v → Proposing s n (set numbers given v) (given + 1) (at + 5)
-    unfolding widthOf bodyWidth
-    proposing-turn {v} e = record {
+    pub proposing-turn : {v : Pattern} {width : ℕ} → step ≡ Number v width → width ≡ widthAt (take (length s - at) (drop at s)) → Proposing s n (set numbers given v) (given + 1) (at + width)
+    proposing-turn {v} {width} e long = record {
       few = omega arith;
       room = length-set numbers given v ∙ r .room;
       reading =
-          subst (λ (l : List ℕ). Reading (proposalList n) (readList (proposalList n) [] s) s l (at + 5)) (sym more)
-          (reading-turn (proposalList n) _ s (take given (values numbers)) at (r .reading) (lt-leb n (length (take given (values numbers))) (omega (arith, listed))) (own-proposal n) (said (Number v) e));
+          subst (λ (w : ℕ). Reading (proposalList n) (readList (proposalList n) [] s) s (take (given + 1) (values (set numbers given v))) (at + w)) (sym (long ∙ ap widthAt (rest-is s at)))
+          (subst (λ (l : List ℕ). Reading (proposalList n) (readList (proposalList n) [] s) s l (at + widthAt (drop at s))) (sym more)
+          (reading-turn (proposalList n) _ s (take given (values numbers)) at (r .reading) (lt-leb n (length (take given (values numbers))) (omega (arith, listed))) (said (Number v width) e)));
     }
       where
         more : take (given + 1) (values (set numbers given v)) ≡ take given (values numbers) ++ (v .0 ∷ [])

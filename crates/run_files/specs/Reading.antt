@@ -39,4 +39,4 @@ refusedFile r = record { answer = Refused r; numbers = replicate 64 (record { 0 
 -- what a step makes of the numbers given
 abbrev pub proposalOutcome : List ℕ → Proposal → Outcome (Option (List ℕ))
 proposalOutcome given (proposals.Stop r) = refused (number r)
-proposalOutcome given (proposals.Number v) = result (some (given ++ (v .0 ∷ [])))
+proposalOutcome given (proposals.Number v width) = result (some (given ++ (v .0 ∷ [])))

@@ -1,22 +1,23 @@
--- Run files as bytes: PR for each drive in order, CR (none is fine), EN with the count of CR. Reading finds the
+-- Run files as bytes: PR or PW for each drive in order, CR (none is fine), EN with the count of CR. Reading finds the
 -- refusals from left to right.
 use mathlib.Core.Bool.{not}
-use mathlib.Core.List.{List, [], _∷_, _++_}
-use Prim.Native.Nat.{ℕ, suc}
+use mathlib.Core.List.{List, [], _∷_, _++_, map}
+use Prim.Native.Nat.{ℕ, suc, _^_, _<_}
 use lib.Dec.{eqb, leb}
 use lib.ListN.{length}
 use Rattle.drive_sets.specs.declared.Refusal.the-variants.{TrailingBytes, DriveNumber, NoneUntouched}
 use Rattle.drive_sets.specs.Refusals.{Outcome, result, refuseIf, andThen}
 use Rattle.drive_sets.specs.Positions.{isNone}
 use Rattle.survivor_tables.specs.Hitting.{firstMissed}
-use Rattle.records.specs.declared.Kind.the-variants.{Proposal}
 use Rattle.records.specs.declared.Due.the-variants.{AtProposal}
-use Rattle.records.specs.Fields.{fieldAt}
+use Rattle.records.specs.declared.Kind.{Kind}
+use Rattle.records.specs.declared.Kind.the-variants.{Proposal, WideProposal}
+use Rattle.records.specs.Fields.{fieldAt, toBytes}
+use Rattle.records.specs.Marks.{mark, Form, narrow, wide, widthIn, numberWidth, kindAt}
 use Rattle.records.specs.RecordLists.{ListFormat, readList}
 use Rattle.survivor_tables.specs.Tables.{isEmpty, chosenCore}
 use Rattle.runs.specs.CrashRecords.{CrashRecord, crashed}
 use Rattle.crash_lists.specs.CrashLists.{noCrash, crashList}
-use Rattle.drive_sets.specs.Limits.{patternWidth}
 pub mod Laws
 pub mod Accepted
 
@@ -25,19 +26,41 @@ pub record RunFile : Type 0 where
   pub numbers : List ℕ
   pub crashes : List CrashRecord
 
--- ---- PR: drive, 1 byte; pattern number, 2 bytes; drives 1 to n in order
+-- ---- PR and PW: drive, 1 byte; pattern number, 2 bytes in PR and 4 in PW; drives 1 to n in order
 
 -- 8, a drive that is not the next
 unfoldable pub takenProposal : List ℕ → List ℕ → Outcome (List ℕ)
 takenProposal given s =
     refuseIf (not (eqb (fieldAt 2 1 s) (suc (length given)))) DriveNumber
-    (result (given ++ (fieldAt 3 patternWidth s ∷ [])))
+    (result (given ++ (fieldAt 3 (numberWidth (kindAt s)) s ∷ [])))
 
--- the PR records, with the numbers given so far; they end with drive n's
+-- the PR and PW records, with the numbers given so far; they end with drive n's
 abbrev pub proposalList : ℕ → ListFormat (List ℕ)
-proposalList n = record { kind = Proposal; due = λ given. AtProposal; count = length; complete = λ given. leb n (length given); taken = takenProposal }
+proposalList n = record { due = λ given. AtProposal; count = length; complete = λ given. leb n (length given); taken = takenProposal }
 
--- ---- a run file: PR.., CR.., EN
+-- what a file has for each drive, from some drive on: its number, narrow or wide
+pub record ProposalRecord : Type 0 where
+  pub form : Form
+  pub number : ℕ
+
+unfoldable pub proposalKind : Form → Kind
+proposalKind narrow = Proposal
+proposalKind wide = WideProposal
+
+unfoldable pub proposalBytes : ℕ → List ProposalRecord → List ℕ
+proposalBytes d [] = []
+proposalBytes d (p ∷ ps) =
+    toBytes 2 (mark (proposalKind (p .form))) ++ ((toBytes 1 d ++ toBytes (widthIn (p .form)) (p .number)) ++ proposalBytes (suc d) ps)
+
+-- numbers that fit their records
+abbrev pub RecordsFit : List ProposalRecord → Type 0
+RecordsFit [] = Unit {0}
+RecordsFit (p ∷ ps) = (p .number < 256 ^ widthIn (p .form)) × RecordsFit ps
+
+abbrev pub numbersOf : List ProposalRecord → List ℕ
+numbersOf ps = map (λ (p : ProposalRecord). p .number) ps
+
+-- ---- a run file: PR or PW.., CR.., EN
 
 -- what is read: what the run file says, and the bytes after EN
 pub record ReadRun : Type 0 where

@@ -1,21 +1,20 @@
-// The PR records of a run file: one for each drive in order, with the pattern number that it proposes.
+// The PR and PW records of a run file: one for each drive in order, with the pattern number that it proposes.
 ghost use mathlib.Core.Path.{_≡_};
 ghost use mathlib.Core.List.{List, []};
 ghost use Prim.Native.Nat.{ℕ, suc, _≤_};
 ghost use lib.ListN.{length};
-ghost use Rattle.records.specs.Fields.{fieldAt};
+ghost use Rattle.records.specs.Marks.{widthAt};
 ghost use Rattle.records.specs.RecordLists.{stepOf, readList};
 ghost use Rattle.run_files.specs.RunFiles.{proposalList};
 ghost use Rattle.run_files.specs.Reading.{proposalOutcome, proposalsOutcome};
-ghost use Rattle.drive_sets.specs.Limits.{maxDrives, patternWidth};
+ghost use Rattle.drive_sets.specs.Limits.{maxDrives};
+ghost use Rattle.drive_sets.specs.declared.Pattern.{Pattern};
 use drive_sets::Answer;
 use drive_sets::Drive;
-use drive_sets::PATTERN_BYTES;
 use drive_sets::Pattern;
 use drive_sets::Refusal;
 use records::Due;
 use records::Head;
-use records::PROPOSAL_WIDTH;
 
 // The numbers read, drive 1 first, and how many bytes they took, where all are accepted.
 pub struct Proposals {
@@ -24,9 +23,9 @@ pub struct Proposals {
     pub used: usize,
 }
 
-// What stands where the PR of a drive is due.
+// What stands where the record of a drive is due: its number and how many bytes the record has, or a refusal.
 enum Proposal {
-    Number(Pattern),
+    Number(Pattern, usize),
     Stop(Refusal),
 }
 
@@ -40,31 +39,26 @@ fn refused(r: Refusal) -> Proposals
     }
 }
 
-// The pattern number of the PR at the start of the bytes.
-fn pattern_at(s: &[u8]) -> Pattern
-    ensures { λ r. ⌜ r .0 ≡ fieldAt 3 patternWidth (now (s .entry)) ⌝ }
-{
-    Pattern(records::field(s, 3, PATTERN_BYTES) as u16)
-}
-
-// The record at the start of the bytes, where the PR of this drive is due.
+// The record at the start of the bytes, where the PR or PW of this drive is due.
 fn next_proposal(s: &[u8], due: Drive) -> Proposal
     ensures { λ r. ⌜ ((n : ℕ) (given : List ℕ) → suc (length given) ≡ due .0 → proposalOutcome given r ≡ stepOf (proposalList n) given (now (s .entry))) ⌝ }
+    ensures width { λ r. ⌜ ((v : Pattern) (width : ℕ) → r ≡ Proposal.Number v width → width ≡ widthAt (now (s .entry))) ⌝ }
 {
     let head = records::read_head(s, Due::AtProposal);
     let drive = due.0;
     match head {
         Head::Refused(r) => Proposal::Stop(r),
-        Head::Record(_) => {
+        Head::Record(kind) => {
             if s[2] != drive {
                 return Proposal::Stop(Refusal::DriveNumber);
             }
-            Proposal::Number(pattern_at(s))
+            let number = records::pattern_at(s, 3, kind);
+            Proposal::Number(number, 2 + records::body_width(kind))
         }
     }
 }
 
-// The PR of drives 1 to n.
+// The PR or PW of drives 1 to n.
 pub(crate) fn read_proposals(s: &[u8], n: u8) -> Proposals
     requires { ⌜ n ≤ maxDrives ⌝ }
     ensures { λ r. ⌜ (proposalsOutcome n r (now (s .entry)) ≡ readList (proposalList n) [] (now (s .entry))) × (r .used ≤ length (now (s .entry))) ⌝ }
@@ -76,11 +70,11 @@ pub(crate) fn read_proposals(s: &[u8], n: u8) -> Proposals
         let next = next_proposal(&s[at..], Drive(given + 1));
         match next {
             Proposal::Stop(r) => return refused(r),
-            Proposal::Number(v) => {
+            Proposal::Number(v, width) => {
                 let place = given as usize;
                 numbers[place] = v;
                 given += 1;
-                at += PROPOSAL_WIDTH;
+                at += width;
             }
         }
     }

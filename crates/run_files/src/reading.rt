@@ -1,5 +1,5 @@
-// The run file reader: PR for each drive, CR, EN with their count, nothing after it, and a survivor set that no crash
-// touches.
+// The run file reader: PR or PW for each drive, CR, EN with their count, nothing after it, and a survivor set that no
+// crash touches.
 ghost use mathlib.Core.Path.{_≡_};
 ghost use Prim.Native.Nat.{_≤_};
 ghost use lib.ListN.{length};
@@ -53,7 +53,7 @@ fn refused_records(r: Refusal) -> RunRecords
     }
 }
 
-// PR, CR, EN of a file for n drives with this chosen core, with anything behind it.
+// PR or PW, CR, EN of a file for n drives with this chosen core, with anything behind it.
 fn read_records(s: &[u8], n: u8, core: u64) -> RunRecords
     requires { ⌜ n ≤ maxDrives ⌝ }
     ensures { λ r. ⌜ recordsOutcome n r (now (s .entry)) ≡ readRecords n core (now (s .entry)) ⌝ }

@@ -1,4 +1,4 @@
-// The message that a core drive sends in a round: KN or DC into the part of the lent buffer from the cursor on.
+// The message that a core drive sends in a round: KW or DW into the part of the lent buffer from the cursor on.
 ghost use mathlib.Core.Path.{_≡_};
 ghost use lib.ListN.{length};
 ghost use Rattle.drive_sets.specs.Lent.{written, fitting};
@@ -13,7 +13,7 @@ use messages::DECIDE_BYTES;
 use messages::writing;
 use records::Writing;
 
-// An undecided core drive sends KN with all it knew when the round began; a decided one sends DC.
+// An undecided core drive sends KW with all it knew when the round began; a decided one sends DW.
 fn put_message(part: &mut [u8], x: Exchange)
     ensures { λ _. ⌜ now (part .exit) ≡ written (messageBytes (outgoing x)) (now (part .entry)) ⌝ }
 {

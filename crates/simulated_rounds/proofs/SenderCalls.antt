@@ -14,7 +14,7 @@ use Rattle.runs.specs.World.{opened, active}
 use Rattle.agreement.specs.Document01.{applyAll}
 use Rattle.runs.specs.Scenario.{goneBefore}
 use Rattle.agreement.specs.Sends.{cut}
-use Rattle.agreement.specs.Canonical.{deliveries}
+use Rattle.agreement.specs.Canonical.{room, deliveries}
 use Rattle.drive_crashes.specs.declared.Crashes.{Crashes}
 use Rattle.simulated_sends.specs.States.{blank, worldOf, listFor}
 use Rattle.simulated_rounds.specs.Rounds.{crashAt, sendsNow, messagesBy, messagesOf}
@@ -46,7 +46,7 @@ module _ (n core : ℕ) (c : Crashes) (r : ℕ) (states : List Exchange) where
 
   pub send-turn : (all : List Exchange) (i : ℕ) (new : List Exchange) → Sending all i → i < n → length new ≡ 64
       → worldOf n new ≡ applyAll (worldOf n all) (cond (has (i + 1) core && active (opened (getD states i blank)) && not (goneBefore (crashAt c (i + 1)) r))
-      (deliveries (sending (getD states i blank) 140 0) (cut (crashAt c (i + 1)) r (listFor n core (i + 1)))) [])
+      (deliveries (sending (getD states i blank) room 0) (cut (crashAt c (i + 1)) r (listFor n core (i + 1)))) [])
       → Sending new (i + 1)
   unfolding messagesBy sendsNow
   send-turn all i new g h long e =

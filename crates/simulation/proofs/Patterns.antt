@@ -1,4 +1,4 @@
--- What owning an array of pattern numbers tells: each is below 65536.
+-- What owning an array of pattern numbers tells: each is below the limit.
 use mathlib.Core.List.{List, [], _∷_}
 use Prim.Native.Nat.{ℕ, zero, suc, _<_}
 use native.Mathlib.Omega.{arith}

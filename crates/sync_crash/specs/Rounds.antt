@@ -2,7 +2,7 @@
 -- Document 01, "The exchange", sentence by sentence, with no message, buffer or mask: a set of drives is a test, and
 -- who is heard is a heard-of set (Charron-Bost and Merz). Section 4 of docs/AGREEMENT.md. Rounds are counted from 1, so
 -- that round k + 1 begins after k rounds. The rounds go on for ever: that all halt at the close of the round whose
--- number is the core's size is left to the calls.
+-- number is the core's size is left to the calls. KN and DC are what the messages say, with numbers of any width.
 use mathlib.Core.Path.{_≡_}
 use mathlib.Core.Bool.{Bool, true, false, not, _&&_, _||_, cond, Bool·beq}
 use mathlib.Core.Logic.{_≢_}

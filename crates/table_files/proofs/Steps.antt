@@ -19,8 +19,8 @@ use Rattle.records.specs.declared.Head.{Head}
 use Rattle.records.specs.declared.Head.the-variants as heads
 use Rattle.records.specs.Marks.{bodyWidth, isDue, headOf}
 use Rattle.records.specs.Marks.Laws.{head-present, kind-is}
-use Rattle.records.specs.RecordLists.{ReadList, widthOf, stepOf, readList}
-use Rattle.records.proofs.Lists.{Reading, reading-start, reading-stop, reading-end, end-within, step-taken, reading-turn}
+use Rattle.records.specs.RecordLists.{ReadList, stepOf, readList}
+use Rattle.records.proofs.Lists.{Reading, reading-start, reading-stop, reading-end, end-within, step-taken, reading-own}
 use Rattle.table_files.specs.declared.reading.Step.{Step}
 use Rattle.table_files.specs.declared.reading.Step.the-variants.{Set, End, Stop}
 use Rattle.drive_sets.specs.Limits.{maxSets}
@@ -80,13 +80,13 @@ module _ {s : List ℕ} {n : ℕ} {sets : List ℕ} {count at : ℕ} (l : Listin
 
   module _ {m : ℕ} (e : step ≡ Set m) where
     next : Reading (setList n) (listBehind n s) s (take count sets ++ (m ∷ [])) (at + 10)
-    unfolding widthOf bodyWidth
-    next = reading-turn (setList n) (listBehind n s) s (take count sets) at (l .reading) refl (own-set n) (said (Set m) e)
+    unfolding bodyWidth
+    next = reading-own (setList n) (listBehind n s) s (take count sets) at (l .reading) refl (said (Set m) e) kinds.Survivor (own-set n)
 
     set-within : (count < maxSets) × (at + 10 ≤ length s)
     unfolding takenSet
     set-within =
-        let taken = step-taken (setList n) (listBehind n s) s (take count sets) at (l .reading) refl (own-set n) (said (Set m) e) in
+        let taken = step-taken (setList n) (listBehind n s) s (take count sets) at (l .reading) refl (said (Set m) e) in
         let few = leb-false maxSets (length (take count sets)) (passed (leb maxSets (length (take count sets))) TooManySets _ taken .0) in
         (omega (arith, length-take-le count sets (omega (arith, l .few, l .room))), next .within)
 

@@ -1,6 +1,6 @@
 -- Receiving in a state of a run: the message of another core drive that comes for the first time meets none of the
--- refusals, and gives the state with that drive among the senders accepted. A KN adds what the sender knew to what is
--- known, and a DC keeps the announcement of the lowest-numbered sender.
+-- refusals, and gives the state with that drive among the senders accepted. A KW adds what the sender knew to what is
+-- known, and a DW keeps the announcement of the lowest-numbered sender.
 use mathlib.Core.Path.{_≡_, refl, sym, ap, _∙_, subst, fun-ext}
 use mathlib.Core.Bool.{Bool, true, false, not, _||_}
 use mathlib.Core.Option.{none, some}
@@ -20,6 +20,7 @@ use Rattle.drive_sets.specs.Refusals.{result}
 use Rattle.drive_states.specs.declared.Exchange.{Exchange}
 use Rattle.drive_sets.specs.Limits.{patternLimit}
 use Rattle.drive_sets.specs.Counts.Laws.{isDrive-range}
+use Rattle.records.specs.Marks.{wide}
 use Rattle.drive_states.specs.Messages.{Content, decided, message, maskIn, entriesIn, knownOf, messageBytes, wrongMask}
 use Rattle.drive_states.specs.Messages.Laws.{Written, known-written, decided-written, read-back}
 use Rattle.agreement.specs.Calls.{decisionOn, outsideCore, anyDiffers, stored, announcing, accept, receiving}
@@ -61,7 +62,7 @@ module _ {S : Instance} (L : Lawful S) (B : Bounded S) {k e : ℕ} {from : ℕ �
   -- ---- what the content of the message has to say, and then the state afterwards
 
   record Tells (c : Content) : Type 0 where
-    written : Written (message d (suc k) c)
+    written : Written wide (message d (suc k) c)
     mask : wrongMask n d c ≡ false
     in-core : subset (maskIn c) (setOf core) ≡ true
     same : anyDiffers x (entriesIn c) ≡ false
@@ -90,7 +91,7 @@ module _ {S : Instance} (L : Lawful S) (B : Bounded S) {k e : ℕ} {from : ℕ �
   unfolding stateOf outsideCore
   received {c} t =
       receiving-accepted x (state-unbroken L B i) (state-running L B i) (messageBytes (message d (suc k) c)) (message d (suc k) c)
-      (read-back n (message d (suc k) c) (t .written) (isDrive-range n d ∙ sender-in-frame) (t .mask))
+      (read-back n wide (message d (suc k) c) (t .written) (isDrive-range n d ∙ sender-in-frame) (t .mask))
       (record {
         core = or-neither (or-neither (ne-eqb d e (m .other)) (ap not (has-core-set L B core (λ y h. h) d ∙ m .in-core))) (ap not (t .in-core));
         round = refl;
@@ -114,7 +115,7 @@ module _ {S : Instance} (L : Lawful S) (B : Bounded S) {k e : ℕ} {from : ℕ �
   unfolding announcedFrom
   announced-others y h = rw (h, or-false (from y)) refl
 
-  -- ---- a KN
+  -- ---- a KW
 
   module _ (undecided : decision S k d ≡ none) where
     has-known : (y : ℕ) → has y (setOf (knows S k d)) ≡ knows S k d y
@@ -132,7 +133,7 @@ module _ {S : Instance} (L : Lawful S) (B : Bounded S) {k e : ℕ} {from : ℕ �
     tells-known : Tells (knownOf (setOf (knows S k d)) proposal)
     unfolding stateOf maskIn entriesIn wrongMask announcing
     tells-known = record {
-      written = known-written d (suc k) sender-byte round-byte (setOf (knows S k d)) proposal (setOf-lt (knows S k d))
+      written = known-written wide d (suc k) sender-byte round-byte (setOf (knows S k d)) proposal (setOf-lt (knows S k d))
           (λ y h. B .patterns y (known-drive y (sym (has-known y) ∙ h)));
       mask = ap not (and-intro (has-known d ∙ knows-own L k (m .in-core)) (core-set-full L B (knows S k d) (knows-core L k d)));
       in-core = subset-setOf (knows S k d) core (knows-core L k d);
@@ -146,7 +147,7 @@ module _ {S : Instance} (L : Lawful S) (B : Bounded S) {k e : ℕ} {from : ℕ �
           (λ h. sym (announced-others y h))));
     }
 
-  -- ---- a DC
+  -- ---- a DW
 
   module _ {v : ℕ} (is : decision S k d ≡ some v) where
     pattern-small : v < patternLimit
@@ -160,7 +161,7 @@ module _ {S : Instance} (L : Lawful S) (B : Bounded S) {k e : ℕ} {from : ℕ �
     tells-decided : Tells (decided v)
     unfolding stateOf maskIn entriesIn wrongMask anyDiffers stored announcing
     tells-decided = record {
-      written = decided-written d (suc k) sender-byte round-byte v pattern-small;
+      written = decided-written wide d (suc k) sender-byte round-byte v pattern-small;
       mask = refl;
       in-core = none-subset (setOf core);
       same = refl;

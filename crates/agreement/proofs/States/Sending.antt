@@ -10,6 +10,7 @@ use Rattle.drive_sets.specs.declared.Refusal.the-variants.{NoRoom}
 use Rattle.drive_sets.specs.Masks.Tests.{setOf, setOf-lt}
 use Rattle.drive_sets.specs.Refusals.{refused, result, number}
 use Rattle.drive_states.specs.State.{numberOf}
+use Rattle.records.specs.Marks.{wide}
 use Rattle.drive_states.specs.Messages.{Content, decided, Message, knownOf, messageBytes, longestMessage}
 use Rattle.drive_states.specs.Messages.Laws.{length-known, known-same, length-decided, length-longest}
 use Rattle.agreement.specs.Calls.{contentBy, decisionOn, outgoing, sending}
@@ -23,8 +24,8 @@ use Rattle.agreement.proofs.States.Rules.{has-core-set, state-inCore, s
 module _ (S : Instance) (k d : ℕ) where
   length-by : (o : Option ℕ) → length (messageBytes (record { sender = d; round = suc k; content = contentIn S k d o })) ≤ longestMessage
   unfolding contentIn
-  length-by none = omega (arith, length-known d (suc k) (setOf (knows S k d)) (S .proposal), length-longest (knownOf (setOf (knows S k d)) (S .proposal)))
-  length-by (some v) = omega (arith, length-decided d (suc k) v, length-longest (decided v))
+  length-by none = omega (arith, length-known wide d (suc k) (setOf (knows S k d)) (S .proposal), length-longest (knownOf (setOf (knows S k d)) (S .proposal)))
+  length-by (some v) = omega (arith, length-decided wide d (suc k) v, length-longest (decided v))
 
   pub length-message : length (messageOf S k d) ≤ longestMessage
   unfolding valueOf

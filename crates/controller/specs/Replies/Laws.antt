@@ -13,7 +13,7 @@ use Rattle.drive_sets.specs.Refusals.{Outcome, refused, result}
 use Rattle.drive_sets.specs.Refusals.Numbered.{fromOne, Numbered, result-numbered, if-numbered, then-numbered}
 use Rattle.records.specs.declared.Due.the-variants.{AtMessage}
 use Rattle.drive_sets.specs.Lent.{sizeWritten}
-use Rattle.records.specs.Marks.{headOf}
+use Rattle.records.specs.Marks.{numberWidth, headOf}
 use Rattle.survivor_tables.specs.Tables.{normalTable}
 use Rattle.drive_states.specs.declared.Exchange.{Exchange}
 use Rattle.drive_states.specs.State.{inCore, broken}
@@ -66,8 +66,8 @@ read-numbered n s =
     let m = messageOf kind s in
     if-numbered (not (isDrive n (m .sender))) 8 refl
     (if-numbered (wrongMask n (m .sender) (m .content)) 15 refl
-    (if-numbered (ltb (length s) (lengthIn (m .content))) 1 refl
-    (if-numbered (ltb (lengthIn (m .content)) (length s)) 7 refl
+    (if-numbered (ltb (length s) (lengthIn (numberWidth kind) (m .content))) 1 refl
+    (if-numbered (ltb (lengthIn (numberWidth kind) (m .content)) (length s)) 7 refl
     result-numbered))))
 
 admitting-numbered : (x : Exchange) (m : Message) → Numbered (admitting x m)

@@ -1,5 +1,5 @@
--- The loop over the records after drive n's PR: what is left to read gives what the whole gives. It ends, since the
--- drives rise and are at most n.
+-- The loop over the records behind drive n's number: what is left to read gives what the whole gives. It ends, since
+-- the drives rise and are at most n.
 use mathlib.Core.Path.{refl}
 use native.Mathlib.Omega.{arith}
 use Prim.Native.Nat.{_-_}

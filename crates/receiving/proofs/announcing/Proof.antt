@@ -1,4 +1,4 @@
--- A KN announces nothing.
+-- Numbers that are told announce nothing.
 use Rattle.drive_states.specs.Messages.{contentOf}
 use Rattle.agreement.specs.Calls.{announcing}
 use borrow.Author.Needs.{needs}
@@ -10,6 +10,6 @@ unfolding announcing contentOf
 announcing-spec =
     tie.close
     (tie.spec
-    (λ c κs. search needs) (λ c. rw (← c .before .is-kind .ensures, c .if1 .taken)) (λ c κs. search needs) (λ c κs. search needs)
+    (λ c κs. search needs) (λ c. rw (← c .before .is-known .ensures, c .if1 .taken)) (λ c κs. search needs) (λ c κs. search needs)
     (λ c κs. search needs)
-    (λ c. rw (← c .before .before .before .before .is-kind .ensures, c .before .before .before .if1 .left, ← c .before .before .sender-of .ensures, ← c .before .pattern-of .ensures) (c .lower .ensures)))
+    (λ c. rw (← c .before .before .before .before .is-known .ensures, c .before .before .before .if1 .left, ← c .before .before .sender-of .ensures, ← c .before .pattern-of .ensures) (c .lower .ensures)))

@@ -1,8 +1,11 @@
--- Which kinds are due where, by their marks: every arm is told the place, and a place for two kinds makes two tests.
+-- Which kinds are due where, by their marks: every arm is told the place.
 use mathlib.Core.Path.{_∙_}
+use mathlib.Core.Bool.{_||_}
+use lib.Dec.{eqb}
+use Rattle.records.specs.declared.Kind.the-variants.{WideKnown, WideDecide}
 use Rattle.records.specs.Fields.{fromBytes}
 use Rattle.records.specs.Marks.{ascii, markText, mark, isKind, isDue}
-use Rattle.records.proofs.Matches.{first-due, second-due}
+use Rattle.drive_sets.specs.Bools.Laws.{or-first, or-second}
 use borrow.Author.Needs.{needs}
 use Rattle.records.proofs.is_due.Statement.{statement}
 use Rattle.records.proofs.is_due.Tie as tie
@@ -12,12 +15,9 @@ unfolding isDue isKind mark markText ascii fromBytes
 is-due-spec =
     tie.close
     (tie.spec
-    (λ c κs. search needs) (λ c. search needs) (λ c. search needs) (λ c. search needs) (λ c. search needs) (λ c. search needs) (λ c. search needs)
+    (λ c κs. search needs) (λ c. search needs) (λ c. search needs) (λ c. search needs) (λ c κs. search needs) (λ c. search needs) (λ c κs. search needs)
+    (λ c. search needs) (λ c κs. search needs) (λ c. search needs) (λ c κs. search needs) (λ c κs. search needs)
     (λ c. rw (c .before .before .mark-of .ensures, c .enum-told .given .1)) (λ c. rw (c .before .before .mark-of .ensures, c .enum-told2 .given .1))
-    (λ c. first-due _ 22099 20037 (c .if1 .taken) ∙ rw (c .before .before .before .mark-of .ensures, c .before .enum-told3 .given .1))
-    (λ c. second-due _ 22099 20037 (c .if1 .left) ∙ rw (c .before .before .before .mark-of .ensures, c .before .enum-told3 .given .1))
-    (λ c. rw (c .before .before .mark-of .ensures, c .enum-told4 .given .1))
-    (λ c. first-due _ 21059 20037 (c .if2 .taken) ∙ rw (c .before .before .before .mark-of .ensures, c .before .enum-told5 .given .1))
-    (λ c. second-due _ 21059 20037 (c .if2 .left) ∙ rw (c .before .before .before .mark-of .ensures, c .before .enum-told5 .given .1))
-    (λ c. first-due _ 20043 17220 (c .if3 .taken) ∙ rw (c .before .before .before .mark-of .ensures, c .before .enum-told6 .given .1))
-    (λ c. second-due _ 20043 17220 (c .if3 .left) ∙ rw (c .before .before .before .mark-of .ensures, c .before .enum-told6 .given .1)))
+    (λ c. rw (c .is-either .ensures, c .before .before .before .mark-of .ensures, c .before .enum-told3 .given .1)) (λ c. rw (c .is-either2 .ensures, c .before .before .before .mark-of .ensures, c .before .enum-told4 .given .1)) (λ c. rw (c .is-either3 .ensures, c .before .before .before .mark-of .ensures, c .before .enum-told5 .given .1))
+    (λ c. let m = c .before .before .before .before .mark-of .result in or-first _ (eqb m (mark WideKnown) || eqb m (mark WideDecide)) (c .if1 .taken) ∙ rw (c .before .is-either4 .ensures, c .before .before .before .before .mark-of .ensures, c .before .before .enum-told6 .given .1))
+    (λ c. or-second (c .before .before .is-either4 .result) _ (c .before .if1 .left) ∙ rw (c .is-either5 .ensures, c .before .before .is-either4 .ensures, c .before .before .before .before .before .mark-of .ensures, c .before .before .before .enum-told6 .given .1)))

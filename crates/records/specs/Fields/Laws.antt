@@ -1,12 +1,13 @@
--- Laws of byte fields over the width: what is written is read back.
-use mathlib.Core.Path.{_≡_, refl, sym, ap, ap₂, _∙_}
+-- Laws of byte fields over the width: what is written is read back, and a field of bytes is below its limit.
+use mathlib.Core.Path.{_≡_, refl, sym, ap, ap₂, _∙_, subst}
 use mathlib.Core.List.{List, [], _∷_}
 use Prim.Native.Nat.{ℕ, zero, suc, _+_, _*_, _/_, _%_, _^_, _≤_, _<_}
 use native.Mathlib.Nat.{pow-suc, mod-lt, mod-one, mod-eq-of-lt, zero-lt-suc}
 use native.Mathlib.Omega.{arith}
 use lib.Arith.{mod-mul}
-use lib.ListN.{length, getD}
-use Rattle.records.specs.Fields.{fromBytes, toBytes}
+use lib.ListN.{length, getD, take, drop, length-take}
+use lib.Seq.{getD-drop}
+use Rattle.records.specs.Fields.{Bytes, fromBytes, fieldAt, toBytes}
 
 -- ---- numbers and bytes
 
@@ -38,7 +39,7 @@ pub field-back : (width x : ℕ) → x < 256 ^ width → fromBytes (toBytes widt
 field-back width x h = fromBytes-toBytes width x ∙ mod-eq-of-lt h
 
 -- writing what was read gives the bytes
-pub bytes-back : (bs : List ℕ) → ((i : ℕ) → getD bs i 0 < 256) → toBytes (length bs) (fromBytes bs) ≡ bs
+pub bytes-back : (bs : List ℕ) → Bytes bs → toBytes (length bs) (fromBytes bs) ≡ bs
 unfolding fromBytes toBytes
 bytes-back [] h = refl
 bytes-back (b ∷ bs) h =
@@ -50,8 +51,24 @@ bytes-back (b ∷ bs) h =
     high : (b + 256 * fromBytes bs) / 256 ≡ fromBytes bs
     high = omega (arith, h 0)
 
-pub fromBytes-lt : (width : ℕ) (bs : List ℕ) → length bs ≤ width → ((i : ℕ) → getD bs i 0 < 256) → fromBytes bs < 256 ^ width
+pub fromBytes-lt : (width : ℕ) (bs : List ℕ) → length bs ≤ width → Bytes bs → fromBytes bs < 256 ^ width
 unfolding fromBytes
 fromBytes-lt width [] le h = power-pos width
 fromBytes-lt zero (b ∷ bs) le h = absurd (omega arith)
 fromBytes-lt (suc width) (b ∷ bs) le h = rw pow-suc (omega (arith, h 0, fromBytes-lt width bs (omega arith) (λ i. h (suc i))))
+
+-- ---- parts of some bytes, and their fields
+
+pub bytes-take : (n : ℕ) (s : List ℕ) → Bytes s → Bytes (take n s)
+bytes-take zero s h i = omega arith
+bytes-take (suc n) [] h i = omega arith
+bytes-take (suc n) (x ∷ s) h zero = h 0
+bytes-take (suc n) (x ∷ s) h (suc i) = bytes-take n s (λ j. h (suc j)) i
+
+pub bytes-drop : (k : ℕ) (s : List ℕ) → Bytes s → Bytes (drop k s)
+bytes-drop k s h i = subst (λ (x : ℕ). x < 256) (sym (getD-drop k s i 0)) (h (k + i))
+
+-- a field of at most so many bytes
+pub field-lt : (place width most : ℕ) (s : List ℕ) → width ≤ most → Bytes s → fieldAt place width s < 256 ^ most
+field-lt place width most s h bytes =
+    fromBytes-lt most (take width (drop place s)) (omega (arith, length-take width (drop place s))) (bytes-take width (drop place s) (bytes-drop place s bytes))

@@ -11,13 +11,14 @@ use lib.Dec.{ltb}
 use borrow.Author.Tests.{le-ltb, ltb-false, eqb-true, not-false}
 use Rattle.drive_sets.specs.Bools.Laws.{by-test, cond-true, cond-false}
 use Rattle.drive_sets.specs.declared.Refusal.{Refusal}
+use Rattle.drive_sets.specs.Limits.{patternWidth, patternLimit}
 use Rattle.records.specs.declared.Due.{Due}
 use Rattle.records.specs.declared.Kind.{Kind}
-use Rattle.records.specs.declared.Kind.the-variants.{Frame, Survivor, Proposal, Crash, End, Known, Decide, Unknown}
+use Rattle.records.specs.declared.Kind.the-variants.{Frame, Survivor, Proposal, Crash, End, Known, Decide, WideProposal, WideKnown, WideDecide, Unknown}
 use Rattle.records.specs.declared.Head.the-variants.{Record, Refused}
-use Rattle.records.specs.Fields.{fromBytes, toBytes}
-use Rattle.records.specs.Fields.Laws.{length-toBytes, field-back}
-use Rattle.records.specs.Marks.{ascii, markText, mark, bodyWidth, kindOf, isKind, isDue, headOf, recordBytes}
+use Rattle.records.specs.Fields.{Bytes, fromBytes, fieldAt, toBytes}
+use Rattle.records.specs.Fields.Laws.{length-toBytes, field-back, field-lt}
+use Rattle.records.specs.Marks.{ascii, markText, mark, numberWidth, bodyWidth, kindOf, isKind, isDue, kindAt, headOf, recordBytes}
 
 pub kind-mark : (k : Kind) → kindOf (mark k) ≡ k
 unfolding kindOf mark markText ascii fromBytes
@@ -28,6 +29,9 @@ kind-mark Crash = refl
 kind-mark End = refl
 kind-mark Known = refl
 kind-mark Decide = refl
+kind-mark WideProposal = refl
+kind-mark WideKnown = refl
+kind-mark WideDecide = refl
 kind-mark Unknown = refl
 
 pub mark-lt : (k : Kind) → mark k < 256 ^ 2
@@ -39,7 +43,42 @@ mark-lt Crash = omega arith
 mark-lt End = omega arith
 mark-lt Known = omega arith
 mark-lt Decide = omega arith
+mark-lt WideProposal = omega arith
+mark-lt WideKnown = omega arith
+mark-lt WideDecide = omega arith
 mark-lt Unknown = omega arith
+
+pub number-most : (k : Kind) → numberWidth k ≤ patternWidth
+unfolding numberWidth
+number-most Frame = omega arith
+number-most Survivor = omega arith
+number-most Proposal = omega arith
+number-most Crash = omega arith
+number-most End = omega arith
+number-most Known = omega arith
+number-most Decide = omega arith
+number-most WideProposal = omega arith
+number-most WideKnown = omega arith
+number-most WideDecide = omega arith
+number-most Unknown = omega arith
+
+-- a number that is read from bytes is a pattern number
+pub number-lt : (k : Kind) (place : ℕ) (s : List ℕ) → Bytes s → fieldAt place (numberWidth k) s < patternLimit
+number-lt k place s = field-lt place (numberWidth k) patternWidth s (number-most k)
+
+pub body-most : (k : Kind) → bodyWidth k ≤ 10
+unfolding bodyWidth
+body-most Frame = omega arith
+body-most Survivor = omega arith
+body-most Proposal = omega arith
+body-most Crash = omega arith
+body-most End = omega arith
+body-most Known = omega arith
+body-most Decide = omega arith
+body-most WideProposal = omega arith
+body-most WideKnown = omega arith
+body-most WideDecide = omega arith
+body-most Unknown = omega arith
 
 pub length-record : (m width x : ℕ) → length (recordBytes m width x) ≡ 2 + width
 unfolding recordBytes
@@ -63,7 +102,7 @@ unfolding headOf
 head-body due k body d long =
     cond-false _ _ (le-ltb (length s) 2 (omega (arith, whole)))
     ∙ (cond-false _ _ (ap not (ap (isDue due) is-kind ∙ d))
-    ∙ (cond-false _ _ (le-ltb (length s) (2 + bodyWidth (kindOf (fromBytes (take 2 s)))) (omega (arith, whole, ap bodyWidth is-kind))) ∙ ap Record is-kind))
+    ∙ (cond-false _ _ (le-ltb (length s) (2 + bodyWidth (kindAt s)) (omega (arith, whole, ap bodyWidth is-kind))) ∙ ap Record is-kind))
   where
     s : List ℕ
     s = toBytes 2 (mark k) ++ body
@@ -74,7 +113,7 @@ head-body due k body d long =
     is-mark : fromBytes (take 2 s) ≡ mark k
     is-mark = ap fromBytes (take-at (toBytes 2 (mark k)) body 2 (length-toBytes 2 (mark k))) ∙ field-back 2 (mark k) (mark-lt k)
 
-    is-kind : kindOf (fromBytes (take 2 s)) ≡ k
+    is-kind : kindAt s ≡ k
     is-kind = ap kindOf is-mark ∙ kind-mark k
 
 pub head-record : (due : Due) (k : Kind) (x : ℕ) (rest : List ℕ) → isDue due k ≡ true
@@ -92,6 +131,7 @@ record-not-refused e = let z : _≡_ {A = ℕ} 0 1 = cc in omega arith
 
 -- the record found: its mark is due, and its body is there
 pub record Present (due : Due) (s : List ℕ) (k : Kind) : Type 0 where
+  pub is : kindAt s ≡ k
   pub is-due : isDue due k ≡ true
   pub long : 2 + bodyWidth k ≤ length s
 
@@ -107,6 +147,7 @@ head-present due s k e =
     (λ b. let found : Record (kindOf m) ≡ Record k = sym (cond-false _ _ h ∙ (cond-false _ _ n ∙ cond-false _ _ b)) ∙ e in
     let kind : kindOf m ≡ k = cc in
     record {
+      is = kind;
       is-due = ap (isDue due) (sym kind) ∙ not-false (isDue due (kindOf m)) n;
       long = subst (λ (j : Kind). 2 + bodyWidth j ≤ length s) kind (ltb-false (length s) (2 + bodyWidth (kindOf m)) b);
     })))

@@ -9,6 +9,7 @@ use Prim.Native.Nat.{ℕ, zero, suc, _+_, _*_, _-_, _≤_, _<_}
 use native.Mathlib.Omega.{arith}
 use lib.Dec.{eqb}
 use lib.ListN.{length, drop, length-append}
+use lib.Seq.{drop-at}
 use borrow.Author.Tests.{lt-ltb, eq-eqb}
 use Rattle.drive_sets.specs.Bools.Laws.{clash, by-test, or-cases, cond-true, cond-false}
 use Rattle.drive_sets.specs.Options.Laws.{none-some, same-some}
@@ -23,10 +24,11 @@ use Rattle.records.specs.declared.Head.{Head}
 use Rattle.records.specs.declared.Head.the-variants as heads
 use Rattle.records.specs.declared.Next.{Next}
 use Rattle.records.specs.declared.Next.the-variants.{One, End, Stop}
-use Rattle.records.specs.Fields.{fieldAt}
-use Rattle.records.specs.Marks.{mark, bodyWidth, isKind, isDue, headOf, recordBytes}
-use Rattle.records.specs.Marks.Laws.{Present, head-present, kind-is, length-record, head-record, record-field, record-rest}
-use Rattle.records.specs.RecordLists.{atRecord, nextAt, nextOf, ListFormat, ReadList, widthOf, stepAt, stepOf, following, readFrom, listBytes}
+use Rattle.records.specs.Fields.{toBytes, fieldAt}
+use Rattle.records.specs.Fields.Laws.{length-toBytes}
+use Rattle.records.specs.Marks.{mark, bodyWidth, isKind, isDue, widthAt, headOf, recordBytes}
+use Rattle.records.specs.Marks.Laws.{Present, head-present, kind-is, length-record, head-body, head-record, record-field, record-rest}
+use Rattle.records.specs.RecordLists.{atRecord, nextAt, nextOf, ListFormat, ReadList, stepAt, stepOf, following, readFrom, listBytes}
 
 -- what was made of a record that stood there
 pub record-there : {A : Type 0} (h : Head) (f : Kind → Outcome A) {a : A} → atRecord h f ≡ result a → (k : Kind) × (h ≡ heads.Record k) × (f k ≡ result a)
@@ -73,7 +75,7 @@ module _ (due : Due) (count : ℕ) (s : List ℕ) where
           (λ t. (k, t, head-present due s k f))
 
 -- a record that is no EN where one is due
-pub record-next : (due : Due) (count : ℕ) (s : List ℕ) (k : Kind) → headOf due s ≡ heads.Record k → isKind kinds.End k ≡ false → nextOf due count s ≡ One
+record-next : (due : Due) (count : ℕ) (s : List ℕ) (k : Kind) → headOf due s ≡ heads.Record k → isKind kinds.End k ≡ false → nextOf due count s ≡ One
 unfolding nextOf
 record-next due count s k e t = rw (e, t)
 
@@ -106,10 +108,22 @@ list-more kind (y ∷ xs) x =
     ap (λ (r : List ℕ). recordBytes (mark kind) (bodyWidth kind) y ++ r) (list-more kind xs x)
     ∙ sym (append-assoc (recordBytes (mark kind) (bodyWidth kind) y) (listBytes kind xs) (recordBytes (mark kind) (bodyWidth kind) x))
 
+-- a record that is taken is there
+pub one-whole : (due : Due) (count : ℕ) (s : List ℕ) → nextOf due count s ≡ One → widthAt s ≤ length s
+one-whole due count s e =
+    let p = one-present due count s e in
+    subst (λ (k : Kind). 2 + bodyWidth k ≤ length s) (sym (p .2 .is)) (p .2 .long)
+
 module _ {S : Type 0} (f : ListFormat S) where
-  -- nothing is due in the list but its own kind and EN
-  abbrev pub OwnKind : Type 0
-  OwnKind = (state : S) (k : Kind) → isDue (f .due state) k ≡ true → isKind kinds.End k ≡ false → k ≡ f .kind
+  -- nothing is due in the list but one kind and EN
+  abbrev pub OwnKind : Kind → Type 0
+  OwnKind kind = (state : S) (k : Kind) → isDue (f .due state) k ≡ true → isKind kinds.End k ≡ false → k ≡ kind
+
+  -- so each of its records is as wide as that kind
+  pub own-width : (kind : Kind) → OwnKind kind → (state : S) (count : ℕ) (s : List ℕ) → nextOf (f .due state) count s ≡ One → widthAt s ≡ 2 + bodyWidth kind
+  own-width kind own state count s e =
+      let p = one-present (f .due state) count s e in
+      ap (λ (k : Kind). 2 + bodyWidth k) (p .2 .is ∙ own state (p .0) (p .2 .is-due) (p .1))
 
   -- ---- one step
 
@@ -134,12 +148,6 @@ module _ {S : Type 0} (f : ListFormat S) where
       go One p e =
           let w = first-result (f .taken state s) (λ x. result (some x)) e in
           (p, w .1 ∙ ap (λ (x : S). result x) (same-some refl (same-result (w .2))))
-
-  pub one-whole : OwnKind → (state : S) (count : ℕ) (s : List ℕ) → nextOf (f .due state) count s ≡ One → widthOf f ≤ length s
-  unfolding widthOf
-  one-whole own state count s e =
-      let p = one-present (f .due state) count s e in
-      subst (λ (k : Kind). 2 + bodyWidth k ≤ length s) (own state (p .0) (p .2 .is-due) (p .1)) (p .2 .long)
 
   pub end-whole : (state : S) (s : List ℕ) → stepOf f state s ≡ result none → 3 ≤ length s
   unfolding bodyWidth
@@ -167,14 +175,14 @@ module _ {S : Type 0} (f : ListFormat S) where
   abbrev pub Kept : (S → List ℕ → Type 0) → ReadList S → Type 0
   Kept P r = (rest : List ℕ) × P (r .list) rest × ((f .complete (r .list) ≡ true) ⊎ (isDue (f .due (r .list)) kinds.End ≡ true))
 
-  module _ (P : S → List ℕ → Type 0) (keeps : (state : S) (s : List ℕ) (t : S) → P state s → f .complete state ≡ false → f .taken state s ≡ result t → P t (drop (widthOf f) s)) where
+  module _ (P : S → List ℕ → Type 0) (keeps : (state : S) (s : List ℕ) (t : S) → P state s → f .complete state ≡ false → f .taken state s ≡ result t → P t (drop (widthAt s) s)) where
     complete-kept : (bytes : ℕ) (state : S) (s : List ℕ) {r : ReadList S} → P state s → readFrom f bytes state s ≡ result r → f .complete state ≡ true → Kept P r
     complete-kept bytes state s p e t =
         let same = ap (λ (x : ReadList S). x .list) (same-result (sym (read-complete bytes state s t) ∙ e)) in
         (s, subst (λ (x : S). P x s) same p, inl (ap (f .complete) (sym same) ∙ t))
 
     step-kept : (state : S) (s : List ℕ) {r : ReadList S} (later : S → List ℕ → Outcome (ReadList S)) → P state s → f .complete state ≡ false
-        → ((t : S) → P t (drop (widthOf f) s) → later t (drop (widthOf f) s) ≡ result r → Kept P r)
+        → ((t : S) → P t (drop (widthAt s) s) → later t (drop (widthAt s) s) ≡ result r → Kept P r)
         → (o : Option S) → stepOf f state s ≡ result o → following f later state s o ≡ result r → Kept P r
     step-kept state s later p going more none g e =
         let same = ap (λ (x : ReadList S). x .list) (same-result e) in
@@ -188,28 +196,44 @@ module _ {S : Type 0} (f : ListFormat S) where
     read-keeps (suc bytes) state s p e =
         by-test (f .complete state) (complete-kept (suc bytes) state s p e)
         (λ t. let w = first-result (stepOf f state s) (following f (readFrom f bytes) state s) (sym (cond-false _ _ t) ∙ e) in
-        step-kept state s (readFrom f bytes) p t (λ x q g. read-keeps bytes x (drop (widthOf f) s) q g) (w .0) (w .1) (w .2))
+        step-kept state s (readFrom f bytes) p t (λ x q g. read-keeps bytes x (drop (widthAt s) s) q g) (w .0) (w .1) (w .2))
 
   -- ---- what was written is read back
 
   module _ (state : S) (going : f .complete state ≡ false) (rest : List ℕ) where
-    -- one record, where it is due and its field is taken
-    pub read-record : (bytes x : ℕ) {t : S} → isDue (f .due state) (f .kind) ≡ true → isKind kinds.End (f .kind) ≡ false
-        → f .taken state (recordBytes (mark (f .kind)) (bodyWidth (f .kind)) x ++ rest) ≡ result t
-        → readFrom f (suc bytes) state (recordBytes (mark (f .kind)) (bodyWidth (f .kind)) x ++ rest) ≡ readFrom f bytes t rest
-    unfolding readFrom stepOf widthOf
-    read-record bytes x {t} due no-end e =
+    -- one record, where it is due and its body is taken
+    pub read-body : (kind : Kind) (bytes : ℕ) (body : List ℕ) {t : S} → isDue (f .due state) kind ≡ true → isKind kinds.End kind ≡ false → length body ≡ bodyWidth kind
+        → f .taken state (toBytes 2 (mark kind) ++ (body ++ rest)) ≡ result t
+        → readFrom f (suc bytes) state (toBytes 2 (mark kind) ++ (body ++ rest)) ≡ readFrom f bytes t rest
+    unfolding readFrom stepOf
+    read-body kind bytes body {t} due no-end long e =
+        let there = head-body (f .due state) kind (body ++ rest) due (omega (arith, length-append body rest)) in
+        let found = head-present (f .due state) s kind there in
         cond-false _ _ going
-        ∙ (ap (λ (n : Next). andThen (stepAt n (f .taken state s)) (following f (readFrom f bytes) state s))
-        (record-next (f .due state) (f .count state) s (f .kind) (head-record (f .due state) (f .kind) x rest due) no-end)
+        ∙ (ap (λ (n : Next). andThen (stepAt n (f .taken state s)) (following f (readFrom f bytes) state s)) (record-next (f .due state) (f .count state) s kind there no-end)
         ∙ (ap (λ (o : Outcome S). andThen (stepAt One o) (following f (readFrom f bytes) state s)) e
-        ∙ ap (readFrom f bytes t) (record-rest (mark (f .kind)) (bodyWidth (f .kind)) x rest)))
+        ∙ ap (readFrom f bytes t) (ap (λ (k : Kind). drop (2 + bodyWidth k) s) (found .is) ∙ behind)))
       where
         s : List ℕ
-        s = recordBytes (mark (f .kind)) (bodyWidth (f .kind)) x ++ rest
+        s = toBytes 2 (mark kind) ++ (body ++ rest)
+
+        behind : drop (2 + bodyWidth kind) s ≡ rest
+        behind =
+            ap (drop (2 + bodyWidth kind)) (sym (append-assoc (toBytes 2 (mark kind)) body rest))
+            ∙ drop-at (toBytes 2 (mark kind) ++ body) rest (2 + bodyWidth kind) (length-append (toBytes 2 (mark kind)) body ∙ omega (arith, length-toBytes 2 (mark kind)))
+
+    -- one of one field
+    read-record : (kind : Kind) (bytes x : ℕ) {t : S} → isDue (f .due state) kind ≡ true → isKind kinds.End kind ≡ false
+        → f .taken state (recordBytes (mark kind) (bodyWidth kind) x ++ rest) ≡ result t
+        → readFrom f (suc bytes) state (recordBytes (mark kind) (bodyWidth kind) x ++ rest) ≡ readFrom f bytes t rest
+    unfolding recordBytes
+    read-record kind bytes x due no-end e =
+        let parts = append-assoc (toBytes 2 (mark kind)) (toBytes (bodyWidth kind) x) rest in
+        ap (readFrom f (suc bytes) state) parts
+        ∙ read-body kind bytes (toBytes (bodyWidth kind) x) due no-end (length-toBytes (bodyWidth kind) x) (ap (f .taken state) (sym parts) ∙ e)
 
     -- EN with the count
-    pub read-end : (bytes : ℕ) → isDue (f .due state) kinds.End ≡ true → f .count state < 256
+    read-end : (bytes : ℕ) → isDue (f .due state) kinds.End ≡ true → f .count state < 256
         → readFrom f (suc bytes) state (recordBytes (mark kinds.End) 1 (f .count state) ++ rest) ≡ result (record { list = state; rest = rest })
     unfolding readFrom stepOf nextOf isKind bodyWidth
     read-end bytes due few =
@@ -223,22 +247,23 @@ module _ {S : Type 0} (f : ListFormat S) where
         s : List ℕ
         s = recordBytes (mark kinds.End) 1 (f .count state) ++ rest
 
-  -- the records of the numbers lead from one state to another
-  abbrev pub Leads : S → List ℕ → S → Type 0
-  Leads state [] last = state ≡ last
-  Leads state (x ∷ xs) last =
-      (t : S) × (f .complete state ≡ false) × (isDue (f .due state) (f .kind) ≡ true)
-      × ((rest : List ℕ) → f .taken state (recordBytes (mark (f .kind)) (bodyWidth (f .kind)) x ++ rest) ≡ result t) × Leads t xs last
+  module _ (kind : Kind) where
+    -- the records of the numbers lead from one state to another
+    abbrev pub Leads : S → List ℕ → S → Type 0
+    Leads state [] last = state ≡ last
+    Leads state (x ∷ xs) last =
+        (t : S) × (f .complete state ≡ false) × (isDue (f .due state) kind ≡ true)
+        × ((rest : List ℕ) → f .taken state (recordBytes (mark kind) (bodyWidth kind) x ++ rest) ≡ result t) × Leads t xs last
 
-  -- a list that was written is read back, with anything behind it
-  pub list-back : isKind kinds.End (f .kind) ≡ false → (xs : List ℕ) (bytes : ℕ) (state last : S) (rest : List ℕ) → length xs < bytes → Leads state xs last
-      → f .complete last ≡ false → isDue (f .due last) kinds.End ≡ true → f .count last < 256
-      → readFrom f bytes state (listBytes (f .kind) xs ++ (recordBytes (mark kinds.End) 1 (f .count last) ++ rest)) ≡ result (record { list = last; rest = rest })
-  unfolding listBytes
-  list-back no-end xs zero state last rest h w going due few = absurd (omega arith)
-  list-back no-end [] (suc bytes) state last rest h w going due few =
-      ap (λ (x : S). readFrom f (suc bytes) x (recordBytes (mark kinds.End) 1 (f .count last) ++ rest)) w ∙ read-end last going rest bytes due few
-  list-back no-end (x ∷ xs) (suc bytes) state last rest h w going due few =
-      ap (readFrom f (suc bytes) state) (append-assoc (recordBytes (mark (f .kind)) (bodyWidth (f .kind)) x) (listBytes (f .kind) xs) (recordBytes (mark kinds.End) 1 (f .count last) ++ rest))
-      ∙ (read-record state (w .1) (listBytes (f .kind) xs ++ (recordBytes (mark kinds.End) 1 (f .count last) ++ rest)) bytes x (w .2) no-end (w .3 (listBytes (f .kind) xs ++ (recordBytes (mark kinds.End) 1 (f .count last) ++ rest)))
-      ∙ list-back no-end xs bytes (w .0) last rest (omega arith) (w .4) going due few)
+    -- a list that was written is read back, with anything behind it
+    pub list-back : isKind kinds.End kind ≡ false → (xs : List ℕ) (bytes : ℕ) (state last : S) (rest : List ℕ) → length xs < bytes → Leads state xs last
+        → f .complete last ≡ false → isDue (f .due last) kinds.End ≡ true → f .count last < 256
+        → readFrom f bytes state (listBytes kind xs ++ (recordBytes (mark kinds.End) 1 (f .count last) ++ rest)) ≡ result (record { list = last; rest = rest })
+    unfolding listBytes
+    list-back no-end xs zero state last rest h w going due few = absurd (omega arith)
+    list-back no-end [] (suc bytes) state last rest h w going due few =
+        ap (λ (x : S). readFrom f (suc bytes) x (recordBytes (mark kinds.End) 1 (f .count last) ++ rest)) w ∙ read-end last going rest bytes due few
+    list-back no-end (x ∷ xs) (suc bytes) state last rest h w going due few =
+        ap (readFrom f (suc bytes) state) (append-assoc (recordBytes (mark kind) (bodyWidth kind) x) (listBytes kind xs) (recordBytes (mark kinds.End) 1 (f .count last) ++ rest))
+        ∙ (read-record state (w .1) (listBytes kind xs ++ (recordBytes (mark kinds.End) 1 (f .count last) ++ rest)) kind bytes x (w .2) no-end (w .3 (listBytes kind xs ++ (recordBytes (mark kinds.End) 1 (f .count last) ++ rest)))
+        ∙ list-back no-end xs bytes (w .0) last rest (omega arith) (w .4) going due few)

@@ -11,7 +11,8 @@ use Rattle.records.specs.declared.Head.the-variants as heads
 use Rattle.records.specs.declared.Kind.{Kind}
 use Rattle.records.specs.declared.Next.{Next}
 use Rattle.records.specs.declared.Next.the-variants.{One, End, Stop}
-use Rattle.records.specs.RecordLists.{atRecord, ListFormat, ReadList, widthOf, stepAt, stepOf, following, nextOf, readFrom, readList}
+use Rattle.records.specs.Marks.{widthAt}
+use Rattle.records.specs.RecordLists.{atRecord, ListFormat, ReadList, stepAt, stepOf, following, nextOf, readFrom, readList}
 
 module _ {A : Type 0} where
   pub record-numbered : (h : Head) (f : Kind → Outcome A) → ((k : Kind) → Numbered (f k)) → Numbered (atRecord h f)
@@ -29,7 +30,7 @@ module _ {S : Type 0} (f : ListFormat S) (taken-numbered : (state : S) (s : List
   following-numbered : (later : S → List ℕ → Outcome (ReadList S)) → ((state : S) (s : List ℕ) → Numbered (later state s))
       → (state : S) (s : List ℕ) (o : Option S) → Numbered (following f later state s o)
   following-numbered later each state s none = result-numbered
-  following-numbered later each state s (some next) = each next (drop (widthOf f) s)
+  following-numbered later each state s (some next) = each next (drop (widthAt s) s)
 
   from-numbered : (bytes : ℕ) (state : S) (s : List ℕ) → Numbered (readFrom f bytes state s)
   unfolding readFrom stepOf fromOne

@@ -21,8 +21,9 @@ use Rattle.records.specs.declared.Head.the-variants.{Record, Refused}
 use Rattle.records.specs.declared.Next.{Next}
 use Rattle.records.specs.declared.Next.the-variants.{One, End, Stop}
 use Rattle.records.specs.Fields.{fromBytes, fieldAt}
-use Rattle.records.specs.Marks.{bodyWidth, kindOf, isKind, isDue, headOf}
-use Rattle.records.specs.RecordLists.{atRecord, nextAt, nextOf, ListFormat, ReadList, widthOf, stepAt, stepOf, following, readFrom, readList}
+use Rattle.records.specs.Marks.{bodyWidth, kindOf, isKind, isDue, kindAt, widthAt, headOf}
+use Rattle.records.specs.RecordLists.{atRecord, nextAt, nextOf, ListFormat, ReadList, stepAt, stepOf, following, readFrom, readList}
+use Rattle.records.specs.Marks.Laws.{body-most}
 use Rattle.records.specs.RecordLists.Laws.{read-complete, read-step, step-more}
 
 -- ---- the bytes of a start
@@ -45,19 +46,16 @@ short-prefix a k s h =
     (λ t. lt-ltb (length (take k s)) a (omega (arith, length-take k s, ltb-true (length s) a t)) ∙ sym t)
     (λ t. le-ltb (length (take k s)) a (omega (arith, length-take k s, ltb-false (length s) a t)) ∙ sym t)
 
-body-most : (kind : Kind) → bodyWidth kind ≤ 10
-unfolding bodyWidth
-body-most kinds.Frame = omega arith
-body-most kinds.Survivor = omega arith
-body-most kinds.Proposal = omega arith
-body-most kinds.Crash = omega arith
-body-most kinds.End = omega arith
-body-most kinds.Known = omega arith
-body-most kinds.Decide = omega arith
-body-most kinds.Unknown = omega arith
+-- no record is wider, of a KN or KW up to its mask
+abbrev pub widest : ℕ
+widest = 12
+
+-- the kind of a record
+pub kind-prefix : (k : ℕ) (s : List ℕ) → 2 ≤ k → kindAt (take k s) ≡ kindAt s
+kind-prefix k s h = ap (λ (l : List ℕ). kindOf (fromBytes l)) (take-take 2 k s h)
 
 -- the head of a record
-pub head-prefix : (due : Due) (k : ℕ) (s : List ℕ) → 12 ≤ k → headOf due (take k s) ≡ headOf due s
+pub head-prefix : (due : Due) (k : ℕ) (s : List ℕ) → widest ≤ k → headOf due (take k s) ≡ headOf due s
 unfolding headOf
 head-prefix due k s h =
     let m = fromBytes (take 2 s) in
@@ -87,16 +85,19 @@ module _ {A B : Type 0} {g : A → Outcome B} where
 
 -- ---- a list, and what is made of it: so many bytes behind it matter
 
+width-most : (s : List ℕ) → widthAt s ≤ widest
+width-most s = omega (arith, body-most (kindAt s))
+
 module _ {S B : Type 0} (f : ListFormat S) (finish : ReadList S → Outcome B) (most : ℕ)
     (blind : (list : S) (rest : List ℕ) (j : ℕ) → most ≤ j → finish (record { list = list; rest = take j rest }) ≡ finish (record { list = list; rest = rest }))
-    (own : (state : S) (k : ℕ) (s : List ℕ) → widthOf f ≤ k → f .taken state (take k s) ≡ f .taken state s)
+    (own : (state : S) (k : ℕ) (s : List ℕ) → widest ≤ k → f .taken state (take k s) ≡ f .taken state s)
     (left : S → ℕ) (falls : (state : S) (s : List ℕ) (t : S) → f .complete state ≡ false → f .taken state s ≡ result t → left t < left state) where
-  step-prefix : (state : S) (k : ℕ) (s : List ℕ) → 12 + widthOf f ≤ k → stepOf f state (take k s) ≡ stepOf f state s
+  step-prefix : (state : S) (k : ℕ) (s : List ℕ) → widest ≤ k → stepOf f state (take k s) ≡ stepOf f state s
   unfolding stepOf nextOf
   step-prefix state k s h =
       ap₂ (λ (x : Next) (o : Outcome S). stepAt x o)
-      (ap (λ (x : Head). nextAt x (f .count state) (take k s)) (head-prefix (f .due state) k s (omega arith)) ∙ counted (headOf (f .due state) s))
-      (own state k s (omega arith))
+      (ap (λ (x : Head). nextAt x (f .count state) (take k s)) (head-prefix (f .due state) k s h) ∙ counted (headOf (f .due state) s))
+      (own state k s h)
     where
       counted : (x : Head) → nextAt x (f .count state) (take k s) ≡ nextAt x (f .count state) s
       counted (Refused r) = refl
@@ -107,9 +108,9 @@ module _ {S B : Type 0} (f : ListFormat S) (finish : ReadList S → Outcome B) (
   ends-alike state rest j h = record { same = blind state rest j h }
 
   -- one step, where what is read behind a record is alike
-  module _ (bytes bytes′ : ℕ) (state : S) (s : List ℕ) (k : ℕ) (all : length s ≤ bytes) (all′ : length (take k s) ≤ bytes′) (h : 12 + widthOf f + most ≤ k)
+  module _ (bytes bytes′ : ℕ) (state : S) (s : List ℕ) (k : ℕ) (all : length s ≤ bytes) (all′ : length (take k s) ≤ bytes′) (h : widest + most ≤ k)
       (later : (t : S) → f .complete state ≡ false → f .taken state s ≡ result t
-      → Alike finish (readFrom f (bytes′ - 1) t (take (k - widthOf f) (drop (widthOf f) s))) (readFrom f (bytes - 1) t (drop (widthOf f) s))) where
+      → Alike finish (readFrom f (bytes′ - 1) t (take (k - widthAt s) (drop (widthAt s) s))) (readFrom f (bytes - 1) t (drop (widthAt s) s))) where
     followed : f .complete state ≡ false → (o : Outcome (Option S)) → stepOf f state s ≡ o
         → Alike finish (andThen o (following f (readFrom f (bytes′ - 1)) state (take k s))) (andThen o (following f (readFrom f (bytes - 1)) state s))
     followed going (refused r) e = no-other
@@ -117,7 +118,8 @@ module _ {S B : Type 0} (f : ListFormat S) (finish : ReadList S → Outcome B) (
         subst (λ (l : List ℕ). Alike finish (result (record { list = state; rest = l })) (result (record { list = state; rest = drop 3 s }))) (sym (drop-prefix 3 k s))
         (ends-alike state (drop 3 s) (k - 3) (omega arith))
     followed going (result (some t)) e =
-        subst (λ (l : List ℕ). Alike finish (readFrom f (bytes′ - 1) t l) (readFrom f (bytes - 1) t (drop (widthOf f) s))) (sym (drop-prefix (widthOf f) k s))
+        subst (λ (l : List ℕ). Alike finish (readFrom f (bytes′ - 1) t l) (readFrom f (bytes - 1) t (drop (widthAt s) s)))
+        (sym (ap (λ (kind : Kind). drop (2 + bodyWidth kind) (take k s)) (kind-prefix k s (omega arith)) ∙ drop-prefix (widthAt s) k s))
         (later t going (step-more f state s e .1))
 
     from-prefix : Alike finish (readFrom f bytes′ state (take k s)) (readFrom f bytes state s)
@@ -129,20 +131,17 @@ module _ {S B : Type 0} (f : ListFormat S) (finish : ReadList S → Outcome B) (
         (sym (read-step f bytes′ state (take k s) all′ t ∙ ap (λ (o : Outcome (Option S)). andThen o (following f (readFrom f (bytes′ - 1)) state (take k s))) (step-prefix state k s (omega arith))))
         (subst (Alike finish (andThen (stepOf f state s) (following f (readFrom f (bytes′ - 1)) state (take k s)))) (sym (read-step f bytes state s all t)) (followed t (stepOf f state s) refl)))
 
-  wide : 2 ≤ widthOf f
-  unfolding widthOf
-  wide = omega arith
-
   prefix-from : (more bytes bytes′ : ℕ) (state : S) (s : List ℕ) (k : ℕ) → left state ≤ more → length s ≤ bytes → length (take k s) ≤ bytes′
-      → widthOf f * more + (12 + widthOf f + most) ≤ k → Alike finish (readFrom f bytes′ state (take k s)) (readFrom f bytes state s)
+      → widest * more + (widest + most) ≤ k → Alike finish (readFrom f bytes′ state (take k s)) (readFrom f bytes state s)
   prefix-from zero bytes bytes′ state s k few all all′ h =
       from-prefix bytes bytes′ state s k all all′ (omega arith) (λ t going e. absurd (omega (arith, falls state s t going e)))
   prefix-from (suc more) bytes bytes′ state s k few all all′ h =
       from-prefix bytes bytes′ state s k all all′ (omega arith)
-      (λ t going e. prefix-from more (bytes - 1) (bytes′ - 1) t (drop (widthOf f) s) (k - widthOf f) (omega (arith, falls state s t going e))
-      (omega (arith, length-drop (widthOf f) s, wide)) (omega (arith, length-take k s, length-drop (widthOf f) s, length-take (k - widthOf f) (drop (widthOf f) s), wide)) (omega arith))
+      (λ t going e. prefix-from more (bytes - 1) (bytes′ - 1) t (drop (widthAt s) s) (k - widthAt s) (omega (arith, falls state s t going e))
+      (omega (arith, length-drop (widthAt s) s)) (omega (arith, length-take k s, length-drop (widthAt s) s, length-take (k - widthAt s) (drop (widthAt s) s)))
+      (omega (arith, width-most s)))
 
-  pub list-prefix : (state : S) (s : List ℕ) (k : ℕ) → widthOf f * left state + (12 + widthOf f + most) ≤ k
+  pub list-prefix : (state : S) (s : List ℕ) (k : ℕ) → widest * left state + (widest + most) ≤ k
       → andThen (readList f state (take k s)) finish ≡ andThen (readList f state s) finish
   unfolding readList
   list-prefix state s k h = prefix-from (left state) (length s) (length (take k s)) state s k (omega arith) (omega arith) (omega arith) h .same

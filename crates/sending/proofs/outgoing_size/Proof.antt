@@ -1,4 +1,4 @@
--- The length of KN or DC, by the decision.
+-- The length of KW or DW, by the decision.
 use Rattle.drive_states.specs.State.{numberOf}
 use Rattle.drive_states.specs.Messages.{lengthIn}
 use Rattle.drive_states.specs.Messages.Laws.{length-known, length-decided}

@@ -1,4 +1,4 @@
--- KN or DC, by the decision.
+-- KW or DW, by the decision.
 use Rattle.drive_states.specs.State.{numberOf}
 use Rattle.agreement.specs.Calls.{contentBy, outgoing}
 use borrow.Author.Needs.{needs}

@@ -23,9 +23,9 @@ use Rattle.survivor_tables.specs.Order.Normal.{normal-idempotent}
 use Rattle.records.specs.declared.Kind.the-variants.{Frame, Survivor, End}
 use Rattle.records.specs.declared.Due.the-variants.{AtFrame}
 use Rattle.records.specs.Fields.{fromBytes, fieldAt}
-use Rattle.records.specs.Marks.{ascii, markText, mark, bodyWidth, isKind, isDue, headOf, recordBytes}
+use Rattle.records.specs.Marks.{ascii, markText, mark, bodyWidth, isKind, isDue, widthAt, headOf, recordBytes}
 use Rattle.records.specs.Marks.Laws.{length-record, head-record, kind-is, record-field, record-rest}
-use Rattle.records.specs.RecordLists.{ReadList, widthOf, readList, listBytes}
+use Rattle.records.specs.RecordLists.{ReadList, readList, listBytes}
 use Rattle.records.specs.RecordLists.Laws.{OwnKind, other-kind, Leads, length-list, list-back, read-keeps, record-there}
 use Rattle.drive_sets.specs.Limits.{maxDrives, maxSets, maxCores}
 use Rattle.survivor_tables.specs.Tables.{isFrame, isSet, isEmpty, cores, withinCoreLimit, checkedSets, Accepted}
@@ -34,7 +34,7 @@ use Rattle.table_files.specs.Files.{ReadTable, dueAfter, takenSet, setLi
 
 -- ---- the sets
 
-pub own-set : (n : ℕ) → OwnKind (setList n)
+pub own-set : (n : ℕ) → OwnKind (setList n) Survivor
 unfolding dueAfter isDue
 own-set n [] k d t = kind-is Survivor k d
 own-set n (x ∷ listed) k d t = other-kind Survivor k d t
@@ -64,7 +64,7 @@ set-taken n listed rest x few good high =
 
 -- sets behind those listed lead to the whole
 sets-lead : (sets : List ℕ) (n : ℕ) (listed whole : List ℕ) → whole ≡ listed ++ sets → length whole ≤ maxSets
-    → ((s : ℕ) → elem s sets ≡ true → isSet n s ≡ true) → n ≤ maxDrives → Leads (setList n) listed sets whole
+    → ((s : ℕ) → elem s sets ≡ true → isSet n s ≡ true) → n ≤ maxDrives → Leads (setList n) Survivor listed sets whole
 unfolding bodyWidth
 sets-lead [] n listed whole e few good high = sym (e ∙ append-nil listed)
 sets-lead (x ∷ sets) n listed whole e few good high = (
@@ -91,7 +91,7 @@ listed-read n sets rest a =
     ∙ ap (λ (r : List ℕ). recordBytes (mark Frame) 1 n ++ r) (append-assoc (listBytes Survivor sets) (recordBytes (mark End) 1 (length sets)) rest))
     ∙ (frame-read n (listBytes Survivor sets ++ end) (accepted-frame n sets a) (omega (arith, a .high))
     ∙ ap (λ (o : Outcome (ReadList (List ℕ))). andThen o (λ l. result (listedTable n l)))
-    (list-back (setList n) refl sets (length (listBytes Survivor sets ++ end)) [] sets rest
+    (list-back (setList n) Survivor refl sets (length (listBytes Survivor sets ++ end)) [] sets rest
     (omega (arith, length-append (listBytes Survivor sets) end, length-list Survivor sets, length-append (recordBytes (mark End) 1 (length sets)) rest, length-record (mark End) 1 (length sets)))
     (sets-lead sets n [] sets refl (a .most) (a .good) (a .high)) refl (end-due (length sets) (a .some)) (omega (arith, a .most))))
   where
@@ -102,14 +102,17 @@ accepted-read : (n : ℕ) (sets rest : List ℕ) → Accepted n sets → accepte
 unfolding accepted
 accepted-read n sets rest a = ap (λ (o : Outcome (List ℕ)). andThen o (λ table. result (record { n = n; sets = table; rest = rest }))) (accepted-within-limit n sets a)
 
+-- a table with its sets in any order, and anything behind it
+pub read-any : (n : ℕ) (sets rest : List ℕ) → Accepted n sets → readTable (tableBytes n sets ++ rest) ≡ result (record { n = n; sets = normal sets; rest = rest })
+unfolding readTable
+read-any n sets rest a = ap (λ (o : Outcome ReadTable). andThen o accepted) (listed-read n sets rest a) ∙ accepted-read n sets rest a
+
 -- reading what the writer wrote, with anything behind it, gives the normal table and what stands behind
 pub read-written : (n : ℕ) (sets rest : List ℕ) → Accepted n sets
     → readTable (tableBytes n (normal sets) ++ rest) ≡ result (record { n = n; sets = normal sets; rest = rest })
-unfolding readTable
 read-written n sets rest a =
-    ap (λ (o : Outcome ReadTable). andThen o accepted) (listed-read n (normal sets) rest (accepted-normal n sets a))
-    ∙ (accepted-read n (normal sets) rest (accepted-normal n sets a)
-    ∙ ap (λ (t : List ℕ). result (record { n = n; sets = t; rest = rest })) (normal-idempotent sets))
+    read-any n (normal sets) rest (accepted-normal n sets a)
+    ∙ ap (λ (t : List ℕ). result (record { n = n; sets = t; rest = rest })) (normal-idempotent sets)
 
 -- ---- what is read is a table
 
@@ -128,7 +131,7 @@ sets-good n s {r} e =
     Good : List ℕ → List ℕ → Type 0
     Good listed b = ((x : ℕ) → elem x listed ≡ true → isSet n x ≡ true) × (length listed ≤ maxSets)
 
-    kept : (listed b t : List ℕ) → Good listed b → takenSet n listed b ≡ result t → Good t (drop (widthOf (setList n)) b)
+    kept : (listed b t : List ℕ) → Good listed b → takenSet n listed b ≡ result t → Good t (drop (widthAt b) b)
     kept listed b t g p =
         let few = passed (leb maxSets (length listed)) TooManySets _ p in
         let good = passed (not (isSet n set)) BadSet (result (listed ++ (set ∷ []))) (few .1) in

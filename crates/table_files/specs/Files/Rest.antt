@@ -12,8 +12,8 @@ use Rattle.drive_sets.specs.Refusals.{Outcome, result, andThen}
 use Rattle.drive_sets.specs.Refusals.Laws.{refused-no-result, same-result, passed, first-result}
 use Rattle.records.specs.declared.Due.the-variants.{AtFrame}
 use Rattle.records.specs.Fields.{fieldAt, Bytes}
-use Rattle.records.specs.Marks.{headOf}
-use Rattle.records.specs.RecordLists.{ListFormat, ReadList, widthOf, stepOf, following, readFrom, readList}
+use Rattle.records.specs.Marks.{widthAt, headOf}
+use Rattle.records.specs.RecordLists.{ListFormat, ReadList, stepOf, following, readFrom, readList}
 use Rattle.records.specs.RecordLists.Laws.{record-there, read-complete}
 use Rattle.survivor_tables.specs.Tables.{isFrame, withinCoreLimit}
 use Rattle.table_files.specs.Files.{ReadTable, setList, listedTable, readListed, accepted, readTable}
@@ -29,10 +29,10 @@ module _ {S : Type 0} (f : ListFormat S) where
   complete-rest bytes state s e t = (0, ap (λ (r : ReadList S). r .rest) (same-result (sym e ∙ read-complete f bytes state s t)))
 
   step-rest : (state : S) (s : List ℕ) {r : ReadList S} (later : S → List ℕ → Outcome (ReadList S))
-      → ((t : S) → later t (drop (widthOf f) s) ≡ result r → Behind (drop (widthOf f) s) r)
+      → ((t : S) → later t (drop (widthAt s) s) ≡ result r → Behind (drop (widthAt s) s) r)
       → (o : Option S) → following f later state s o ≡ result r → Behind s r
   step-rest state s later more none e = (3, ap (λ (r : ReadList S). r .rest) (sym (same-result e)))
-  step-rest state s later more (some t) e = let w = more t e in (widthOf f + w .0, w .1 ∙ drop-drop (w .0) (widthOf f) s)
+  step-rest state s later more (some t) e = let w = more t e in (widthAt s + w .0, w .1 ∙ drop-drop (w .0) (widthAt s) s)
 
   list-rest : (bytes : ℕ) (state : S) (s : List ℕ) {r : ReadList S} → readFrom f bytes state s ≡ result r → Behind s r
   unfolding readFrom
@@ -41,7 +41,7 @@ module _ {S : Type 0} (f : ListFormat S) where
   list-rest (suc bytes) state s e =
       by-test (f .complete state) (complete-rest (suc bytes) state s e)
       (λ t. let w = first-result (stepOf f state s) (following f (readFrom f bytes) state s) (sym (cond-false _ _ t) ∙ e) in
-      step-rest state s (readFrom f bytes) (λ x. list-rest bytes x (drop (widthOf f) s)) (w .0) (w .2))
+      step-rest state s (readFrom f bytes) (λ x. list-rest bytes x (drop (widthAt s) s)) (w .0) (w .2))
 
 -- ---- a table
 

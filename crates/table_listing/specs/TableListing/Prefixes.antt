@@ -14,9 +14,9 @@ use Rattle.drive_sets.specs.Refusals.Laws.{passed, same-result, then-then}
 use Rattle.records.specs.declared.Due.the-variants.{AtFrame}
 use Rattle.records.specs.declared.Head.{Head}
 use Rattle.records.specs.Fields.{fieldAt}
-use Rattle.records.specs.Marks.{bodyWidth, headOf}
-use Rattle.records.specs.RecordLists.{atRecord, widthOf, readList}
-use Rattle.records.specs.RecordLists.Prefixes.{drop-prefix, field-prefix, head-prefix, Alike, no-other, at-record, by-cond, list-prefix}
+use Rattle.records.specs.Marks.{headOf}
+use Rattle.records.specs.RecordLists.{atRecord, readList}
+use Rattle.records.specs.RecordLists.Prefixes.{drop-prefix, field-prefix, head-prefix, Alike, no-other, at-record, by-cond, widest, list-prefix}
 use Rattle.drive_sets.specs.Limits.{maxSets, maxInput}
 use Rattle.survivor_tables.specs.Tables.{isFrame, isSet, isEmpty}
 use Rattle.table_files.specs.Files.{ReadTable, takenSet, setList, listedTable, readListed, accepted, readWhole}
@@ -31,8 +31,8 @@ empty-prefix (suc j) (x ∷ s) h = refl
 
 -- ---- the sets
 
-set-prefix : (n : ℕ) (listed : List ℕ) (k : ℕ) (s : List ℕ) → widthOf (setList n) ≤ k → takenSet n listed (take k s) ≡ takenSet n listed s
-unfolding takenSet widthOf bodyWidth
+set-prefix : (n : ℕ) (listed : List ℕ) (k : ℕ) (s : List ℕ) → widest ≤ k → takenSet n listed (take k s) ≡ takenSet n listed s
+unfolding takenSet
 set-prefix n listed k s h =
     ap (λ (x : ℕ). refuseIf (leb maxSets (length listed)) TooManySets (refuseIf (not (isSet n x)) BadSet (result (listed ++ (x ∷ []))))) (field-prefix 2 8 k s (omega arith))
 
@@ -49,16 +49,15 @@ sets-left n listed s t e =
 module _ {B : Type 0} (finish : ReadTable → Outcome B) (most : ℕ)
     (blind : (n : ℕ) (sets rest : List ℕ) (j : ℕ) → most ≤ j
     → finish (record { n = n; sets = sets; rest = take j rest }) ≡ finish (record { n = n; sets = sets; rest = rest })) where
-  sets-prefix : (n : ℕ) (s : List ℕ) (k : ℕ) → 1302 + most ≤ k
+  sets-prefix : (n : ℕ) (s : List ℕ) (k : ℕ) → 1548 + most ≤ k
       → Alike finish (andThen (readList (setList n) [] (take k s)) (λ l. result (listedTable n l))) (andThen (readList (setList n) [] s) (λ l. result (listedTable n l)))
-  unfolding widthOf bodyWidth
   sets-prefix n s k h = record {
     same = then-then (readList (setList n) [] (take k s)) (listedTable n) finish
         ∙ (list-prefix (setList n) (λ l. finish (listedTable n l)) most (blind n) (set-prefix n) (λ l. maxSets - length l) (λ l b t going e. sets-left n l b t e) [] s k (omega arith)
         ∙ sym (then-then (readList (setList n) [] s) (listedTable n) finish));
   }
 
-  pub listed-prefix : (s : List ℕ) (k : ℕ) → 1305 + most ≤ k → andThen (readListed (take k s)) finish ≡ andThen (readListed s) finish
+  pub listed-prefix : (s : List ℕ) (k : ℕ) → 1551 + most ≤ k → andThen (readListed (take k s)) finish ≡ andThen (readListed s) finish
   unfolding readListed
   listed-prefix s k h =
       subst (λ (x : Head). Alike finish (atRecord x (λ kind. sized (fieldAt 2 1 (take k s)) (drop 3 (take k s)))) (readListed s))

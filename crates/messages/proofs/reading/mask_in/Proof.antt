@@ -1,4 +1,4 @@
--- The mask of a KN, none of a DC.
+-- The mask where numbers are told, none of a decision.
 use Rattle.drive_states.specs.Messages.{maskIn, contentOf}
 use borrow.Author.Needs.{needs}
 use Rattle.messages.proofs.reading.mask_in.Statement.{statement}
@@ -9,5 +9,5 @@ unfolding maskIn contentOf
 mask-in-spec =
     tie.close
     (tie.spec
-    (λ c κs. search needs) (λ c κs. search needs) (λ c. rw (← c .before .before .is-kind .ensures, c .before .if1 .taken) (c .mask-of .ensures))
-    (λ c. rw (← c .before .is-kind .ensures, c .if1 .left)))
+    (λ c κs. search needs) (λ c κs. search needs) (λ c. rw (← c .before .before .is-known .ensures, c .before .if1 .taken) (c .mask-of .ensures))
+    (λ c. rw (← c .before .is-known .ensures, c .if1 .left)))
