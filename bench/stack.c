@@ -138,9 +138,9 @@ static void prepare(void)
     put((uint8_t[]){(uint8_t)count}, 1);
     table_size = file_size;
     for (uint8_t d = 1; d <= drives; d++) {
-        put("PR", 2);
-        put((uint8_t[]){d, d, 0}, 3);
-        scenario.numbers[d - 1] = d;
+        put("PW", 2);
+        put((uint8_t[]){d, d, 0, 1, 0}, 5);
+        scenario.numbers[d - 1] = 0x10000u + d;
     }
     put("EN", 2);
     put((uint8_t[]){0}, 1);

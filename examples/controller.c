@@ -13,7 +13,7 @@
 enum { DRIVES = 6, STOPS = 2, STOP_ROUND = 1, STOP_SENDS = 1 };
 
 static const uint64_t sets[] = {0x01, 0x02, 0x3c};
-static const uint16_t proposals[DRIVES + 1] = {0, 7, 5, 9, 1, 1, 1};
+static const uint32_t proposals[DRIVES + 1] = {0, 7, 5, 9, 1, 1, 1};
 
 /* Drive d at [d]. */
 static regdulyn_state states[DRIVES + 1];
@@ -109,7 +109,7 @@ int main(void)
         if (play_round(round) != 0)
             return 1;
     for (unsigned d = 1; d <= DRIVES; d++) {
-        uint16_t number;
+        uint32_t number;
         if (d == STOPS)
             printf("drive %u stopped\n", d);
         else if (regdulyn_drive_decided(&states[d], &number))

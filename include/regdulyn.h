@@ -15,8 +15,8 @@
  * drive 1, bit 63 is drive 64. A table is n and 1 to 128 survivor sets: sets of drives of which it is promised that
  * in every exchange all drives of at least one of them keep their supply. A core is a group of drives that has a
  * drive in common with every survivor set, and of which no smaller part does; the library chooses one with the fewest
- * drives, the same for the same table. Its drives talk, the others listen. Pattern numbers are 0 to 65535, and each
- * of them is real: 0 does not stand for "none".
+ * drives, the same for the same table. Its drives talk, the others listen. Pattern numbers are 0 to 4294967295, and
+ * each of them is real: 0 does not stand for "none".
  *
  *
  * AN EXCHANGE
@@ -50,10 +50,11 @@
  * the others have gone on without it. Its next call is the opening of the next exchange. What it had decided before
  * is not binding: a drive that stops may have decided on another number than those that stay up.
  *
- * A message need not be looked into. Its first two bytes are the letters KN or DC, then come the sender and the
- * round, a byte each. A KN then has a mask of drives, 8 bytes, and the pattern number of each of them, rising by
- * drive, 2 bytes each; a DC has the number on which its sender has decided, 2 bytes. Numbers of several bytes are
- * lowest byte first.
+ * A message need not be looked into. Its first two bytes are the letters KW or DW, then come the sender and the
+ * round, a byte each. A KW then has a mask of drives, 8 bytes, and the pattern number of each of them, rising by
+ * drive, 4 bytes each; a DW has the number on which its sender has decided, 4 bytes. Numbers of several bytes are
+ * lowest byte first. KN and DC are the same with numbers of 2 bytes. They are never sent, and still read, also where
+ * other messages of the round are KW and DW: what counts is the number, not how wide it was written.
  *
  *
  * THE CALLS
@@ -66,8 +67,8 @@
  * return the refusal. Each makes one call of a function of the library, which takes the state by value and returns it:
  * the proof is of these.
  *
- * Stack: an opening, and each of the calls about tables and runs, takes up to 225 thousand bytes of stack; a message, a
- * close and a send take less than a thousand (docs/CONTROLLER.md).
+ * Stack: an opening, and each of the calls about tables and runs, takes up to 276 thousand bytes of stack; a message, a
+ * close and a send take less than 1500 (docs/CONTROLLER.md).
  *
  * Pointers: `sets`, `bytes` and `buffer` must be valid for as many elements as the length beside them says; with
  * length 0 they may be NULL. Memory that a call reads and memory that it writes must not overlap; pointers are aligned
@@ -94,9 +95,9 @@ extern "C" {
 #define REGDULYN_MAX_DRIVES 64     /* drives of a frame */
 #define REGDULYN_MAX_SETS 128      /* survivor sets of a table */
 #define REGDULYN_MAX_CORES 1024    /* cores of a table; one with more is refused with 13 */
-#define REGDULYN_MAX_MESSAGE 140   /* bytes of the longest message: KN with 64 numbers, 12 + 2 * 64 */
+#define REGDULYN_MAX_MESSAGE 268   /* bytes of the longest message: KW with 64 numbers, 12 + 4 * 64 */
 #define REGDULYN_MAX_TABLE 1286    /* bytes of the longest table: FR, 128 SV, EN, 3 + 10 * 128 + 3 */
-#define REGDULYN_MAX_RUN 643       /* bytes of the longest run file: 64 PR, 64 CR, EN, 5 * 64 + 5 * 64 + 3 */
+#define REGDULYN_MAX_RUN 771       /* bytes of the longest run file: 64 PW, 64 CR, EN, 7 * 64 + 5 * 64 + 3 */
 #define REGDULYN_MAX_LISTING 32768 /* no listing has more bytes */
 
 /* ---- refusals ---- */
@@ -179,11 +180,14 @@ static inline const char *regdulyn_refusal_text(uint32_t refusal)
 
 /* ---- the state of a drive ---- */
 
-/* Raised when the layout of regdulyn_state changes. regdulyn_state_version() gives the linked library's. */
-#define REGDULYN_STATE_VERSION 1
+/*
+ * Raised when the layout of regdulyn_state changes. regdulyn_state_version() gives the linked library's. A state that
+ * was stored by a controller of version 1, whose pattern numbers had two bytes, is not read.
+ */
+#define REGDULYN_STATE_VERSION 2
 
 /*
- * What a drive keeps from call to call. It is plain data of 184 bytes with no padding: it may be copied, compared by
+ * What a drive keeps from call to call. It is plain data of 312 bytes with no padding: it may be copied, compared by
  * memcmp, and stored. Its fields may be read at any time; only the calls should write them. A flag is 0 or 1 in what
  * an accepted call gives, and any value but 0 is read as 1.
  *
@@ -201,9 +205,9 @@ typedef struct regdulyn_state {
     uint64_t heard;  /* the drives whose messages were accepted in this round */
     uint64_t known;  /* the drives whose pattern numbers are known */
     uint64_t start;  /* those that were known when this round began: the next send tells their numbers */
-    uint16_t numbers[REGDULYN_MAX_DRIVES]; /* the pattern number of drive d at [d - 1]; it counts where d is known */
-    uint16_t told;      /* where `announced`: the number that a decided drive told in this round */
-    uint16_t decision;  /* where `decided`: the number on which the drive has decided */
+    uint32_t numbers[REGDULYN_MAX_DRIVES]; /* the pattern number of drive d at [d - 1]; it counts where d is known */
+    uint32_t told;      /* where `announced`: the number that a decided drive told in this round */
+    uint32_t decision;  /* where `decided`: the number on which the drive has decided */
     uint8_t n;          /* the drives of the frame */
     uint8_t own;        /* the drive whose state this is, 1 to n */
     uint8_t round;      /* the round that the drive is in, from 1; after it has halted the last one */
@@ -211,26 +215,26 @@ typedef struct regdulyn_state {
     uint8_t by;         /* where `announced`: that drive, the lowest of several */
     uint8_t decided;    /* flag: the drive has decided */
     uint8_t halted;     /* flag: the drive has ended its part */
-    uint8_t reserved[5]; /* read by no call; 0 in what an accepted call gives */
+    uint8_t reserved[1]; /* read by no call; 0 in what an accepted call gives */
 } regdulyn_state;
 
-REGDULYN_SIZE(regdulyn_state, 184);
+REGDULYN_SIZE(regdulyn_state, 312);
 REGDULYN_PLACE(regdulyn_state, core, 0);
 REGDULYN_PLACE(regdulyn_state, before, 8);
 REGDULYN_PLACE(regdulyn_state, heard, 16);
 REGDULYN_PLACE(regdulyn_state, known, 24);
 REGDULYN_PLACE(regdulyn_state, start, 32);
 REGDULYN_PLACE(regdulyn_state, numbers, 40);
-REGDULYN_PLACE(regdulyn_state, told, 168);
-REGDULYN_PLACE(regdulyn_state, decision, 170);
-REGDULYN_PLACE(regdulyn_state, n, 172);
-REGDULYN_PLACE(regdulyn_state, own, 173);
-REGDULYN_PLACE(regdulyn_state, round, 174);
-REGDULYN_PLACE(regdulyn_state, announced, 175);
-REGDULYN_PLACE(regdulyn_state, by, 176);
-REGDULYN_PLACE(regdulyn_state, decided, 177);
-REGDULYN_PLACE(regdulyn_state, halted, 178);
-REGDULYN_PLACE(regdulyn_state, reserved, 179);
+REGDULYN_PLACE(regdulyn_state, told, 296);
+REGDULYN_PLACE(regdulyn_state, decision, 300);
+REGDULYN_PLACE(regdulyn_state, n, 304);
+REGDULYN_PLACE(regdulyn_state, own, 305);
+REGDULYN_PLACE(regdulyn_state, round, 306);
+REGDULYN_PLACE(regdulyn_state, announced, 307);
+REGDULYN_PLACE(regdulyn_state, by, 308);
+REGDULYN_PLACE(regdulyn_state, decided, 309);
+REGDULYN_PLACE(regdulyn_state, halted, 310);
+REGDULYN_PLACE(regdulyn_state, reserved, 311);
 
 /* ---- the library's functions: the state by value ---- */
 
@@ -246,9 +250,9 @@ typedef struct regdulyn_size_reply {
     uint32_t refusal;
 } regdulyn_size_reply;
 
-REGDULYN_SIZE(regdulyn_state_reply, 192);
+REGDULYN_SIZE(regdulyn_state_reply, 320);
 REGDULYN_PLACE(regdulyn_state_reply, state, 0);
-REGDULYN_PLACE(regdulyn_state_reply, refusal, 184);
+REGDULYN_PLACE(regdulyn_state_reply, refusal, 312);
 REGDULYN_SIZE(regdulyn_size_reply, 16);
 REGDULYN_PLACE(regdulyn_size_reply, size, 0);
 REGDULYN_PLACE(regdulyn_size_reply, refusal, 8);
@@ -261,7 +265,7 @@ regdulyn_state regdulyn_unopened(void);
 
 /* See regdulyn_drive_open, _message, _close, _send and _send_list below, which are these calls and nothing more. */
 regdulyn_state_reply regdulyn_open(regdulyn_state state, uint8_t n, const uint64_t *sets, size_t count, uint8_t own,
-                                   uint16_t number);
+                                   uint32_t number);
 regdulyn_state_reply regdulyn_message(regdulyn_state state, const uint8_t *bytes, size_t length);
 regdulyn_state_reply regdulyn_close(regdulyn_state state);
 regdulyn_size_reply regdulyn_send(regdulyn_state state, uint8_t *buffer, size_t room, size_t start);
@@ -278,7 +282,7 @@ regdulyn_size_reply regdulyn_send_list(regdulyn_state state, uint8_t *list, size
  * 1024 cores; 8 own is not 1 to n.
  */
 static inline uint32_t regdulyn_drive_open(regdulyn_state *state, uint8_t n, const uint64_t *sets, size_t count,
-                                           uint8_t own, uint16_t number)
+                                           uint8_t own, uint32_t number)
 {
     regdulyn_state_reply reply = regdulyn_open(*state, n, sets, count, own, number);
     if (reply.refusal == 0)
@@ -290,12 +294,13 @@ static inline uint32_t regdulyn_drive_open(regdulyn_state *state, uint8_t n, con
  * Hands the drive a message: exactly the bytes that another drive's send wrote, with their length. An accepted
  * message counts as heard in this round.
  *
- * Refusals: 28 the state breaks a rule; 23 the drive has halted; then of the bytes 1 the mark is cut; 2 neither KN nor
- * DC; 1 the fields are cut (12 bytes of a KN with its mark, 6 of a DC); 8 the sender is no drive of the frame; 15 the
- * mask of known drives lacks the sender or has a drive above n; 1 a KN's numbers are cut; 7 too many bytes; then 22 the
- * sender is the drive itself, or the sender or a known drive is outside the core; 26 the message is of another round;
- * 24 the sender was missing in an earlier round; 21 the sender was already accepted in this round; 25 a pattern number
- * differs from the one known for that drive.
+ * Refusals: 28 the state breaks a rule; 23 the drive has halted; then of the bytes 1 the mark is cut; 2 none of KN, DC,
+ * KW and DW; 1 the fields are cut (12 bytes of a KN or KW with its mark, 6 of a DC, 8 of a DW); 8 the sender is no
+ * drive of the frame; 15 the mask of known drives lacks the sender or has a drive above n; 1 the numbers are cut, 2
+ * bytes of a KN and 4 of a KW for each drive of its mask; 7 too many bytes; then 22 the sender is the drive itself, or
+ * the sender or a known drive is outside the core; 26 the message is of another round; 24 the sender was missing in an
+ * earlier round; 21 the sender was already accepted in this round; 25 a pattern number differs from the one known for
+ * that drive, whichever messages told them.
  *
  * In an exchange as above a message to a halted drive meets 23, and is dropped; no other refusal is to be expected. 21
  * is a repeat, and is dropped too. The others say that the order above was not kept, or that something is damaged, and
@@ -326,7 +331,8 @@ static inline uint32_t regdulyn_drive_close(regdulyn_state *state)
 
 /*
  * Writes the drive's message of this round into buffer[start], buffer[start + 1], .., and how many bytes into *size,
- * where size is not NULL. The buffer has `room` bytes in all, those before `start` among them; REGDULYN_MAX_MESSAGE
+ * where size is not NULL: a KW, 12 bytes and 4 for each drive that was known when the round began, or, once the drive
+ * has decided, a DW of 8. The buffer has `room` bytes in all, those before `start` among them; REGDULYN_MAX_MESSAGE
  * bytes from `start` on are always enough. No other byte of the buffer changes, and the state does not: a second send
  * of the same round writes the same bytes, whatever messages have come between.
  *
@@ -362,7 +368,7 @@ static inline uint32_t regdulyn_drive_send_list(const regdulyn_state *state, uin
 /* ---- what a state says ---- */
 
 /* 1 where the drive has decided, and then its number is in *number, where number is not NULL; else 0. */
-static inline int regdulyn_drive_decided(const regdulyn_state *state, uint16_t *number)
+static inline int regdulyn_drive_decided(const regdulyn_state *state, uint32_t *number)
 {
     if (state->decided == 0)
         return 0;
@@ -430,7 +436,7 @@ typedef struct regdulyn_verdict_reply {
  */
 typedef struct regdulyn_scenario {
     uint64_t stopped;                      /* the drives that stop: a mask, while regdulyn_ending has a flag */
-    uint16_t numbers[REGDULYN_MAX_DRIVES]; /* what drive d proposes, at [d - 1] */
+    uint32_t numbers[REGDULYN_MAX_DRIVES]; /* what drive d proposes, at [d - 1] */
     uint8_t rounds[REGDULYN_MAX_DRIVES];   /* the round in which drive d stops, at [d - 1], where it does */
     uint8_t sends[REGDULYN_MAX_DRIVES];    /* how many sends of that round it still makes, at [d - 1] */
 } regdulyn_scenario;
@@ -440,7 +446,7 @@ typedef struct regdulyn_scenario {
  * accepted call never gives a drive of the frame round 0 with `stopped` 0, which would be one that is undecided.
  */
 typedef struct regdulyn_ending {
-    uint16_t number; /* the pattern number on which it decides */
+    uint32_t number; /* the pattern number on which it decides */
     uint8_t round;   /* the round in which it does, from 1; 0 where it stops */
     uint8_t stopped; /* flag: the drive stops */
 } regdulyn_ending;
@@ -466,20 +472,20 @@ REGDULYN_PLACE(regdulyn_verdict_reply, blocks, 0);
 REGDULYN_PLACE(regdulyn_verdict_reply, positions, 32);
 REGDULYN_PLACE(regdulyn_verdict_reply, shared, 36);
 REGDULYN_PLACE(regdulyn_verdict_reply, refusal, 40);
-REGDULYN_SIZE(regdulyn_scenario, 264);
+REGDULYN_SIZE(regdulyn_scenario, 392);
 REGDULYN_PLACE(regdulyn_scenario, stopped, 0);
 REGDULYN_PLACE(regdulyn_scenario, numbers, 8);
-REGDULYN_PLACE(regdulyn_scenario, rounds, 136);
-REGDULYN_PLACE(regdulyn_scenario, sends, 200);
-REGDULYN_SIZE(regdulyn_ending, 4);
+REGDULYN_PLACE(regdulyn_scenario, rounds, 264);
+REGDULYN_PLACE(regdulyn_scenario, sends, 328);
+REGDULYN_SIZE(regdulyn_ending, 8);
 REGDULYN_PLACE(regdulyn_ending, number, 0);
-REGDULYN_PLACE(regdulyn_ending, round, 2);
-REGDULYN_PLACE(regdulyn_ending, stopped, 3);
-REGDULYN_SIZE(regdulyn_simulation_reply, 272);
+REGDULYN_PLACE(regdulyn_ending, round, 4);
+REGDULYN_PLACE(regdulyn_ending, stopped, 5);
+REGDULYN_SIZE(regdulyn_simulation_reply, 528);
 REGDULYN_PLACE(regdulyn_simulation_reply, drives, 0);
-REGDULYN_PLACE(regdulyn_simulation_reply, core, 256);
-REGDULYN_PLACE(regdulyn_simulation_reply, stops, 264);
-REGDULYN_PLACE(regdulyn_simulation_reply, refusal, 268);
+REGDULYN_PLACE(regdulyn_simulation_reply, core, 512);
+REGDULYN_PLACE(regdulyn_simulation_reply, stops, 520);
+REGDULYN_PLACE(regdulyn_simulation_reply, refusal, 524);
 
 /*
  * Reads the table that the bytes begin with, whatever stands behind it, and puts the sets of its normal table into the
@@ -580,8 +586,9 @@ regdulyn_verdict_reply regdulyn_verdict(uint8_t k, uint8_t n, const uint64_t *se
 regdulyn_simulation_reply regdulyn_simulate(uint8_t n, const uint64_t *sets, size_t count, regdulyn_scenario scenario);
 
 /*
- * The same of a run file: PR for each drive, CR for each that stops, EN, as they stand behind a table in a file. With
- * `bytes + used` and `length - used` of regdulyn_read_table it tries out a file that has both.
+ * The same of a run file: PW or PR for each drive, CR for each that stops, EN, as they stand behind a table in a file.
+ * A PW has its number in 4 bytes, a PR in 2; one file may have both kinds. With `bytes + used` and `length - used` of
+ * regdulyn_read_table it tries out a file that begins with its table.
  *
  * Refusals: those of the table as above; then from left to right, at each record 1 its mark is cut, 2 the mark is
  * unknown or not due, 1 the rest of the record is cut, 8 a drive that is above n, not the next or not above the last,

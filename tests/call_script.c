@@ -4,11 +4,11 @@
  * all bytes 0 at first.
  *
  * A script is a list of operations: one letter, then its fields, lowest byte first.
- *   L  n 1, own 1, core 8, round 1, before 8, heard 8, known 8, start 8, 64 pattern numbers of 2, announced 1 (0:
- *      none), its sender 1 and pattern number 2, decided 1 (0: not) and its pattern number 2, halted 1 (0: not): takes
+ *   L  n 1, own 1, core 8, round 1, before 8, heard 8, known 8, start 8, 64 pattern numbers of 4, announced 1 (0:
+ *      none), its sender 1 and pattern number 4, decided 1 (0: not) and its pattern number 4, halted 1 (0: not): takes
  *      this state
- *   O  n 1, drive 1, pattern number 2, list of sets: opens
- *   S  length 2, starting place 8: sends into a buffer of that length, at most 256
+ *   O  n 1, drive 1, pattern number 4, list of sets: opens
+ *   S  length 2, starting place 8: sends into a buffer of that length, at most 384
  *   M  length 2, then so many bytes: hands over a message
  *   C  closes the round
  *   B  n 1, list of groups: the way back
@@ -18,7 +18,7 @@
  *   K  n 1, list of sets: the cores, the chosen one first
  *   T  n 1, t 1: the table of all groups of n - t drives
  *   R  n 1, length 2, then so many bytes, list of sets: the simulated exchange of a run file
- *   X  n 1, 64 pattern numbers of 2, mask of the drives that stop 8, 64 rounds of 1, 64 sends of 1, list of sets: the
+ *   X  n 1, 64 pattern numbers of 4, mask of the drives that stop 8, 64 rounds of 1, 64 sends of 1, list of sets: the
  *      simulated exchange
  * A list is its count, 2, then so many masks, 8 each; those behind the 1026th are left out. Bytes that are not there
  * count as 0, and as none of a message or a run file; any other letter does nothing. A script has at most 65536 bytes;
@@ -35,7 +35,7 @@
 
 #include "regdulyn.h"
 
-enum { MOST_BYTES = 65536, MOST_MASKS = 1026, MOST_SENT = 256, MOST_WRITTEN = 1536, FILLING = 0xa5 };
+enum { MOST_BYTES = 65536, MOST_MASKS = 1026, MOST_SENT = 384, MOST_WRITTEN = 1536, FILLING = 0xa5 };
 
 static uint8_t script[MOST_BYTES];
 static size_t length, at; /* at may be behind the end */
@@ -56,11 +56,12 @@ static uint64_t field(unsigned width)
 
 static uint8_t byte(void) { return (uint8_t)field(1); }
 static uint16_t two_bytes(void) { return (uint16_t)field(2); }
+static uint32_t number(void) { return (uint32_t)field(4); }
 
-static void numbers(uint16_t *values)
+static void numbers(uint32_t *values)
 {
     for (unsigned d = 1; d <= REGDULYN_MAX_DRIVES; d++)
-        values[d - 1] = two_bytes();
+        values[d - 1] = number();
 }
 
 /* The list into `masks`; how many there are. */
@@ -156,29 +157,29 @@ static void print_simulation(unsigned n, regdulyn_simulation_reply reply)
         if (ending.stopped)
             printf(" drive %u stopped", d);
         else
-            printf(" drive %u decides %u round %u", d, (unsigned)ending.number, (unsigned)ending.round);
+            printf(" drive %u decides %" PRIu32 " round %u", d, ending.number, (unsigned)ending.round);
     }
     printf("\n");
 }
 
 static void print_state(void)
 {
-    uint16_t number;
+    uint32_t decision;
     printf("state n %u own %u core %" PRIx64 " round %u", (unsigned)state.n, (unsigned)state.own, state.core,
            (unsigned)state.round);
     printf(" before %" PRIx64 " heard %" PRIx64 " known %" PRIx64 " start %" PRIx64, state.before, state.heard,
            state.known, state.start);
     if (state.announced)
-        printf(" announced by %u %u", (unsigned)state.by, (unsigned)state.told);
+        printf(" announced by %u %" PRIu32, (unsigned)state.by, state.told);
     else
         printf(" announced none");
-    if (regdulyn_drive_decided(&state, &number))
-        printf(" decided %u", (unsigned)number);
+    if (regdulyn_drive_decided(&state, &decision))
+        printf(" decided %" PRIu32, decision);
     else
         printf(" undecided");
     printf("%s numbers ", regdulyn_drive_halted(&state) ? " halted" : "");
     for (unsigned d = 1; d <= REGDULYN_MAX_DRIVES; d++)
-        printf("%04x", (unsigned)state.numbers[d - 1]);
+        printf("%08" PRIx32, state.numbers[d - 1]);
     printf("\n");
 }
 
@@ -197,18 +198,18 @@ static void load(void)
     numbers(state.numbers);
     state.announced = byte();
     state.by = byte();
-    state.told = two_bytes();
+    state.told = number();
     state.decided = byte();
-    state.decision = two_bytes();
+    state.decision = number();
     state.halted = byte();
 }
 
 static void open_drive(void)
 {
     uint8_t n = byte(), own = byte();
-    uint16_t number = two_bytes();
+    uint32_t proposed = number();
     size_t count = list();
-    print_answer(regdulyn_drive_open(&state, n, masks, count, own, number));
+    print_answer(regdulyn_drive_open(&state, n, masks, count, own, proposed));
 }
 
 static void message(void)

@@ -1,13 +1,15 @@
 /*
  * The calls of include/regdulyn.h on random states, bytes and places: a refused call leaves every byte of the state
  * and of the lent memory as it was, an accepted one gives flags of 0 or 1, a send touches only the bytes that it says,
- * and the list of sends has the order of document 01 and is refused where a send is. Every refusal that the calls have
- * must be met. Prints how often each was. Before that, calls of which every field that they leave is known.
+ * and the list of sends has the order of document 01 and is refused where a send is. Some messages are KN and DC, with
+ * numbers of two bytes. Every refusal that the calls have must be met. Prints how often each was. Before that, calls of
+ * which every field that they leave is known.
  */
 #include <stdio.h>
 #include <stdlib.h>
 #include <string.h>
 
+#include "old_messages.h"
 #include "regdulyn.h"
 
 static uint64_t seed = 0x9e3779b97f4a7c15u;
@@ -40,7 +42,7 @@ static void scatter(void *bytes, size_t length)
 /* What a reply has to say of the state that was handed. */
 static void check(int call, const regdulyn_state *old, const regdulyn_state_reply *reply)
 {
-    static const uint8_t none[5];
+    static const uint8_t none[sizeof reply->state.reserved];
     require(reply->refusal < 32, "a refusal's number is too high");
     require(strcmp(regdulyn_refusal_text(reply->refusal), regdulyn_refusal_text(31)) != 0, "a refusal has no text");
     met[call][reply->refusal]++;
@@ -76,6 +78,13 @@ static size_t make_table(uint8_t *n, uint64_t *sets)
     return count;
 }
 
+/* Few numbers, so that drives often have the same: some differ only in their upper or only in their lower bytes. */
+static uint32_t some_number(void)
+{
+    static const uint32_t numbers[] = {0, 1, 2, 0x10000, 0x10001, 0x1000001, 0xffff, 0xffffffff};
+    return numbers[below(sizeof numbers / sizeof *numbers)];
+}
+
 static regdulyn_state open_some(void)
 {
     uint64_t sets[REGDULYN_MAX_SETS + 1];
@@ -84,7 +93,7 @@ static regdulyn_state open_some(void)
     uint8_t n;
     size_t count = make_table(&n, sets);
     uint8_t own = (uint8_t)below(8);
-    uint16_t number = (uint16_t)below(3);
+    uint32_t number = some_number();
     if (below(8) == 0)
         scatter(&state, sizeof state);
     reply = regdulyn_open(state, n, count == 0 ? NULL : sets, count, own, number);
@@ -95,21 +104,26 @@ static regdulyn_state open_some(void)
 /* A message near to what the drive may be sent: that of a core drive, from the same state, with some bytes changed. */
 static size_t make_message(regdulyn_state state, uint8_t *bytes)
 {
+    uint8_t sent[REGDULYN_MAX_MESSAGE];
     regdulyn_size_reply reply;
     size_t length;
     state.own = (uint8_t)(1 + below(6));
     state.halted = 0;
     state.decided = below(4) == 0;
-    state.decision = (uint16_t)below(3);
+    state.decision = some_number();
     if (below(12) != 0) {
         state.known |= state.core & ((uint64_t)1 << (state.own - 1));
         state.start |= state.known;
     }
-    reply = regdulyn_send(state, bytes, REGDULYN_MAX_MESSAGE, 0);
+    reply = regdulyn_send(state, sent, sizeof sent, 0);
     length = reply.size;
     if (reply.refusal != 0) {
         scatter(bytes, REGDULYN_MAX_MESSAGE);
-        length = below(20);
+        length = below(24);
+    } else if (below(3) == 0) {
+        length = as_old(sent, length, bytes, 0);
+    } else {
+        memcpy(bytes, sent, length);
     }
     if (length != 0 && below(3) == 0)
         bytes[below((unsigned)length)] ^= (uint8_t)(1u << below(8));
@@ -122,7 +136,7 @@ static size_t make_message(regdulyn_state state, uint8_t *bytes)
 
 static void send_some(const regdulyn_state *state)
 {
-    uint8_t buffer[200], old[200];
+    uint8_t buffer[360], old[360];
     size_t room = below(3) == 0 ? below(16) : sizeof buffer;
     size_t start = below(20) == 0 ? (size_t)draw() : below(40);
     regdulyn_size_reply reply;
@@ -219,40 +233,55 @@ static void same(regdulyn_state_reply reply, regdulyn_state due, const char *wha
 }
 
 /*
- * Drive 1 of case A, core 7, from its opening to its halt, field by field: it hears drive 3 alone in round 1, and in
- * round 2 that drive 3 has decided.
+ * Drive 1 of case A, core 7, from its opening with number 0x3070107 to its halt, field by field: it hears drive 3 alone
+ * in round 1, by the message `known`, which tells drive 3's number, and in round 2 by `decide` that drive 3 has decided
+ * on that number.
  */
-static void known_states(void)
+static void known_states(uint32_t number, const uint8_t *known, size_t known_size, const uint8_t *decide,
+                         size_t decide_size)
 {
     static const uint64_t sets[] = {1, 2, 0x3c};
-    static const uint8_t kn[] = {'K', 'N', 3, 1, 4, 0, 0, 0, 0, 0, 0, 0, 9, 2}, dc[] = {'D', 'C', 3, 2, 9, 2};
-    uint8_t sent[] = {1, 1, 1, 1, 1, 1, 1, 1};
-    regdulyn_state_reply reply = regdulyn_open(regdulyn_unopened(), 6, sets, 3, 1, 0x307);
-    same(reply, (regdulyn_state){.core = 7, .before = 7, .heard = 0, .known = 1, .start = 1, .numbers = {0x307}, .n = 6,
+    const uint32_t own = 0x3070107;
+    const uint8_t tells[] = {1, 'D', 'W', 1, 3, (uint8_t)number, (uint8_t)(number >> 8), (uint8_t)(number >> 16),
+                             (uint8_t)(number >> 24), 1};
+    uint8_t sent[] = {1, 1, 1, 1, 1, 1, 1, 1, 1, 1};
+    regdulyn_state_reply reply = regdulyn_open(regdulyn_unopened(), 6, sets, 3, 1, own);
+    same(reply, (regdulyn_state){.core = 7, .before = 7, .heard = 0, .known = 1, .start = 1, .numbers = {own}, .n = 6,
                                  .own = 1, .round = 1}, "an opening leaves another state");
-    reply = regdulyn_message(reply.state, kn, sizeof kn);
+    reply = regdulyn_message(reply.state, known, known_size);
     same(reply, (regdulyn_state){.core = 7, .before = 7, .heard = 4, .known = 5, .start = 1,
-                                 .numbers = {0x307, 0, 0x209}, .n = 6, .own = 1, .round = 1},
-         "a KN leaves another state");
+                                 .numbers = {own, 0, number}, .n = 6, .own = 1, .round = 1},
+         "a KN or KW leaves another state");
     reply = regdulyn_close(reply.state);
     same(reply, (regdulyn_state){.core = 7, .before = 5, .heard = 0, .known = 5, .start = 5,
-                                 .numbers = {0x307, 0, 0x209}, .n = 6, .own = 1, .round = 2},
+                                 .numbers = {own, 0, number}, .n = 6, .own = 1, .round = 2},
          "a close leaves another state");
-    reply = regdulyn_message(reply.state, dc, sizeof dc);
+    reply = regdulyn_message(reply.state, decide, decide_size);
     same(reply, (regdulyn_state){.core = 7, .before = 5, .heard = 4, .known = 5, .start = 5,
-                                 .numbers = {0x307, 0, 0x209}, .told = 0x209, .n = 6, .own = 1, .round = 2,
-                                 .announced = 1, .by = 3}, "a DC leaves another state");
+                                 .numbers = {own, 0, number}, .told = number, .n = 6, .own = 1, .round = 2,
+                                 .announced = 1, .by = 3}, "a DC or DW leaves another state");
     reply = regdulyn_close(reply.state);
     same(reply, (regdulyn_state){.core = 7, .before = 5, .heard = 0, .known = 5, .start = 5,
-                                 .numbers = {0x307, 0, 0x209}, .decision = 0x209, .n = 6, .own = 1, .round = 3,
+                                 .numbers = {own, 0, number}, .decision = number, .n = 6, .own = 1, .round = 3,
                                  .decided = 1}, "the close that decides leaves another state");
     require(regdulyn_drive_send(&reply.state, sent, sizeof sent, 1, NULL) == 0 &&
-                memcmp(sent, "\1DC\1\3\11\2\1", sizeof sent) == 0,
+                memcmp(sent, tells, sizeof sent) == 0,
             "the drive tells another decision");
     reply = regdulyn_close(reply.state);
     same(reply, (regdulyn_state){.core = 7, .before = 1, .heard = 0, .known = 5, .start = 5,
-                                 .numbers = {0x307, 0, 0x209}, .decision = 0x209, .n = 6, .own = 1, .round = 3,
+                                 .numbers = {own, 0, number}, .decision = number, .n = 6, .own = 1, .round = 3,
                                  .decided = 1, .halted = 1}, "the close that halts leaves another state");
+}
+
+/* The same by messages with numbers of four bytes and of two. */
+static void all_known_states(void)
+{
+    static const uint8_t kw[] = {'K', 'W', 3, 1, 4, 0, 0, 0, 0, 0, 0, 0, 9, 2, 4, 8};
+    static const uint8_t dw[] = {'D', 'W', 3, 2, 9, 2, 4, 8};
+    static const uint8_t kn[] = {'K', 'N', 3, 1, 4, 0, 0, 0, 0, 0, 0, 0, 9, 2};
+    static const uint8_t dc[] = {'D', 'C', 3, 2, 9, 2};
+    known_states(0x8040209, kw, sizeof kw, dw, sizeof dw);
+    known_states(0x209, kn, sizeof kn, dc, sizeof dc);
 }
 
 int main(void)
@@ -267,7 +296,7 @@ int main(void)
     require(regdulyn_state_version() == REGDULYN_STATE_VERSION, "header and library differ in the state's layout");
     require(regdulyn_close(zeros).refusal == 28 && regdulyn_close(regdulyn_unopened()).refusal == 28,
             "a state that was never opened closes");
-    known_states();
+    all_known_states();
     for (int i = 0; i < 40000; i++) {
         regdulyn_state state = open_some();
         for (int k = 0; k < 6; k++) {

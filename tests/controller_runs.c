@@ -1,15 +1,16 @@
 /*
  * Plays exchanges by the calls of include/regdulyn.h, in the order that the header states: the sends and messages of
- * a round are mixed at random, with calls between them that are refused. Reads scenarios from standard input: the
- * number of drives and of sets, the sets in hexadecimal, the pattern numbers, and for each drive the round in which
- * it stops, 0 for none, and its sends in it. Prints what each drive decides, as the run program does, and an empty
- * line after each.
+ * a round are mixed at random, with calls between them that are refused, and some arrive as KN and DC where their
+ * numbers fit into two bytes. Reads scenarios from standard input: the number of drives and of sets, the sets in
+ * hexadecimal, the pattern numbers, and for each drive the round in which it stops, 0 for none, and its sends in it.
+ * Prints what each drive decides, as the run program does, and an empty line after each.
  */
 #include <inttypes.h>
 #include <stdio.h>
 #include <stdlib.h>
 #include <string.h>
 
+#include "old_messages.h"
 #include "regdulyn.h"
 
 /* A message that is on the wire, or a send that is still to be made, where `to` is 0. */
@@ -21,7 +22,8 @@ static struct {
     unsigned n;
     size_t count;
     uint64_t sets[REGDULYN_MAX_SETS];
-    unsigned proposal[65], stop_round[65], stop_sends[65];
+    uint32_t proposal[65];
+    unsigned stop_round[65], stop_sends[65];
 } scenario;
 
 static regdulyn_state states[65];
@@ -48,10 +50,10 @@ static void due(uint32_t refusal, uint32_t expected, const char *call, unsigned 
     exit(1);
 }
 
-static unsigned read_number(const char *format)
+static uint32_t read_number(void)
 {
-    unsigned number;
-    if (scanf(format, &number) != 1)
+    uint32_t number;
+    if (scanf("%" SCNu32, &number) != 1)
         exit(2);
     return number;
 }
@@ -60,15 +62,15 @@ static int read_scenario(void)
 {
     if (scanf("%u", &scenario.n) != 1)
         return 0;
-    scenario.count = read_number("%u");
+    scenario.count = read_number();
     for (size_t i = 0; i < scenario.count; i++)
         if (scanf("%" SCNx64, &scenario.sets[i]) != 1)
             exit(2);
     for (unsigned d = 1; d <= scenario.n; d++)
-        scenario.proposal[d] = read_number("%u");
+        scenario.proposal[d] = read_number();
     for (unsigned d = 1; d <= scenario.n; d++) {
-        scenario.stop_round[d] = read_number("%u");
-        scenario.stop_sends[d] = read_number("%u");
+        scenario.stop_round[d] = read_number();
+        scenario.stop_sends[d] = read_number();
     }
     return 1;
 }
@@ -100,8 +102,12 @@ static void send_from(unsigned d, unsigned round)
 static void deliver(struct event e, unsigned round)
 {
     regdulyn_state *state = &states[e.to];
+    uint8_t old[REGDULYN_MAX_MESSAGE];
     const uint8_t *bytes = messages[e.from];
     size_t size = sizes[e.from];
+    size_t fits = below(4) == 0 ? as_old(bytes, size, old, 1) : 0;
+    if (fits != 0)
+        bytes = old, size = fits;
     if (gone_before(e.to, round) || (gone_by(e.to, round) && below(2) == 0))
         return;
     if (regdulyn_drive_halted(state)) {
@@ -149,12 +155,12 @@ static void print_endings(uint64_t core)
 {
     unsigned stops = 0;
     for (unsigned d = 1; d <= scenario.n; d++) {
-        uint16_t number;
+        uint32_t number;
         if (scenario.stop_round[d] != 0) {
             printf("drive %u stopped\n", d);
             stops += (unsigned)regdulyn_has_drive(core, d);
         } else if (regdulyn_drive_decided(&states[d], &number)) {
-            printf("drive %u decides %u round %u\n", d, (unsigned)number, decided_in[d]);
+            printf("drive %u decides %" PRIu32 " round %u\n", d, number, decided_in[d]);
         } else {
             printf("drive %u undecided\n", d);
         }
@@ -170,7 +176,7 @@ int main(void)
             states[d] = regdulyn_unopened();
             due(regdulyn_drive_close(&states[d]), REGDULYN_REFUSED_BROKEN_STATE, "early close", d);
             due(regdulyn_drive_open(&states[d], (uint8_t)scenario.n, scenario.sets, scenario.count, (uint8_t)d,
-                                    (uint16_t)scenario.proposal[d]), 0, "opening", d);
+                                    scenario.proposal[d]), 0, "opening", d);
         }
         for (unsigned d = 1; d <= scenario.n; d++)
             rounds += (unsigned)regdulyn_has_drive(states[1].core, d);

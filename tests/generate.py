@@ -18,7 +18,7 @@ from inputs.damage import RUN_DAMAGE, TABLE_DAMAGE, damaged
 from inputs.frames import Frame, accepted_table, crowded_table, full, hard_frames, normal_tables
 from inputs.records import (MARKS, UNKNOWN_MARKS, Crash, Records, crash, frame,
                             proposal, run, run_records, survivor, table, table_records)
-from inputs.scenarios import accepted_run, spoil_crash, touch_every_set
+from inputs.scenarios import EDGES, accepted_run, some_wide, spoil_crash, touch_every_set
 
 # The refusals that each program can print.
 REFUSALS = {"table": {1, 2, 3, 4, 5, 6, 7, 13}, "run": {1, 2, 3, 4, 5, 6, 7, 8, 9, 10, 11, 13},
@@ -162,10 +162,15 @@ def marked_crashes() -> Iterator[list[Crash]]:
 
 
 def fixed_runs() -> Iterator[bytes]:
-    """Marked cases, limits, and the largest frames."""
+    """Marked cases, limits, and the largest frames; PR, PW, and both in one file."""
     first = table(*EXAMPLE)
     for crashes in marked_crashes():
         yield first + run(MARKED_PATTERNS, crashes)
+    for wide in (full(6), 0b010101, 0b111000):
+        yield first + run(MARKED_PATTERNS, [Crash(2, 1, 1)], wide)
+    yield first + run([65543, 65541, 65545, 1, 1, 1], [Crash(2, 1, 1)])
+    yield first + run([65536, 65535, 2 ** 32 - 1, 0, 0, 0], [Crash(2, 1, 0)])
+    yield first + run([1 << 24, 1 << 16, 1 << 8, 1, 0, 0], [], 0b100)
     yield table(1, [1]) + run([65535], [])
     yield table(1, [1]) + run([0], [])
     yield table(2, [1, 2]) + run([4, 4], [Crash(1, 1, 0)])
@@ -176,9 +181,13 @@ def fixed_runs() -> Iterator[bytes]:
     yield singles + run(falling, [Crash(drive, 1, drive % 64) for drive in range(1, 64)])
     yield singles + run(falling, [Crash(drive, drive, 0) for drive in range(1, 4)])
     yield singles + run(falling, [Crash(drive, 64, 63) for drive in range(2, 65)])
+    across = list(range(65567, 65503, -1))
+    yield singles + run(across, [Crash(drive, drive, 0) for drive in range(1, 4)], full(64))
+    yield singles + run(across, [Crash(drive, 1, drive % 64) for drive in range(1, 64)])
     yield table(64, [1]) + run(falling, [Crash(drive, 1, 0) for drive in range(2, 65)])
     yield table(22, [3 << 2 * pair for pair in range(11)]) + run([1], [])
     yield table(22, [3 << 2 * pair for pair in range(11)])
+    yield from (table(1, [1]) + run([number], [], 1) for number in EDGES)
 
 
 def fixed_run_refusals() -> Iterator[bytes]:
@@ -186,23 +195,33 @@ def fixed_run_refusals() -> Iterator[bytes]:
     first, good = table(*EXAMPLE), MARKED_PATTERNS
     whole = first + run(good, [Crash(2, 1, 1), Crash(4, 2, 0)])
     yield from (whole[:length] for length in range(len(whole)))
-    yield from (whole + more for more in (b"\0", b"PR", whole))
+    yield from (whole + more for more in (b"\0", b"PR", b"PW", whole))
+    mixed = run(good, [Crash(2, 1, 1)], 0b011011)
+    yield from (first + mixed[:length] for length in range(len(mixed)))
     yield from (whole[:-1] + bytes([count]) for count in (0, 1, 3, 255))
     head = b"".join(proposal(d, p) for d, p in enumerate(good, start=1))
     for tail in (crash(0, 1, 0), crash(7, 1, 0), crash(7, 0, 9), crash(1, 0, 0),
                  crash(1, 4, 0), crash(1, 4, 9), crash(1, 3, 6), crash(4, 1, 1),
                  crash(4, 1, 0) + crash(4, 1, 0), crash(4, 1, 0) + crash(3, 9, 9),
-                 crash(255, 255, 255), proposal(7, 1), proposal(1, 1), b"PR", b"SV",
-                 b"C", b"E", b"EN", b"EN\1", b"EN\0\0", b"KN", b"XX", b"FR"):
+                 crash(255, 255, 255), proposal(7, 1), proposal(1, 1), proposal(7, 1, True), b"PR",
+                 b"PW", b"SV", b"C", b"E", b"EN", b"EN\1", b"EN\0\0", b"KN", b"KW", b"DW", b"XX",
+                 b"FR"):
         yield first + head + tail + b"EN\1"
         yield first + head + tail
     for short in (head[:-5], head[:20], b""):
         yield from (first + short + tail for tail in
-                    (b"EN\0", crash(1, 1, 0), proposal(6, 1), proposal(0, 1), b"P", b"EN"))
+                    (b"EN\0", crash(1, 1, 0), proposal(6, 1), proposal(0, 1), proposal(0, 1, True),
+                     b"P", b"EN"))
+    # A PR with a number of four bytes; a PW with two, with five; of another drive, cut and whole.
+    for wrong in (b"PR\1\7\0\0\0", b"PW\1\7\0", b"PW\1\7\0\0\0\0", b"PW\2\7\0", b"PW\2\7\0\0\0"):
+        yield first + wrong
+        yield first + wrong + head[5:] + b"EN\0"
     touched = first + head + crash(1, 1, 0) + crash(2, 1, 0) + crash(3, 1, 0)
     yield from (touched + tail for tail in (b"EN\3", b"EN\2", b"EN\3\0", b"EN", crash(4, 1, 0)))
     yield first + proposal(2, 1) + head
     yield first + head[:5] + head
+    yield first + proposal(2, 1, True) + head
+    yield first + proposal(1, 7, True) + head
     yield first[:-1] + b"\4" + head + b"EN\0"
     yield first + first
     yield table(64, [full(64)]) + head + b"EN\0"
@@ -213,7 +232,7 @@ def fixed_run_refusals() -> Iterator[bytes]:
 
 def long_runs() -> Iterator[bytes]:
     """Runs with bytes behind them, and runs that do not end."""
-    falling = list(range(64, 0, -1))
+    falling = list(range(65599, 65535, -1))
     stops = [Crash(drive, 1, 0) for drive in range(2, 65)]
     largest = table(64, [1] * 128) + run(falling, stops)
     touched = table(64, [1] * 128) + run(falling, [Crash(1, 1, 0), *stops])
@@ -221,7 +240,7 @@ def long_runs() -> Iterator[bytes]:
     yield from (largest, touched)
     for start, more in ((whole, b"\0"), (whole, whole), (largest, b"\0"), (largest, largest),
                         (touched, b"\0"), (whole[:-1] + b"\2", b"\0"),
-                        (whole[:-3], crash(3, 1, 0)), (LARGEST_TABLE, proposal(1, 7)),
+                        (whole[:-3], crash(3, 1, 0)), (LARGEST_TABLE, proposal(1, 7, True)),
                         (LARGEST_TABLE, b"\0"), (LARGEST_TABLE, LARGEST_TABLE),
                         (frame(6), survivor(1)), (b"", b"\0")):
         yield from around_buffer(start, more)
@@ -230,7 +249,7 @@ def long_runs() -> Iterator[bytes]:
 def random_run_records(rng: Random) -> tuple[Records, Records]:
     """A table's records and a run file's, accepted."""
     n, sets, proposals, crashes, _ = accepted_run(rng)
-    return table_records(n, sets), run_records(proposals, crashes)
+    return table_records(n, sets), run_records(proposals, crashes, some_wide(rng, n))
 
 
 def random_runs(rng: Random) -> Iterator[bytes]:
@@ -242,12 +261,13 @@ def random_runs(rng: Random) -> Iterator[bytes]:
         elif chance < 0.80:
             n, sets, proposals, _, core = accepted_run(rng)
             stops = touch_every_set(rng, n, sets, core)
-            records = run_records(proposals, stops)
+            records = run_records(proposals, stops, some_wide(rng, n))
             yield table(n, sets) + (b"".join(records) if rng.random() < 0.7
                                     else damaged(rng, records, RUN_DAMAGE))
         elif chance < 0.84:
             n, sets, proposals, crashes, core = accepted_run(rng)
-            yield table(n, sets) + run(proposals, spoil_crash(rng, n, core, crashes))
+            stops = spoil_crash(rng, n, core, crashes)
+            yield table(n, sets) + run(proposals, stops, some_wide(rng, n))
         elif chance < 0.94:
             yield b"".join(head) + damaged(rng, tail, RUN_DAMAGE)
         elif chance < 0.97:

@@ -23,7 +23,7 @@ GROUPS = (
     definitions.large_tables,
     thresholds.threshold_samples, thresholds.threshold_pairs, thresholds.count_cases,
     drives.opening_cases, drives.state_refusals, drives.send_cases, drives.message_refusals,
-    drives.message_cases, drives.close_cases,
+    drives.value_cases, drives.message_cases, drives.close_cases,
     samples.call_samples, samples.run_samples,
     exchanges.exchange_definitions,
     generated.generator_cases, generated.script_cases,

@@ -83,7 +83,7 @@ static void print_simulation(const char *name, unsigned n, regdulyn_simulation_r
     for (unsigned d = 1; d <= REGDULYN_MAX_DRIVES; d++) {
         regdulyn_ending e = reply.drives[d - 1];
         if (reply.refusal == 0 && d <= n)
-            printf("    drive %u: number %u, round %u, stopped %u\n", d, (unsigned)e.number, (unsigned)e.round,
+            printf("    drive %u: number %" PRIu32 ", round %u, stopped %u\n", d, e.number, (unsigned)e.round,
                    (unsigned)e.stopped);
         else if (e.number != 0 || e.round != 0 || e.stopped != 0)
             printf("    drive %u has no zeros\n", d);
@@ -93,7 +93,7 @@ static void print_simulation(const char *name, unsigned n, regdulyn_simulation_r
 /* Case B: the numbers 7, 5, 9, 1, 1, 1, and drive 2 stops in round 1 after one send. What no call may read is not 0. */
 static regdulyn_scenario case_b(void)
 {
-    static const uint16_t numbers[] = {7, 5, 9, 1, 1, 1};
+    static const uint32_t numbers[] = {7, 5, 9, 1, 1, 1};
     regdulyn_scenario s;
     memset(&s, UNTOUCHED, sizeof s);
     memcpy(s.numbers, numbers, sizeof numbers);
@@ -105,6 +105,10 @@ static regdulyn_scenario case_b(void)
 
 static const uint8_t run[] = {'P', 'R', 1, 7, 0, 'P', 'R', 2, 5, 0, 'P', 'R', 3, 9, 0, 'P', 'R', 4, 1, 0, 'P', 'R',
                               5,   1,   0, 'P', 'R', 6, 1, 0, 'C', 'R', 2, 1, 1, 'E', 'N', 1};
+
+/* The same with PW for drives 1 to 3, whose numbers are 0x10000007, 0x20000005 and 0xffffffff. */
+static const uint8_t wide[] = {'P', 'W', 1, 7, 0, 0, 16, 'P', 'W', 2, 5, 0, 0, 32, 'P', 'W', 3, 255, 255, 255, 255,
+                               'P', 'R', 4, 1, 0, 'P', 'R', 5, 1, 0, 'P', 'R', 6, 1, 0, 'C', 'R', 2, 1, 1, 'E', 'N', 1};
 
 int main(void)
 {
@@ -162,11 +166,16 @@ int main(void)
 
     regdulyn_scenario s = case_b();
     print_simulation("simulate", 6, regdulyn_simulate(6, sets, count, s));
+    s.numbers[0] = 0x10000007, s.numbers[1] = 0x20000005, s.numbers[2] = 0xffffffff;
+    print_simulation("simulate, large numbers", 6, regdulyn_simulate(6, sets, count, s));
     s.sends[1] = 6;
     print_simulation("simulate, too many sends", 6, regdulyn_simulate(6, sets, count, s));
     print_simulation("simulate the file", 6, regdulyn_simulate_file(6, sets, count, file + 36, sizeof run));
     print_simulation("simulate the file, a byte short", 6,
                      regdulyn_simulate_file(6, sets, count, file + 36, sizeof run - 1));
+    print_simulation("simulate the file with PW", 6, regdulyn_simulate_file(6, sets, count, wide, sizeof wide));
+    print_simulation("simulate the file with PW, cut in a number", 6,
+                     regdulyn_simulate_file(6, sets, count, wide, 20));
 
     print_text("listing of the table", regdulyn_table_listing(file, 36, text, sizeof text, 8), 8);
     fresh();

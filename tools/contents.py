@@ -12,7 +12,7 @@ sys.path.insert(0, str(Path(__file__).resolve().parent.parent / "reference"))
 
 import regdulyn  # noqa: E402
 from regdulyn.records import (CRASH, END, FRAME, MASK_WIDTH, PATTERN_WIDTH, PROPOSAL,  # noqa: E402
-                              SURVIVOR, number)
+                              PROPOSAL_WIDTHS, SURVIVOR, number)
 
 
 class Place(NamedTuple):
@@ -52,7 +52,7 @@ def table_bytes(contents: Contents) -> bytes:
 
 
 def file_bytes(contents: Contents) -> bytes:
-    """The records of the whole file, numbers as they stand."""
+    """The records of the whole file, numbers as they stand: a PW for each pattern number."""
     if contents.patterns is None:
         return table_bytes(contents)
     patterns = b"".join(PROPOSAL + bytes([drive]) + value.to_bytes(PATTERN_WIDTH, "little")
@@ -132,7 +132,7 @@ def file_contents(data: bytes) -> tuple[Contents, dict[Place, int]]:
 
 def starts_run(rest: bytes) -> bool:
     """Whether what stands behind a table starts as a run file does."""
-    return rest[:2] in (PROPOSAL, CRASH, END)
+    return rest[:2] in (*PROPOSAL_WIDTHS, CRASH, END)
 
 
 def _run_contents(scanner: Scanner, contents: Contents, offsets: dict[Place, int]) -> None:
@@ -142,13 +142,14 @@ def _run_contents(scanner: Scanner, contents: Contents, offsets: dict[Place, int
                          f" {shown_bytes(scanner.data[start:start + 2])}")
     offsets[Place("patterns")] = start
     contents.patterns = []
-    due = (PROPOSAL, CRASH, END)
+    due = (*PROPOSAL_WIDTHS, CRASH, END)
     while (mark := scanner.mark(*due)) != END:
         at = scanner.offset - 2
-        if mark == PROPOSAL:
-            drive, value = scanner.fields(1, PATTERN_WIDTH)
+        if mark in PROPOSAL_WIDTHS:
+            drive, value = scanner.fields(1, PROPOSAL_WIDTHS[mark])
             if drive != len(contents.patterns) + 1:
-                raise Unreadable(at, f"PR of drive {drive}, and drive {len(contents.patterns) + 1} is the next")
+                raise Unreadable(at, f"{mark.decode()} of drive {drive}, and drive {len(contents.patterns) + 1} is"
+                                 " the next")
             contents.patterns.append(value)
         else:
             due = (CRASH, END)

@@ -78,6 +78,8 @@ Writes the bytes of a table, or of a table and a run file, from lines of a word 
 
 """ + WORDS + """
 
+Each pattern number is written in a PW, of four bytes; PR, of two, is still read.
+
 Each mistake is one line FILE:LINE: MESSAGE on standard error; then nothing is written and the exit status is 1. What
 the library would refuse is a mistake too, unless a line `refused N` names that very refusal.
 """
@@ -85,7 +87,8 @@ the library would refuse is a mistake too, unless a line `refused N` names that 
 SHOW = """\
 usage: ./regdulyn show FILE > FILE.txt
 
-Prints the text from which make makes the very bytes of the file. It is canonical: `refused N` where the library refuses
+Prints the text from which make makes the file: of a table, or a run file with PW, the very bytes; of one with PR the
+same with PW in their place, which gives the same listing. The text is canonical: `refused N` where the library refuses
 the file, `drives`, the sets as masks in the file's order, `patterns` and the stops; numbers without leading zeros,
 masks in lower case, no comments. A text is canonical exactly if show prints it for what make makes from it.
 

@@ -2,7 +2,8 @@
 
 The canonical text has, in this order, a line `refused N` where the library refuses the file, `drives N`, one line `set
 MASK` for each set as the file lists them, and with a run file `patterns` and one line `stop D R S` for each stop.
-Numbers have no leading zeros, masks are in lower case, words are one space apart, and there are no comments.
+Numbers have no leading zeros, masks are in lower case, words are one space apart, and there are no comments. Whether a
+pattern number stood in a PR or in a PW is not said; what is made has PW.
 """
 
 import re
@@ -13,6 +14,7 @@ import mistakes
 from contents import Contents, Place, Stop
 from failures import OF_FILES
 from regdulyn.masks import MAX_DRIVES, mask_of
+from regdulyn.records import PATTERN_WIDTH
 
 WORDS = """\
     drives 6              the number of drives
@@ -24,8 +26,10 @@ WORDS = """\
 
 and, in a text whose file is meant to be refused, as a test of the refusal, `refused 3` with the number.
 
-Masks are hexadecimal, bit 0 (value 1) is drive 1; all other numbers are decimal. # starts a comment. The lines stand in
-any order; sets and stops keep theirs."""
+Masks are hexadecimal, bit 0 (value 1) is drive 1; all other numbers are decimal. Pattern numbers are 0 to 4294967295.
+# starts a comment. The lines stand in any order; sets and stops keep theirs."""
+
+LARGEST_PATTERN = 256 ** PATTERN_WIDTH - 1
 
 
 class Wrong(Exception):
@@ -94,8 +98,8 @@ def _members(text: Contents, values: list[str]) -> Place:
 
 def _patterns(text: Contents, values: list[str]) -> Place:
     if len(values) > 255:
-        raise Wrong("more than 255 pattern numbers, which PR cannot number")
-    text.patterns = [whole_number(value, f"the pattern number of drive {drive}", 0, 65535)
+        raise Wrong("more than 255 pattern numbers, which PW cannot number")
+    text.patterns = [whole_number(value, f"the pattern number of drive {drive}", 0, LARGEST_PATTERN)
                      for drive, value in enumerate(values, start=1)]
     return Place("patterns")
 

@@ -234,7 +234,7 @@ fn send(start: Start) -> Case {
     )
 }
 
-/// In the last three each KN tells all numbers. Core drive 1 has heard only one sender, so it is undecided and sends all 64. Listener 64 has heard one of 16
+/// In the last three each KW tells all numbers. Core drive 1 has heard only one sender, so it is undecided and sends all 64. Listener 64 has heard one of 16
 /// core drives, so it goes on.
 pub fn all() -> Vec<Case> {
     let mut cases = vec![

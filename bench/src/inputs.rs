@@ -58,8 +58,8 @@ fn read(path: &Path) -> Input {
     Input { name: path.file_stem().unwrap().to_string_lossy().into_owned(), n: bytes[2], sets: sets.collect() }
 }
 
-/// What each drive opens with in the calls of one exchange.
-pub const OWN_NUMBER: u16 = 1000;
+/// What each drive opens with in the calls of one exchange, more than two bytes hold.
+pub const OWN_NUMBER: u32 = 1_000_000;
 
 /// An opening, and the messages handed over after it, so many of `size` bytes each.
 #[derive(Clone)]
@@ -77,11 +77,11 @@ fn single_sets(count: u8) -> Vec<u64> {
     (0..count).map(|place| 1 << place).collect()
 }
 
-/// Drive `own` of 64, of which the first `core` are each a set alone and so the chosen core, and `count` KNs of the other core drives in round 1,
+/// Drive `own` of 64, of which the first `core` are each a set alone and so the chosen core, and `count` KWs of the other core drives in round 1,
 /// each with all numbers of the core.
 pub fn single_drives(core: u8, own: u8, count: usize) -> Start {
-    let numbers: Vec<u8> = (0..u16::from(core)).flat_map(|place| (OWN_NUMBER + place).to_le_bytes()).collect();
-    let message = |sender: u8| [&[b'K', b'N', sender, 1], &full(core).to_le_bytes()[..], &numbers].concat();
+    let numbers: Vec<u8> = (0..u32::from(core)).flat_map(|place| (OWN_NUMBER + place).to_le_bytes()).collect();
+    let message = |sender: u8| [&[b'K', b'W', sender, 1], &full(core).to_le_bytes()[..], &numbers].concat();
     let senders = (1..=core).filter(|&sender| sender != own);
     Start {
         n: 64,
@@ -97,8 +97,8 @@ pub fn single_drives(core: u8, own: u8, count: usize) -> Start {
 pub fn whole_exchange(stops: bool) -> Vec<u8> {
     let mut file = table_bytes(64, &single_sets(64));
     for drive in 1..=64u8 {
-        file.extend([b'P', b'R', drive]);
-        file.extend((OWN_NUMBER - u16::from(drive)).to_le_bytes());
+        file.extend([b'P', b'W', drive]);
+        file.extend((OWN_NUMBER - u32::from(drive)).to_le_bytes());
     }
     let last = if stops { 63 } else { 0 };
     for drive in 1..=last {

@@ -12,9 +12,9 @@ pub struct State {
     pub heard: u64,
     known: u64,
     start: u64,
-    numbers: [u16; 64],
-    told: u16,
-    decision: u16,
+    numbers: [u32; 64],
+    told: u32,
+    decision: u32,
     n: u8,
     own: u8,
     pub round: u8,
@@ -22,7 +22,7 @@ pub struct State {
     by: u8,
     decided: u8,
     halted: u8,
-    reserved: [u8; 5],
+    reserved: [u8; 1],
 }
 
 #[repr(C)]
@@ -68,7 +68,7 @@ mod c {
 
     extern "C" {
         pub fn regdulyn_unopened() -> State;
-        pub fn regdulyn_open(state: State, n: u8, sets: *const u64, count: usize, own: u8, number: u16) -> StateReply;
+        pub fn regdulyn_open(state: State, n: u8, sets: *const u64, count: usize, own: u8, number: u32) -> StateReply;
         pub fn regdulyn_message(state: State, bytes: *const u8, length: usize) -> StateReply;
         pub fn regdulyn_close(state: State) -> StateReply;
         pub fn regdulyn_send(state: State, buffer: *mut u8, room: usize, start: usize) -> SizeReply;
@@ -97,7 +97,7 @@ fn state(reply: StateReply) -> Answer<State> {
     answer(reply.refusal, reply.state)
 }
 
-pub fn open(n: u8, sets: &[u64], own: u8, number: u16) -> Answer<State> {
+pub fn open(n: u8, sets: &[u64], own: u8, number: u32) -> Answer<State> {
     unsafe { state(c::regdulyn_open(c::regdulyn_unopened(), n, sets.as_ptr(), sets.len(), own, number)) }
 }
 
@@ -115,7 +115,7 @@ impl State {
     }
 
     /// The decision, and whether the drive has halted.
-    pub fn end(&self) -> (Option<u16>, bool) {
+    pub fn end(&self) -> (Option<u32>, bool) {
         ((self.decided != 0).then_some(self.decision), self.halted != 0)
     }
 }

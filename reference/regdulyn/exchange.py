@@ -9,8 +9,8 @@ from dataclasses import dataclass, replace
 from typing import Optional, Sequence
 
 from .masks import MAX_DRIVES, all_drives, bit, drives, is_part, size
-from .records import (DECIDE, KNOWN, MASK_WIDTH, PATTERN_WIDTH, Reader, field, fill,
-                      number, numbers_of)
+from .records import (DECIDE, DECIDE_WIDTHS, KNOWN, KNOWN_WIDTHS, MASK_WIDTH, PATTERN_WIDTH,
+                      Reader, field, fill, number, numbers_of)
 from .refusals import Refusal
 from .tables import chosen_core
 
@@ -22,7 +22,7 @@ class Exchange:
     heard_before: the senders heard in the round before, the core in round 0.
     heard: the senders accepted in this round; oneself is added at the close.
     numbers: the pattern number of each known drive, by drive from 1.
-    announcement: sender and value of this round's lowest-numbered DC sender.
+    announcement: sender and value of this round's lowest-numbered DC or DW sender.
     """
 
     n: int
@@ -46,8 +46,8 @@ class Exchange:
 
 @dataclass(frozen=True)
 class Message:
-    """A KN has a mask and its drives' pattern numbers, rising by drive; a DC
-    has neither, but a value."""
+    """A KN or KW has a mask and its drives' pattern numbers, rising by drive; a DC
+    or DW has neither, but a value."""
 
     sender: int
     round: int
@@ -106,7 +106,7 @@ def opening(n: int, sets: Sequence[int], own: int, pattern: int) -> Exchange:
 # Send
 
 def send(state: Exchange) -> bytes:
-    """KN with all that was known when the round began, or DC once decided."""
+    """KW with all that was known when the round began, or DW once decided."""
     _check_state(state)
     if not state.in_core:
         raise Refusal(27)
@@ -141,7 +141,7 @@ def message(state: Exchange, data: bytes) -> Exchange:
 
 
 def _announced(state: Exchange, received: Message) -> tuple[int, int]:
-    """The announcement of the lowest-numbered DC sender so far."""
+    """The announcement of the lowest-numbered DC or DW sender so far."""
     new = (received.sender, received.value)
     if state.announcement is None or new[0] < state.announcement[0]:
         return new
@@ -149,11 +149,12 @@ def _announced(state: Exchange, received: Message) -> tuple[int, int]:
 
 
 def _read_message(n: int, data: bytes) -> Message:
-    """Mark cut (1), 2, the rest up to a KN's mask cut (1), 8, 15, values cut
-    (1), 7."""
+    """Mark cut (1), 2, the rest up to the mask of a KN or KW cut (1), 8, 15,
+    values cut (1), 7."""
     reader = Reader(data)
-    if reader.mark(KNOWN, DECIDE) == DECIDE:
-        head = reader.take(2 + PATTERN_WIDTH)
+    kind = reader.mark(*KNOWN_WIDTHS, *DECIDE_WIDTHS)
+    if kind in DECIDE_WIDTHS:
+        head = reader.take(2 + DECIDE_WIDTHS[kind])
         check_drive(n, head[0])
         reader.end()
         return Message(head[0], head[1], 0, (), number(head[2:]))
@@ -162,7 +163,8 @@ def _read_message(n: int, data: bytes) -> Message:
     check_drive(n, sender)
     if not mask & bit(sender) or not is_part(mask, all_drives(n)):
         raise Refusal(15)
-    patterns = numbers_of(reader.take(PATTERN_WIDTH * size(mask)), PATTERN_WIDTH)
+    width = KNOWN_WIDTHS[kind]
+    patterns = numbers_of(reader.take(width * size(mask)), width)
     reader.end()
     return Message(sender, head[1], mask, patterns)
 
@@ -197,7 +199,7 @@ def close(state: Exchange) -> Exchange:
 
 
 def _decision(state: Exchange, heard: int) -> Optional[int]:
-    """A decided drive keeps its number; then a DC; then a quiet round."""
+    """A decided drive keeps its number; then a DC or DW; then a quiet round."""
     if state.decision is not None:
         return state.decision
     if state.announcement is not None:

@@ -12,14 +12,20 @@ from .refusals import Refusal
 
 FRAME = b"FR"
 SURVIVOR = b"SV"
-PROPOSAL = b"PR"
+PROPOSAL = b"PW"
 CRASH = b"CR"
 END = b"EN"
-KNOWN = b"KN"
-DECIDE = b"DC"
+KNOWN = b"KW"
+DECIDE = b"DW"
 
 MASK_WIDTH = 8
-PATTERN_WIDTH = 2
+PATTERN_WIDTH = 4
+
+# The width of the pattern numbers in each record that has some: the old ones, of
+# two bytes, are still read, also among the others, and never written.
+PROPOSAL_WIDTHS = {b"PR": 2, PROPOSAL: PATTERN_WIDTH}
+KNOWN_WIDTHS = {b"KN": 2, KNOWN: PATTERN_WIDTH}
+DECIDE_WIDTHS = {b"DC": 2, DECIDE: PATTERN_WIDTH}
 
 _FORMATS = {2: "H", 4: "I"}
 

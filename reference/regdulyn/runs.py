@@ -10,7 +10,7 @@ from typing import Optional, Sequence
 
 from .exchange import Exchange, check_drive, close, message, opening, send
 from .masks import all_drives, bit, drives, mask_of, size
-from .records import CRASH, END, PATTERN_WIDTH, PROPOSAL, Reader, number
+from .records import CRASH, END, PROPOSAL_WIDTHS, Reader, number
 from .refusals import Refusal
 from .tables import chosen_core, first_missed
 
@@ -79,8 +79,9 @@ def read_run(data: bytes, n: int, sets: Sequence[int]) -> Scenario:
 
 
 def _read_proposal(reader: Reader, due: int) -> int:
-    reader.mark(PROPOSAL)
-    rest = reader.take(1 + PATTERN_WIDTH)
+    """The number of the next drive's PR or PW."""
+    width = PROPOSAL_WIDTHS[reader.mark(*PROPOSAL_WIDTHS)]
+    rest = reader.take(1 + width)
     if rest[0] != due:
         raise Refusal(8)
     return number(rest[1:])

@@ -7,6 +7,7 @@ from typing import Iterator
 import plain
 import regdulyn
 from inputs.frames import places
+from inputs.messages import as_old
 from inputs.records import Crash
 from inputs.scenarios import Scenario, accepted_run
 
@@ -57,7 +58,8 @@ def agrees(n: int, core: int, proposals: list[int], stops: list[Crash], decision
 class Run:
     """A list of calls as the section on runs allows it: the messages of a
     round in any order, drives that are halted or gone passed over or not,
-    closes as early as allowed or later, and refused calls in between."""
+    closes as early as allowed or later, and refused calls in between. Some
+    messages arrive as old records."""
 
     def __init__(self, scenario: Scenario):
         n, sets, proposals, stops, core = scenario
@@ -109,7 +111,8 @@ class Run:
             if self.rng.random() < 0.5:
                 refusal(regdulyn.message, self.states[receiver], data)
             return
-        self.states[receiver] = regdulyn.message(self.states[receiver], data)
+        given = as_old(data) if self.rng.random() < 0.3 else data
+        self.states[receiver] = regdulyn.message(self.states[receiver], given)
         if self.rng.random() < 0.2:
             # The same message again is a refused call.
             assert refusal(regdulyn.message, self.states[receiver], data) == 21

@@ -51,6 +51,8 @@ def rest_cases() -> Iterator[Case]:
 
 def run_refusals() -> Iterator[Case]:
     head = b"".join(proposal(d, p) for d, p in enumerate(PATTERNS, start=1))
+    wide = b"".join(proposal(d, p, True) for d, p in enumerate(PATTERNS, start=1))
+    mixed = b"".join(proposal(d, p, d % 2 == 1) for d, p in enumerate(PATTERNS, start=1))
     touched = head + crash(1, 1, 0) + crash(2, 1, 0) + crash(6, 1, 0)
     cases = [
         ("empty", b"", 1), ("half a mark", b"X", 1), ("EN at once", b"EN\0", 2),
@@ -75,6 +77,20 @@ def run_refusals() -> Iterator[Case]:
         ("6 before 11", touched + end(2), 6),
         ("7 before 11", touched + end(3) + b"\0", 7),
         ("two sets untouched", head + crash(1, 1, 0) + end(1), 0),
+        ("PW 2 first", proposal(2, 0, True), 8), ("PW 0", proposal(0, 0, True), 8),
+        ("PW cut before 8", proposal(7, 0, True)[:6], 1), ("PW 1 twice", proposal(1, 0, True) * 2, 8),
+        ("PW 1 after PR 1", proposal(1, 0) + proposal(1, 0, True), 8),
+        ("PR 1 after PW 1", proposal(1, 0, True) + proposal(1, 0), 8),
+        ("EN before drive 6's PW", wide[:35] + b"EN\0", 2), ("PW 7", head + proposal(7, 0, True), 2),
+        ("PW 7 cut", head + b"PW", 2), ("PR 7 after PW 6", wide + proposal(7, 0), 2),
+        ("PW 7 after PW 6", wide + proposal(7, 0, True), 2),
+        ("PW after CR", head + crash(2, 1, 0) + proposal(7, 0, True), 2),
+        ("KW", b"KW", 2), ("DW", wide + b"DW", 2), ("all PW", wide + end(0), 0),
+        ("PW and PR", mixed + crash(2, 1, 0) + end(1), 0), ("a byte less", wide[:-1] + end(0), 2),
+        ("a byte more", wide + b"\0" + end(0), 2), ("PW with two bytes", b"PW" + head[2:], 2),
+        ("PR with four bytes", b"PR" + wide[2:], 2),
+        *((f"PW cut at {length}", wide[:length], 1) for length in range(1, 7)),
+        *((f"second PW cut at {length}", mixed[:length], 1) for length in range(12, 19)),
     ]
     for name, data, expected in cases:
         yield f"run file: {name}", refusal(regdulyn.read_run, data, 6, A_SETS), expected

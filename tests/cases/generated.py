@@ -17,8 +17,8 @@ def generator_cases() -> Iterator[Case]:
     programs = (("table", generate.table_inputs, regdulyn.table_program),
                 ("run", generate.run_inputs, regdulyn.run_program))
     for name, inputs, program in programs:
-        made = list(inputs(5, 600))
-        yield f"{name} inputs repeat", made, list(inputs(5, 600))
+        made = list(inputs(5, 800))
+        yield f"{name} inputs repeat", made, list(inputs(5, 800))
         texts = [program(data) for data in made]
         refused = [text for text in texts if text.startswith(b"refused ")]
         yield (f"{name} refusals", {int(text.split()[1]) for text in refused},

@@ -1,5 +1,5 @@
 """The marked cases A to J, through the two scripts, and their files
-in examples/."""
+in examples/, with one of numbers that need four bytes."""
 
 import subprocess
 from itertools import product
@@ -8,7 +8,7 @@ from typing import Iterator, Optional
 
 import regdulyn
 from inputs.frames import full
-from inputs.records import Crash, run, table
+from inputs.records import Crash, run, table, widened
 
 from . import A_SETS, PATTERNS, Case
 
@@ -70,9 +70,9 @@ LISTING_H = ("drives 64\nset ffffffffffffffff\n" +
              "chosen 1\nk 2 yes\nk 3 yes\nk 4 yes\n")
 
 
-def stopped(*crashes: Crash) -> bytes:
-    """Case A's table with case B's pattern numbers."""
-    return table(6, A_SETS) + run(PATTERNS, list(crashes))
+def stopped(*crashes: Crash, wide: int = 0) -> bytes:
+    """Case A's table with case B's pattern numbers, of which the drives of `wide` have a PW."""
+    return table(6, A_SETS) + run(PATTERNS, list(crashes), wide)
 
 
 # Letter, program, input, listing. In F drive 2 sends in round 1, so that its 5
@@ -91,7 +91,21 @@ MARKED = (
     ("j", "run", table(1, [1]) + run([4], []), "drive 1 decides 4 round 1\ncore 1 stops 0\n"),
 )
 
+# The files in examples/: those of the marked cases, and one of case B with numbers that are read
+# otherwise if their upper bytes get lost.
+STORED = MARKED + (
+    ("wide", "run", table(6, A_SETS) + run([65543, 131077, 2 ** 32 - 1, 1, 1, 1], [Crash(2, 1, 1)], full(6)),
+     LISTING_B.replace("decides 5 ", "decides 65543 ")),
+)
+
 NEIGHBOURS = (
+    ("b with PW", "run", stopped(Crash(2, 1, 1), wide=full(6)), LISTING_B),
+    ("b with PW and PR", "run", stopped(Crash(2, 1, 1), wide=0b100110), LISTING_B),
+    ("g with PW", "run", stopped(Crash(1, 1, 0), Crash(2, 1, 0), Crash(3, 1, 0), wide=full(6)), "refused 11\n"),
+    ("the largest number", "run", table(1, [1]) + run([2 ** 32 - 1], []),
+     "drive 1 decides 4294967295 round 1\ncore 1 stops 0\n"),
+    ("above the old numbers", "run", table(2, [3]) + run([65536, 65535], []),
+     "drive 1 decides 65536 round 1\ndrive 2 decides 65536 round 1\ncore 1 stops 0\n"),
     ("i as a run", "run", table(65, [1]), "refused 3\n"),
     ("j as a table", "table", table(1, [1]),
      "drives 1\nset 1\ncore 1\nchosen 1\nk 2 few\nk 3 few\nk 4 few\n"),
@@ -125,12 +139,14 @@ def marked_cases() -> Iterator[Case]:
 
 
 def example_cases() -> Iterator[Case]:
-    """Each file is what its text makes, and gives its case's listing. Other files in examples/ are not looked at."""
+    """Each file gives its case's listing, and so does what its text makes: the same file with a PW for each PR.
+    Other files in examples/ are not looked at."""
     programs = {"table": regdulyn.table_program, "run": regdulyn.run_program}
-    for letter, program, data, listing in MARKED:
-        path = EXAMPLES / f"{letter}.{program}"
-        stored = path.read_bytes() if path.is_file() else None
-        yield f"example {letter}", stored, data
-        yield f"example {letter}, listing", programs[program](data), listing.encode()
-        yield (f"example {letter}, made", script(ROOT / "regdulyn", b"", "make", f"{path}.txt"),
-               (data, b"", 0))
+    for name, program, data, listing in STORED:
+        path = EXAMPLES / f"{name}.{program}"
+        stored, made = path.read_bytes() if path.is_file() else None, widened(data)
+        yield f"example {name}", stored, data
+        yield f"example {name}, listing", programs[program](data), listing.encode()
+        yield (f"example {name}, made", script(ROOT / "regdulyn", b"", "make", f"{path}.txt"),
+               (made, b"", 0))
+        yield f"example {name}, listing of what is made", programs[program](made), listing.encode()

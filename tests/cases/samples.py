@@ -11,6 +11,7 @@ from . import Case, refusal
 
 
 def call_samples() -> Iterator[Case]:
+    yield from samples.message_samples(Script())
     yield from samples.call_samples(Script())
 
 

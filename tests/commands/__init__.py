@@ -10,7 +10,7 @@ ROOT = Path(__file__).resolve().parents[2]
 sys.path.insert(0, str(ROOT / "tools"))
 
 import contents as model  # noqa: E402
-from cases.marked import MARKED  # noqa: E402
+from cases.marked import STORED  # noqa: E402
 
 Case = tuple[str, Any, Any]
 SECONDS = 60
@@ -30,8 +30,8 @@ def example(name: str) -> Path:
     return ROOT / "examples" / name
 
 
-# The examples of the marked cases; other files in examples/ are not looked at.
-EXAMPLES = [example(f"{letter}.{program}") for letter, program, _, _ in MARKED]
+# The examples that are looked at; other files in examples/ are not.
+EXAMPLES = [example(f"{name}.{program}") for name, program, _, _ in STORED]
 
 
 def refused_files(a: bytes) -> list[tuple[str, bytes]]:

@@ -4,6 +4,7 @@ from pathlib import Path
 from typing import Iterator
 
 import texts
+from inputs.records import proposal, table
 
 from . import Case, example, model, refused_files, regdulyn
 
@@ -24,7 +25,8 @@ MISTAKES = [
     ("drives 6\nset 1\nset 10000000000000000\n",
      ["3: the mask is 10000000000000000, and can be 0 to ffffffffffffffff"]),
     ("drives 6\nset 1\nset " + "9" * 5000, ["3: the mask is 99999999999999999999.., and can be 0 to ffffffffffffffff"]),
-    ("drives 2\nset 1\npatterns 1 65536\n", ["3: the pattern number of drive 2 is 65536, and can be 0 to 65535"]),
+    ("drives 2\nset 1\npatterns 1 4294967296\n",
+     ["3: the pattern number of drive 2 is 4294967296, and can be 0 to 4294967295"]),
     ("drives 2\nset 1\npatterns 1 -2\n", ["3: the pattern number of drive 2 is '-2', which is no decimal number"]),
     ("drives 6\nset 1\ndrives 7\n", ["3: a second line drives; the first is line 1"]),
     ("drives 1\nset 1\npatterns 1\npatterns 1\n", ["4: a second line patterns; the first is line 3"]),
@@ -80,6 +82,10 @@ def makes(_work: Path) -> Iterator[Case]:
                        ("layout", "\ufeff  drives\t06 # six\r\n\r\nset 0x1\r\nset 02\r\nset 3C"),
                        ("order", "set 1\nset 2\nmembers 3 4 5 6\ndrives 6\n")):
         yield f"make, {name}", regdulyn("make", "-", given=text.encode()), (0, a, "")
+    for number in (0, 7, 65535, 65536, 0x04030201, 2 ** 32 - 1):
+        text = f"drives 1\nset 1\npatterns {number}\n"
+        yield f"make, pattern number {number}", regdulyn("make", "-", given=text.encode()), (
+            0, table(1, [1]) + proposal(1, number, True) + b"EN\0", "")
     for number, (kind, data) in enumerate(refused_files(a), start=1):
         try:
             contents, _ = model.file_contents(data)

@@ -9,6 +9,8 @@ import failures
 import generate
 import mistakes
 import texts
+from inputs.records import widened
+from inputs.scenarios import any_pattern
 
 from . import EXAMPLES, SAID, Case, model, regdulyn
 
@@ -24,7 +26,13 @@ UNREADABLE = [
     ("PR in a table", b"FR\6PR", 3, "SV or EN is due, and there is PR", 2),
     ("count", ONE[:-1] + b"\2", 13, "EN counts 2, and there are 1 SV", 6),
     ("rest", ONE + b"\n", 16, "the table has ended, and what follows starts no run file: hex 0a", 7),
+    ("no run", ONE + b"KW", 16, "the table has ended, and what follows starts no run file: KW", 7),
     ("PR order", ONE + b"PR\2\0\0EN\0", 16, "PR of drive 2, and drive 1 is the next", 8),
+    ("PW order", ONE + b"PW\2\0\0\0\0EN\0", 16, "PW of drive 2, and drive 1 is the next", 8),
+    ("PW and PR order", ONE + b"PR\1\0\0PW\1\0\0\0\0EN\0", 21, "PW of drive 1, and drive 2 is the next", 2),
+    ("PW cut", ONE + b"PW\1\0\0", 16, "PW is cut: 5 bytes are due behind it, and there are 3", 1),
+    ("SV in a run", ONE + b"PW\1\0\0\0\0SV", 23, "PR or PW or CR or EN is due, and there is SV", 2),
+    ("PW behind CR", ONE + b"PW\1\0\0\0\0CR\1\1\0PW\2", 28, "CR or EN is due, and there is PW", 2),
     ("PR behind CR", ONE + b"PR\1\0\0CR\1\1\0PR\2\0\0EN\0", 26, "CR or EN is due, and there is PR", 2),
     ("stop count", ONE + b"PR\1\0\0EN\1", 21, "EN counts 1, and there are 0 CR", 6),
     ("behind the run", ONE + b"PR\1\0\0EN\0EN", 24, "the run file has ended, and bytes follow", 7),
@@ -41,7 +49,9 @@ def shows(_work: Path) -> Iterator[Case]:
         text = "".join(line for line in lines if not line.startswith("#"))
         status, printed, said = regdulyn("show", str(made))
         yield f"show {made.name}", (status, printed.decode()), (int(text.startswith("refused")), text)
-        yield f"show {made.name}, made again", regdulyn("make", "-", given=printed), (0, made.read_bytes(), "")
+        again = widened(made.read_bytes())
+        yield f"show {made.name}, made again", regdulyn("make", "-", given=printed), (0, again, "")
+        yield f"show {made.name}, shown again", regdulyn("show", "-", given=again)[1], printed
     wrong = model.table_bytes(model.Contents(6, [1, 0x7C, 0]))
     yield "show, refused", regdulyn("show", "-", given=wrong), (
         1, b"refused 4\ndrives 6\nset 1\nset 7c\nset 0\n",
@@ -50,8 +60,9 @@ def shows(_work: Path) -> Iterator[Case]:
 
 
 def round_trips(_work: Path) -> Iterator[Case]:
-    """Of generated files, damaged ones too: a file is shown or unreadable, the text makes the file and is canonical,
-    and there is something wrong exactly if the library refuses it."""
+    """Of generated files, damaged ones too: a file is shown or unreadable, the text makes the file, with a PW for each
+    PR, and is canonical, and there is something wrong exactly if the library refuses it. What is made says the same,
+    and is refused and listed as the file is."""
     shown = unreadable = 0
     for index, data in enumerate(chain(islice(generate.table_inputs(3, GENERATED), GENERATED),
                                        islice(generate.run_inputs(3, GENERATED), GENERATED), random_files())):
@@ -66,11 +77,13 @@ def round_trips(_work: Path) -> Iterator[Case]:
                 yield f"unreadable {index}", (data, number, error.offset), None
             continue
         shown += 1
-        text = texts.canonical_text(contents, number)
+        text, made = texts.canonical_text(contents, number), widened(data)
         wrong = list(mistakes.found_in(contents))
-        good = (texts.text_mistakes(text) == (data, []) and texts.read_text(text)[0].contents == contents
+        good = (texts.text_mistakes(text) == (made, []) and texts.read_text(text)[0].contents == contents
                 and bool(wrong) == (number != 0) and all(place in offsets for place, _ in wrong)
-                and contents.kind == model.kind_of(data))
+                and contents.kind == model.kind_of(data) and model.file_contents(made)[0] == contents)
+        if index % 10 == 0:
+            good = good and model.listing(contents.kind, made) == model.listing(contents.kind, data)
         if not good:
             yield f"round trip {index}", (data, number, text, wrong), None
     yield "files of both sorts", (shown > GENERATED, unreadable > GENERATED // 10), (True, True)
@@ -84,7 +97,7 @@ def random_files() -> Iterator[bytes]:
         sets = [random.getrandbits(random.choice((n, n, n, n + 1)) or 1) & (2 ** 64 - 1)
                 for _ in range(random.randrange(5))]
         count = random.choice((n, n, 0, n % 255 + 1))
-        patterns = random.choice((None, [random.randrange(65536) for _ in range(count)]))
+        patterns = random.choice((None, [any_pattern(random) for _ in range(count)]))
         stops = [model.Stop(*(random.randrange(random.choice((3, 7, 256))) for _ in range(3)))
                  for _ in range(random.randrange(3) if patterns is not None else 0)]
         yield model.file_bytes(model.Contents(n, sets, patterns, stops))
@@ -124,8 +137,11 @@ survivor sets in which no drive stops: set 6, set 8
 """
     data = texts.text_mistakes(text)[0]
     yield "explain, run", regdulyn("--unproved", "explain", "-", given=data), (0, (expected + run).encode(), SAID)
-    table = data[:data.index(b"PR")]
+    table = data[:data.index(b"PW")]
     yield "explain, table", regdulyn("explain", "-", given=table), (0, expected.encode(), "")
+    wide = texts.text_mistakes("drives 1\nset 1\npatterns 4294967295\n")[0]
+    printed = regdulyn("--unproved", "explain", "-", given=wide)[1].decode()
+    yield "explain, a large number", "  drive 1: pattern number 4294967295, stays up" in printed.splitlines(), True
     for n, sets, lines in (
             (4, [12, 10, 6, 9, 5, 3, 7], ["these are all groups of 2 drives: at most 2 of the 4 drives may drop out"]),
             (2, [1, 2], ["these are all groups of 1 drive: at most 1 of the 2 drives may drop out"]),

@@ -32,9 +32,9 @@ def state_bytes(x: Exchange) -> bytes:
     sender, value = x.announcement or (0, 0)
     return b"".join((
         field(x.n, 1), field(x.own, 1), field(x.core, 8), field(x.round, 1),
-        *(field(mask, 8) for mask in sets), *(field(v, 2) for v in x.numbers),
-        field(int(x.announcement is not None), 1), field(sender, 1), field(value, 2),
-        field(int(x.decision is not None), 1), field(x.decision or 0, 2),
+        *(field(mask, 8) for mask in sets), *(field(v, 4) for v in x.numbers),
+        field(int(x.announcement is not None), 1), field(sender, 1), field(value, 4),
+        field(int(x.decision is not None), 1), field(x.decision or 0, 4),
         field(int(x.halted), 1)))
 
 
@@ -45,7 +45,7 @@ def state_line(x: Exchange) -> str:
             f" before {x.heard_before:x} heard {x.heard:x} known {x.known:x}"
             f" start {x.known_at_start:x} announced {announced} {decided}"
             f"{' halted' if x.halted else ''}"
-            f" numbers {''.join(f'{v:04x}' for v in x.numbers)}")
+            f" numbers {''.join(f'{v:08x}' for v in x.numbers)}")
 
 
 def list_bytes(masks: list[int]) -> bytes:
@@ -116,7 +116,7 @@ class Script:
         self._add(b"L" + state_bytes(x))
 
     def open(self, n: int, sets: list[int], own: int, pattern: int) -> bool:
-        operation = (b"O" + field(n, 1) + field(own, 1) + field(pattern, 2) +
+        operation = (b"O" + field(n, 1) + field(own, 1) + field(pattern, 4) +
                      list_bytes(sets))
         return self._call(operation, lambda: opening(n, sets, own, pattern))
 
@@ -174,7 +174,7 @@ class Script:
         sends = bytes(stop.sends for stop in by_drive)
         stopped = sum(1 << drive - 1 for drive in made)
         given = (numbers + [unused[0]] * MAX_DRIVES)[:MAX_DRIVES]
-        operation = (b"X" + field(n, 1) + b"".join(field(v, 2) for v in given) +
+        operation = (b"X" + field(n, 1) + b"".join(field(v, 4) for v in given) +
                      field(stopped, 8) + rounds + sends + list_bytes(sets))
         self._add(operation, answer(lambda: outcome_line(
             simulate(n, sets, given[:n], stops_by_drive(stopped, rounds, sends)))))

@@ -62,8 +62,9 @@ def repeat_record(rng: Random, records: Records) -> Records:
 
 
 def insert_record(rng: Random, records: Records) -> Records:
-    foreign = rng.choice((frame(3), survivor(1), proposal(1, 7), crash(1, 1, 0), end(0),
-                          end(1), b"KN\1\1" + bytes(10), b"DC\1\1\0\0", b"XX"))
+    foreign = rng.choice((frame(3), survivor(1), proposal(1, 7), proposal(1, 7, True),
+                          crash(1, 1, 0), end(0), end(1), b"KN\1\1" + bytes(10),
+                          b"KW\1\1" + bytes(12), b"DC\1\1\0\0", b"DW\1\1\0\0\0\0", b"XX"))
     place = rng.randint(0, len(records))
     return records[:place] + [foreign] + records[place:]
 
@@ -77,10 +78,10 @@ RECORD_DAMAGE = (change_mark, move_record, drop_record, repeat_record, insert_re
                  change_count)
 
 
-def replace_at(records: Records, kind: bytes, rng: Random,
+def replace_at(records: Records, kinds: tuple[bytes, ...], rng: Random,
                make: Callable[[bytes], bytes]) -> Records:
-    """One record of the kind replaced by what `make` gives for it."""
-    found = [place for place, record in enumerate(records) if record[:2] == kind]
+    """One record of the kinds replaced by what `make` gives for it."""
+    found = [place for place, record in enumerate(records) if record[:2] in kinds]
     if not found:
         return records
     place = rng.choice(found)
@@ -88,14 +89,14 @@ def replace_at(records: Records, kind: bytes, rng: Random,
 
 
 def bad_frame(rng: Random, records: Records) -> Records:
-    return replace_at(records, b"FR", rng, lambda _: frame(rng.choice((0, 65, 66, 128, 255))))
+    return replace_at(records, (b"FR",), rng, lambda _: frame(rng.choice((0, 65, 66, 128, 255))))
 
 
 def bad_mask(rng: Random, records: Records) -> Records:
     n = records[0][2] if len(records[0]) == 3 else 1
     above = 1 << min(n, 63)
     masks = (0, above, above | 1, full(64), 1 << 63)
-    return replace_at(records, b"SV", rng, lambda _: survivor(rng.choice(masks)))
+    return replace_at(records, (b"SV",), rng, lambda _: survivor(rng.choice(masks)))
 
 
 def too_many_sets(rng: Random, records: Records) -> Records:
@@ -128,9 +129,22 @@ def damaged(rng: Random, records: Records, kinds: tuple) -> bytes:
 
 # Run files
 
+PROPOSALS = (b"PR", b"PW")
+
+
 def wrong_proposal(rng: Random, records: Records) -> Records:
-    return replace_at(records, b"PR", rng, lambda record:
-                      b"PR" + bytes([rng.choice((0, 1, 64, 65, 255, record[2] ^ 1))]) + record[3:])
+    return replace_at(records, PROPOSALS, rng, lambda record:
+                      record[:2] + bytes([rng.choice((0, 1, 64, 65, 255, record[2] ^ 1))]) +
+                      record[3:])
+
+
+def other_width(rng: Random, records: Records) -> Records:
+    """A PR with a PW's mark, or the other way round, its number as it was or of the other width."""
+    def change(record: bytes) -> bytes:
+        mark = b"PW" if record[:2] == b"PR" else b"PR"
+        number = rng.choice((record[3:], (record[3:] + b"\0\0")[:4 if mark == b"PW" else 2]))
+        return mark + record[2:3] + number
+    return replace_at(records, PROPOSALS, rng, change)
 
 
 def wrong_crash(rng: Random, records: Records) -> Records:
@@ -139,7 +153,7 @@ def wrong_crash(rng: Random, records: Records) -> Records:
         place = rng.choice((2, 3, 4))
         values = (0, 1, record[place] + 1, record[place] - 1, 64, 65, 255, rng.randrange(256))
         return record[:place] + bytes([rng.choice(values) % 256]) + record[place + 1:]
-    return replace_at(records, b"CR", rng, change)
+    return replace_at(records, (b"CR",), rng, change)
 
 
 def more_crashes(rng: Random, records: Records) -> Records:
@@ -149,13 +163,13 @@ def more_crashes(rng: Random, records: Records) -> Records:
 
 
 def proposal_behind(rng: Random, records: Records) -> Records:
-    """A PR after drive n's, whole or cut."""
-    last = max((place for place, r in enumerate(records) if r[:2] == b"PR"), default=-1)
-    extra = proposal(rng.choice((1, last + 2)) % 256, 5)
+    """A PR or PW after drive n's, whole or cut."""
+    last = max((place for place, r in enumerate(records) if r[:2] in PROPOSALS), default=-1)
+    extra = proposal(rng.choice((1, last + 2)) % 256, 5, rng.random() < 0.5)
     if rng.random() < 0.3:
-        return records[:last + 1] + [extra[:rng.randint(1, 4)]]
+        return records[:last + 1] + [extra[:rng.randint(1, len(extra) - 1)]]
     return records[:last + 1] + [extra] + records[last + 1:]
 
 
-RUN_DAMAGE = RECORD_DAMAGE + (wrong_proposal, wrong_crash, wrong_crash, more_crashes,
+RUN_DAMAGE = RECORD_DAMAGE + (wrong_proposal, other_width, wrong_crash, wrong_crash, more_crashes,
                               more_crashes, proposal_behind)

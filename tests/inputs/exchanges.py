@@ -9,12 +9,13 @@ from regdulyn import Exchange, Refusal, close, message, opening, send
 
 from .calls import Script
 from .frames import accepted_table, places
-from .messages import damaged_message, made_message
-from .scenarios import patterns, run_table, stop_rich_table
+from .messages import as_old, damaged_message, made_message
+from .scenarios import any_pattern, patterns, run_table, stop_rich_table
 from .set_calls import refused_table
 from .states import fair_state, quiet_state
 
 LARGEST = 2000
+BUFFER = 384
 
 
 # Calls that are mostly refused
@@ -22,13 +23,13 @@ LARGEST = 2000
 def odd_send(rng: Random, script: Script) -> None:
     """Into a buffer that just fits, is too short, or from an odd place."""
     x = script.state
-    due = 6 if x.decision is not None else 12 + 2 * x.known_at_start.bit_count()
-    start = rng.choice((0, 0, 1, 7, rng.randint(0, 256)))
-    length = rng.choice((0, due + start, due + start - 1, due + start + 1, 256,
-                         rng.randint(0, 256)))
-    length = max(0, min(length, 256))
+    due = 8 if x.decision is not None else 12 + 4 * x.known_at_start.bit_count()
+    start = rng.choice((0, 0, 1, 7, rng.randint(0, BUFFER)))
+    length = rng.choice((0, due + start, due + start - 1, due + start + 1, BUFFER,
+                         rng.randint(0, BUFFER)))
+    length = max(0, min(length, BUFFER))
     if rng.random() < 0.1:
-        start = rng.choice((length, length + 1, 256, 257, 2 ** 32, 2 ** 63, 2 ** 64 - 1))
+        start = rng.choice((length, length + 1, BUFFER, BUFFER + 1, 2 ** 32, 2 ** 63, 2 ** 64 - 1))
     script.send(length, start)
 
 
@@ -38,7 +39,7 @@ def refused_opening(rng: Random, script: Script) -> None:
     n, sets = (refused_table if bad_table else accepted_table)(rng)
     bad_drive = not bad_table or rng.random() < 0.2
     own = rng.choice((0, n + 1, 65, 255)) % 256 if bad_drive else rng.randint(1, max(n, 1))
-    script.open(n, sets, own, rng.randrange(65536))
+    script.open(n, sets, own, any_pattern(rng))
 
 
 def stray_call(rng: Random, script: Script, seen: list[bytes]) -> None:
@@ -110,7 +111,8 @@ class Others:
 
 
 def exchange(rng: Random, script: Script) -> None:
-    """One drive's calls in an exchange, with others between them."""
+    """One drive's calls in an exchange, with others between them; at times it gets a message as
+    an old record, which must not matter."""
     n, sets, core = exchange_table(rng)
     proposals = patterns(rng, n)
     watched = rng.choice(places(core)) + 1 if rng.random() < 0.6 else rng.randint(1, n)
@@ -119,15 +121,16 @@ def exchange(rng: Random, script: Script) -> None:
     script.open(n, sets, watched, proposals[watched - 1])
     seen: list[bytes] = []
     for _ in range(core.bit_count()):
-        script.send(256, rng.choice((0, 0, 100)))
+        script.send(BUFFER, rng.choice((0, 0, 100)))
         for _, receiver, data in others.outputs(watched):
             if receiver != watched:
                 others.deliver(receiver, data)
                 continue
             while rng.random() < noise:
                 stray_call(rng, script, seen)
-            seen.append(data)
-            script.message(data)
+            given = as_old(data) if rng.random() < 0.3 else data
+            seen.append(given)
+            script.message(given)
         others.close(watched)
         script.close()
         others.states[watched] = script.state
@@ -166,4 +169,4 @@ def openings(rng: Random, script: Script) -> None:
             refused_opening(rng, script)
         else:
             n, sets = accepted_table(rng)
-            script.open(n, sets, rng.randint(1, n), rng.choice((0, 65535, rng.randrange(65536))))
+            script.open(n, sets, rng.randint(1, n), any_pattern(rng))

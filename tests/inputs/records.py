@@ -11,8 +11,12 @@ sys.path.insert(0, str(Path(__file__).resolve().parents[2] / "reference"))
 
 from regdulyn import Crash  # noqa: E402
 
-MARKS = (b"FR", b"SV", b"PR", b"CR", b"EN", b"KN", b"DC")
-UNKNOWN_MARKS = (b"XX", b"fr", b"RF", b"VS", b"NE", b"\0\0", b"FL", b"PW")
+MARKS = (b"FR", b"SV", b"PR", b"PW", b"CR", b"EN", b"KN", b"KW", b"DC", b"DW")
+UNKNOWN_MARKS = (b"XX", b"fr", b"RF", b"VS", b"NE", b"\0\0", b"FL", b"BK", b"WK")
+
+# How many pattern numbers the old records can have, and how many there are.
+OLD_PATTERNS = 1 << 16
+ALL_PATTERNS = 1 << 32
 
 Records = list[bytes]
 
@@ -25,7 +29,10 @@ def survivor(mask: int) -> bytes:
     return b"SV" + mask.to_bytes(8, "little")
 
 
-def proposal(drive: int, pattern: int) -> bytes:
+def proposal(drive: int, pattern: int, wide: bool = False) -> bytes:
+    """A PW where it is asked for, or the number needs it; else a PR."""
+    if wide or pattern >= OLD_PATTERNS:
+        return b"PW" + bytes([drive]) + pattern.to_bytes(4, "little")
     return b"PR" + bytes([drive]) + pattern.to_bytes(2, "little")
 
 
@@ -45,11 +52,25 @@ def table(n: int, sets: list[int]) -> bytes:
     return b"".join(table_records(n, sets))
 
 
-def run_records(proposals: list[int], crashes: list[Crash]) -> Records:
-    return [*(proposal(d, p) for d, p in enumerate(proposals, start=1)),
+def run_records(proposals: list[int], crashes: list[Crash], wide: int = 0) -> Records:
+    """`wide` is the set of the drives that have a PW whatever their number."""
+    return [*(proposal(d, p, wide >> d - 1 & 1 == 1) for d, p in enumerate(proposals, start=1)),
             *(crash(c.drive, c.round, c.sends) for c in crashes),
             end(len(crashes))]
 
 
-def run(proposals: list[int], crashes: list[Crash]) -> bytes:
-    return b"".join(run_records(proposals, crashes))
+def run(proposals: list[int], crashes: list[Crash], wide: int = 0) -> bytes:
+    return b"".join(run_records(proposals, crashes, wide))
+
+
+WIDTHS = {b"FR": 1, b"SV": 8, b"PR": 3, b"PW": 5, b"CR": 3, b"EN": 1}
+
+
+def widened(data: bytes) -> bytes:
+    """A file of whole records with a PW in place of each PR."""
+    made, at = b"", 0
+    while at < len(data):
+        end_of = at + 2 + WIDTHS[data[at:at + 2]]
+        record, at = data[at:end_of], end_of
+        made += b"PW" + record[2:] + b"\0\0" if record[:2] == b"PR" else record
+    return made

@@ -14,7 +14,7 @@ from .damage import RUN_DAMAGE, damaged
 from .frames import MAX_DRIVES, full, places
 from .records import end, run, run_records
 from .samples import A_SETS, PATTERNS, SAID, refused_runs
-from .scenarios import Scenario, accepted_run, spoil_crash, touch_every_set
+from .scenarios import EDGES, Scenario, accepted_run, some_wide, spoil_crash, touch_every_set
 from .set_calls import limit_tables, refused_table
 
 COSTLY = 2000
@@ -84,21 +84,34 @@ def touched_sets(script: Script, call: Call) -> None:
 
 def file_samples(script: Script) -> None:
     """The samples; two stops, rising, of one drive, and falling; a run file cut at every
-    place, with other counts and more behind it."""
+    place, with other counts and more behind it; the same with PW and PR in turn."""
     for n, sets, data, *_ in (*refused_runs(), *SAID):
         script.simulate_file(n, sets, data)
     for drives in product((1, 2, 4, 6), repeat=2):
         play_file(script, 6, A_SETS, PATTERNS, [Crash(drive, 1, 0) for drive in drives])
-    whole = run(PATTERNS, [Crash(2, 1, 1), Crash(4, 2, 0)])
-    for length in range(len(whole) + 1):
-        script.simulate_file(6, A_SETS, whole[:length])
+    stops = [Crash(2, 1, 1), Crash(4, 2, 0)]
+    whole, mixed = run(PATTERNS, stops), run(PATTERNS, stops, 0b010101)
+    for data in (whole, mixed):
+        for length in range(len(data) + 1):
+            script.simulate_file(6, A_SETS, data[:length])
     touched = run(PATTERNS, [Crash(drive, 1, 0) for drive in (1, 2, 3)])
-    for data in (whole, touched):
-        for count, more in product((0, 1, 2, 3, 4, 255), (b"", b"\0", b"PR", data)):
+    for data in (whole, mixed, touched):
+        for count, more in product((0, 1, 2, 3, 4, 255), (b"", b"\0", b"PR", b"PW", data)):
             script.simulate_file(6, A_SETS, data[:-3] + end(count) + more)
 
 
-SCENARIOS = (stops_on_tables, stops_on_a, stops_on_others, two_stops, touched_sets)
+def edge_numbers(script: Script, call: Call) -> None:
+    """Pattern numbers at the limits: each beside the next, one of which the core drives decide;
+    and 64 drives whose numbers pass the most that two bytes hold."""
+    for low, high in zip(EDGES, EDGES[1:]):
+        for numbers in ([high, low, high], [low, high, low]):
+            for stops in ([], [Crash(2, 1, 1)], [Crash(2, 1, 0)]):
+                call(script, 4, [1, 2, 0xC], [*numbers, 0], stops)
+    singles = [1 << place for place in range(MAX_DRIVES)]
+    call(script, 64, singles, list(range(65567, 65503, -1)), [Crash(64, 1, 1)])
+
+
+SCENARIOS = (stops_on_tables, stops_on_a, stops_on_others, two_stops, touched_sets, edge_numbers)
 LIMITS = (file_samples, *(partial(made, call=call) for call in (play_file, Script.simulate)
                           for made in SCENARIOS))
 
@@ -128,7 +141,7 @@ def odd_stops(rng: Random, n: int, sets: list[int], crashes: list[Crash],
 def odd_file(rng: Random, script: Script) -> None:
     """A run file, at times damaged, at times with another table."""
     n, sets, proposals, crashes, core = accepted_run(rng)
-    records = run_records(proposals, odd_stops(rng, n, sets, crashes, core))
+    records = run_records(proposals, odd_stops(rng, n, sets, crashes, core), some_wide(rng, n))
     data = damaged(rng, records, RUN_DAMAGE) if rng.random() < 0.3 else b"".join(records)
     if rng.random() < 0.15:
         n, sets = refused_table(rng)
@@ -144,7 +157,7 @@ def odd_simulation(rng: Random, script: Script) -> None:
     elif rng.random() < 0.05:
         stops = [Crash(place + 1, rng.randint(0, 3), rng.randint(0, 3))
                  for place in places(rng.randint(0, full(64)))]
-    unused = (rng.choice((0, 65535)), rng.choice((0, 1, 2, 255)), rng.choice((0, 1, 255)))
+    unused = (rng.choice((0, 65535, 2 ** 32 - 1)), rng.choice((0, 1, 2, 255)), rng.choice((0, 1, 255)))
     script.simulate(n, sets, proposals, stops, unused)
 
 

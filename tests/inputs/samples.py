@@ -1,10 +1,11 @@
-"""Inputs with the answers that document 01 gives them: the refusals of the four
+"""Inputs with the answers that documents 01 and 02 give them: the refusals of the four
 calls, of simulated exchanges and of run files, each alone and where two faults meet,
-what a close leaves and how drives end. Messages and records are written byte by byte.
-The number 0 stands for a call that is not refused.
+what a close leaves and how drives end; with numbers of two bytes, of four, and both.
+Messages and records are written byte by byte. The number 0 stands for a call that is
+not refused.
 """
 
-from typing import Iterator, NamedTuple, Optional
+from typing import Iterable, Iterator, NamedTuple, Optional
 
 from regdulyn import Crash, Exchange
 
@@ -19,9 +20,10 @@ PATTERNS = [7, 5, 9, 1, 1, 1]
 # States in the frame of case A, with core 7 and the pattern numbers of its drives
 
 def state(n: int, own: int, core: int, round_number: int, before: int, heard: int, known: int,
-          start: int, halted: bool = False, decision: Optional[int] = None) -> Exchange:
+          start: int, halted: bool = False, decision: Optional[int] = None,
+          numbers: Iterable[int] = PATTERNS[:3]) -> Exchange:
     return Exchange(n, own, core, round_number, before, heard, known, start,
-                    PATTERNS[:3] + [0] * 61, None, decision, halted)
+                    [*numbers, *[0] * 61], None, decision, halted)
 
 
 CORE_DRIVE = state(6, 1, 7, 1, 7, 0, 1, 1)
@@ -29,6 +31,10 @@ LISTENER = state(6, 4, 7, 1, 7, 0, 0, 0)
 DECIDED_ON_5 = state(6, 1, 7, 2, 7, 0, 7, 7, decision=5)
 MISSED_2 = state(6, 1, 7, 2, 5, 2, 1, 1)
 HEARD_2 = state(6, 1, 7, 1, 7, 2, 3, 1)
+DECIDED_HIGH = state(6, 1, 7, 2, 7, 0, 7, 7, decision=0x04030201)
+# Drive 1 knows its own number 65543, which is 7 in its two low bytes, and 0x05000009 of drive 3.
+HIGH = [65543, 5, 0x05000009]
+KNOWS_HIGH = state(6, 1, 7, 1, 7, 0, 5, 1, numbers=HIGH)
 
 
 def kn(sender: int, round_number: int, low: int, *values: int) -> bytes:
@@ -36,8 +42,22 @@ def kn(sender: int, round_number: int, low: int, *values: int) -> bytes:
     return b"KN" + bytes([sender, round_number, low, 0, 0, 0, 0, 0, 0, 0, *values])
 
 
+def kw(sender: int, round_number: int, low: int, *values: int) -> bytes:
+    return b"KW" + kn(sender, round_number, low, *values)[2:]
+
+
 def dc(sender: int, round_number: int, *value: int) -> bytes:
     return b"DC" + bytes([sender, round_number, *value])
+
+
+def dw(sender: int, round_number: int, *value: int) -> bytes:
+    return b"DW" + bytes([sender, round_number, *value])
+
+
+def cut_and_longer(data: bytes) -> Iterator[bytes]:
+    """A message cut at every length, and with one byte too many."""
+    yield from (data[:length] for length in range(len(data)))
+    yield data + b"\0"
 
 
 # The four calls
@@ -47,17 +67,21 @@ OPENINGS = [
     (6, A_SETS, 1, 7, 0), (0, [], 0, 7, 3), (65, [0], 66, 7, 3), (6, [], 0, 7, 2),
     (6, [0] * 129, 0, 7, 5), (6, [1] * 128, 1, 7, 0), (6, [1, 0], 0, 7, 4),
     (6, [1, 64], 7, 7, 4), (6, [1], 0, 7, 8), (6, [1], 7, 7, 8), (6, [1], 6, 65535, 0),
+    (6, [1], 1, 65535, 0), (6, [1], 1, 65536, 0), (6, [1], 1, 0x04030201, 0),
+    (6, [1], 1, 2 ** 32 - 1, 0), (6, [1], 0, 65536, 8),
 ]
 
 SENDS = [
-    # 14 bytes of KN, and 6 of DC: a place past the end, and one at the end, meet 14 too.
-    (CORE_DRIVE, 14, 0, 0), (CORE_DRIVE, 13, 0, 14), (CORE_DRIVE, 14, 1, 14),
-    (CORE_DRIVE, 20, 6, 0), (CORE_DRIVE, 14, 14, 14), (CORE_DRIVE, 0, 1, 14),
-    (DECIDED_ON_5, 6, 0, 0), (DECIDED_ON_5, 6, 1, 14),
+    # 16 bytes of KW, and 8 of DW: a place past the end, and one at the end, meet 14 too; so does
+    # the length of a KN or DC.
+    (CORE_DRIVE, 16, 0, 0), (CORE_DRIVE, 15, 0, 14), (CORE_DRIVE, 16, 1, 14),
+    (CORE_DRIVE, 22, 6, 0), (CORE_DRIVE, 16, 16, 14), (CORE_DRIVE, 0, 1, 14),
+    (CORE_DRIVE, 14, 0, 14), (DECIDED_ON_5, 8, 0, 0), (DECIDED_ON_5, 8, 1, 14),
+    (DECIDED_ON_5, 6, 0, 14), (DECIDED_ON_5, 7, 0, 14),
     # 28, 23, 27, 14.
     (LISTENER, 0, 0, 27), (state(6, 4, 7, 1, 7, 0, 0, 0, True), 0, 0, 23),
     (state(6, 7, 7, 1, 7, 0, 0, 0, True), 0, 0, 28),
-    (state(6, 1, 7, 1, 7, 0, 1, 1, True), 14, 0, 23),
+    (state(6, 1, 7, 1, 7, 0, 1, 1, True), 16, 0, 23),
 ]
 
 MESSAGES = [
@@ -89,6 +113,51 @@ MESSAGES = [
     (LISTENER, kn(2, 1, 2, 5, 0), 0), (DECIDED_ON_5, dc(2, 2, 9, 0), 0),
     # 28, then 23, before anything of the message.
     (state(6, 1, 7, 1, 7, 0, 1, 1, True), b"", 23), (state(0, 1, 7, 1, 7, 0, 1, 1, True), b"", 28),
+    (state(6, 1, 7, 1, 7, 0, 1, 1, True), kw(2, 1, 2, 5, 0, 0, 0), 23),
+    # A mark of a file, and one near a KW's or DW's, though the rest is cut.
+    (CORE_DRIVE, b"PW", 2), (CORE_DRIVE, b"PR", 2), (CORE_DRIVE, b"KX", 2), (CORE_DRIVE, b"DN", 2),
+    (CORE_DRIVE, b"WK" + kw(2, 1, 2, 5, 0, 0, 0)[2:], 2),
+    # The same order with a KW and a DW: 1 before 8; 8, 15, the values cut, 7, 22, 26, 24, 21.
+    (CORE_DRIVE, b"KW\0\1\2\0\0\0\0\0\0", 1), (CORE_DRIVE, dw(0, 1, 5, 0, 0), 1),
+    (CORE_DRIVE, dw(7, 1, 5, 0), 1), (CORE_DRIVE, kw(0, 1, 2, 5, 0, 0, 0), 8),
+    (CORE_DRIVE, kw(7, 1, 2), 8), (CORE_DRIVE, dw(7, 1, 5, 0, 0, 0, 0), 8),
+    (CORE_DRIVE, kw(2, 1, 4, 5, 0, 0, 0), 15), (CORE_DRIVE, kw(2, 1, 0), 15),
+    (CORE_DRIVE, kw(2, 1, 66), 15), (CORE_DRIVE, kw(2, 1, 2), 1),
+    (CORE_DRIVE, kw(1, 2, 3, 7, 0, 0, 0, 5, 0, 0), 1),
+    (CORE_DRIVE, kw(1, 2, 1, 7, 0, 0, 0, 0), 7), (CORE_DRIVE, dw(4, 2, 5, 0, 0, 0, 0), 7),
+    (CORE_DRIVE, kw(1, 2, 1, 7, 0, 0, 0), 22), (CORE_DRIVE, dw(1, 1, 7, 0, 0, 0), 22),
+    (CORE_DRIVE, dw(4, 2, 5, 0, 0, 0), 22),
+    (CORE_DRIVE, kw(2, 2, 10, 5, 0, 0, 0, 1, 0, 0, 0), 22),
+    (CORE_DRIVE, kw(2, 2, 2, 5, 0, 0, 0), 26), (CORE_DRIVE, dw(3, 0, 5, 0, 0, 0), 26),
+    (MISSED_2, kw(2, 2, 2, 5, 0, 0, 0), 24), (HEARD_2, kw(2, 1, 2, 6, 0, 0, 0), 21),
+    (HEARD_2, dw(2, 1, 5, 0, 0, 0), 21),
+    # The numbers of the other width: of one drive, and of two, where a KN's two and a KW's one
+    # have as many bytes.
+    (CORE_DRIVE, kn(2, 1, 2, 5, 0, 0, 0), 7), (CORE_DRIVE, kw(2, 1, 2, 5, 0), 1),
+    (CORE_DRIVE, kn(2, 1, 6, 5, 0, 0, 0), 0), (CORE_DRIVE, kw(2, 1, 6, 5, 0, 0, 0), 1),
+    (CORE_DRIVE, dc(3, 1, 5, 0, 0, 0), 7), (CORE_DRIVE, dw(3, 1, 5, 0), 1),
+    # 25 is of values: the number that is known by a record of either width; the same two low bytes;
+    # one byte that differs, each in turn, also in the last number.
+    (CORE_DRIVE, kn(2, 1, 3, 7, 0, 5, 0), 0), (CORE_DRIVE, kw(2, 1, 3, 7, 0, 0, 0, 5, 0, 0, 0), 0),
+    (CORE_DRIVE, kw(2, 1, 3, 7, 0, 1, 0, 5, 0, 0, 0), 25),
+    (CORE_DRIVE, kw(2, 1, 3, 7, 0, 0, 1, 5, 0, 0, 0), 25),
+    (CORE_DRIVE, kw(2, 1, 3, 7, 1, 0, 0, 5, 0, 0, 0), 25),
+    (CORE_DRIVE, kw(2, 1, 3, 6, 0, 0, 0, 5, 0, 0, 0), 25),
+    (KNOWS_HIGH, kn(2, 1, 3, 7, 0, 5, 0), 25), (KNOWS_HIGH, kn(2, 1, 6, 5, 0, 9, 0), 25),
+    (KNOWS_HIGH, kw(2, 1, 7, 7, 0, 1, 0, 5, 0, 0, 0, 9, 0, 0, 5), 0),
+    (KNOWS_HIGH, kw(2, 1, 7, 7, 0, 0, 0, 5, 0, 0, 0, 9, 0, 0, 5), 25),
+    (KNOWS_HIGH, kw(2, 1, 7, 7, 0, 1, 0, 5, 0, 0, 0, 9, 0, 0, 4), 25),
+    (KNOWS_HIGH, kw(2, 1, 7, 7, 0, 1, 0, 5, 0, 0, 0, 9, 0, 1, 5), 25),
+    (KNOWS_HIGH, kw(2, 1, 7, 7, 0, 1, 0, 5, 0, 0, 0, 9, 1, 0, 5), 25),
+    (KNOWS_HIGH, kw(2, 1, 7, 7, 0, 1, 0, 5, 0, 0, 0, 8, 0, 0, 5), 25),
+    # Accepted: a KW, a DW, by a listener, by a decided drive; the largest number.
+    (CORE_DRIVE, kw(2, 1, 2, 255, 255, 255, 255), 0), (CORE_DRIVE, dw(3, 1, 255, 255, 255, 255), 0),
+    (LISTENER, kw(2, 1, 2, 5, 0, 1, 0), 0), (DECIDED_ON_5, dw(2, 2, 9, 0, 0, 1), 0),
+    # Every length.
+    *((CORE_DRIVE, data, 7 if len(data) == 21 else 1)
+      for data in cut_and_longer(kw(2, 1, 6, 5, 0, 0, 0, 9, 0, 1, 0))),
+    *((CORE_DRIVE, data, 7 if len(data) == 9 else 1)
+      for data in cut_and_longer(dw(2, 1, 5, 0, 1, 0))),
 ]
 
 CLOSES = [
@@ -119,6 +188,21 @@ ENDS: list[tuple[Exchange, list[bytes], tuple[int, bool, Optional[int]]]] = [
     (CORE_DRIVE, [dc(3, 1, 9, 0), dc(2, 1, 8, 1)], (2, False, 264)),
     (CORE_DRIVE, [dc(2, 1, 8, 1), dc(3, 1, 9, 0)], (2, False, 264)),
     (DECIDED_ON_5, [dc(2, 2, 9, 0)], (2, True, 5)),
+    # The same with one or both a DW: the sender counts, not the width or the number.
+    (CORE_DRIVE, [dw(3, 1, 9, 0, 0, 0), dc(2, 1, 8, 1)], (2, False, 264)),
+    (CORE_DRIVE, [dc(3, 1, 9, 0), dw(2, 1, 8, 1, 0, 1)], (2, False, 0x01000108)),
+    (CORE_DRIVE, [dw(2, 1, 255, 255, 255, 255), dw(3, 1, 0, 0, 0, 0)], (2, False, 2 ** 32 - 1)),
+    (DECIDED_HIGH, [dw(2, 2, 9, 0, 0, 0)], (2, True, 0x04030201)),
+    # The smallest of 65543, 5 + 65536 and 9, told by a KW and a KN: by value, not by its low bytes.
+    (state(6, 1, 7, 1, 7, 0, 1, 1, numbers=HIGH), [kw(2, 1, 2, 5, 0, 1, 0), kn(3, 1, 4, 9, 0)],
+     (2, False, 9)),
+    (state(6, 1, 7, 1, 7, 0, 1, 1, numbers=HIGH),
+     [kw(2, 1, 2, 5, 0, 1, 0), kw(3, 1, 6, 5, 0, 1, 0, 0, 0, 0, 1)], (2, False, 65541)),
+    # What a KW tells and a KN tells again.
+    (CORE_DRIVE, [kw(2, 1, 6, 5, 0, 0, 0, 9, 0, 0, 0), kn(3, 1, 7, 7, 0, 5, 0, 9, 0)],
+     (2, False, 5)),
+    (CORE_DRIVE, [kn(2, 1, 6, 5, 0, 9, 0), kw(3, 1, 7, 7, 0, 0, 0, 5, 0, 0, 0, 9, 0, 0, 0)],
+     (2, False, 5)),
     # A listener halts on deciding; it goes on where nobody was heard, and where nothing is known.
     (state(6, 4, 7, 1, 2, 2, 7, 7), [], (1, True, 5)),
     (state(6, 4, 7, 1, 0, 0, 7, 7), [], (2, False, None)),
@@ -128,9 +212,19 @@ ENDS: list[tuple[Exchange, list[bytes], tuple[int, bool, Optional[int]]]] = [
 # A send into a buffer of a length, from a place on, and what the buffer then holds.
 KEPT = bytes([FILLING])
 BUFFERS = [
-    (state(6, 1, 7, 2, 7, 0, 7, 5), 16, 0, kn(1, 2, 5, 7, 0, 9, 0)),
-    (DECIDED_ON_5, 8, 1, KEPT + dc(1, 2, 5, 0) + KEPT),
-    (DECIDED_ON_5, 8, 3, KEPT * 8),
+    (state(6, 1, 7, 2, 7, 0, 7, 5), 20, 0, kw(1, 2, 5, 7, 0, 0, 0, 9, 0, 0, 0)),
+    (state(6, 1, 7, 2, 7, 0, 7, 7, numbers=HIGH), 24, 0,
+     kw(1, 2, 7, 7, 0, 1, 0, 5, 0, 0, 0, 9, 0, 0, 5)),
+    (DECIDED_ON_5, 10, 1, KEPT + dw(1, 2, 5, 0, 0, 0) + KEPT),
+    (DECIDED_HIGH, 8, 0, dw(1, 2, 1, 2, 3, 4)),
+    (DECIDED_ON_5, 10, 3, KEPT * 10),
+]
+
+# Two messages that give drive 3 different numbers: the second meets 25.
+UNLIKE = [
+    (kw(2, 1, 6, 5, 0, 0, 0, 7, 0, 1, 0), kn(3, 1, 4, 7, 0)),
+    (kn(2, 1, 6, 5, 0, 7, 0), kw(3, 1, 4, 7, 0, 1, 0)),
+    (kw(2, 1, 6, 5, 0, 0, 0, 7, 0, 0, 1), kw(3, 1, 4, 7, 0, 0, 0)),
 ]
 
 
@@ -173,8 +267,21 @@ def refused_with(script: Script) -> int:
     return int(values[0]) if word == "refused" else 0
 
 
+def message_samples(script: Script) -> Iterator[Answered]:
+    """Hands over the message of every sample, one after the other."""
+    for index, (x, data, due) in enumerate(MESSAGES):
+        script.load(x)
+        script.message(data)
+        yield Answered(f"message {index}", refused_with(script), due)
+    for index, (first, second) in enumerate(UNLIKE):
+        script.load(CORE_DRIVE)
+        taken = script.message(first)
+        script.message(second)
+        yield Answered(f"unlike {index}", (taken, refused_with(script)), (True, 25))
+
+
 def call_samples(script: Script) -> Iterator[Answered]:
-    """Makes the calls of every sample, one after the other."""
+    """Makes the other calls of every sample, one after the other."""
     for index, (n, sets, own, pattern, due) in enumerate(OPENINGS):
         script.open(n, sets, own, pattern)
         yield Answered(f"opening {index}", refused_with(script), due)
@@ -182,10 +289,6 @@ def call_samples(script: Script) -> Iterator[Answered]:
         script.load(x)
         script.send(length, start)
         yield Answered(f"send {index}", refused_with(script), due)
-    for index, (x, data, due) in enumerate(MESSAGES):
-        script.load(x)
-        script.message(data)
-        yield Answered(f"message {index}", refused_with(script), due)
     for index, (x, due) in enumerate(CLOSES):
         script.load(x)
         script.close()
@@ -205,8 +308,14 @@ def call_samples(script: Script) -> Iterator[Answered]:
         yield Answered(f"simulated {index}", script.lines[-1][0], line)
 
 
-def make_samples(script: Script) -> None:
-    """The same calls, whatever they give."""
+def make_messages(script: Script) -> None:
+    """The same messages, whatever they give."""
+    for _ in message_samples(script):
+        pass
+
+
+def make_calls(script: Script) -> None:
+    """The same other calls, whatever they give."""
     for _ in call_samples(script):
         pass
 
@@ -232,12 +341,22 @@ ON_A = [
     # 8: no drive, one left out, one twice.
     (proposal(0, 7), 8), (proposal(2, 7), 8), (proposal(1, 7) * 2, 8),
     (proposal(1, 7) + proposal(3, 7) + b"XX", 8),
+    # The same with a PW: every cut, also of another drive; of one order with PR; a message's mark.
+    *((b"PW\1\7\0\0\0"[:length], 1) for length in range(1, 7)), (b"PW\2\7\0\0", 1),
+    (b"PW\0\7\0\0\0", 8), (b"PW\2\7\0\0\0", 8), (b"PW\1\7\0\0\0" * 2, 8),
+    (proposal(1, 7) + b"PW\1\7\0\0\0", 8), (b"PW\1\7\0\0\0" + proposal(1, 7), 8),
+    (proposal(1, 7) + b"PW\3\7\0\0\0XX", 8), (b"PW\1\7\0\0\0" + end(0), 2),
+    (b"KW", 2), (b"DW", 2), (b"WP", 2),
+    # A number of the other width: the mark behind it is not one.
+    (b"PR\1\7\0\0\0" + proposal(2, 7), 2), (b"PW\1\7\0" + proposal(2, 7), 2),
+    (b"PW\1\7\0\0\0\0" + proposal(2, 7), 2),
 ]
 
 # The records behind case B's pattern numbers, and the refusal.
 BEHIND = [
-    # A PR after drive n's, even when cut.
-    (proposal(7, 1), 2), (b"PR", 2), (b"P", 1),
+    # A PR or PW after drive n's, even when cut.
+    (proposal(7, 1), 2), (b"PR", 2), (b"P", 1), (proposal(7, 1, True), 2),
+    (proposal(6, 1, True), 2), (b"PW", 2), (b"PW\7\0\0", 2), (crash(2, 1, 0) + b"PW", 2),
     (b"", 1), (b"CR\0\0", 1), (b"FR", 2),
     # 8: outside 1 to n, or not above the last; before 9 and 10.
     (crash(0, 0, 9), 8), (crash(7, 0, 9), 8), (crash(2, 1, 0) + crash(2, 0, 9), 8),
@@ -262,6 +381,14 @@ SAID: list[tuple[int, list[int], bytes, list[int], list[Crash]]] = [
     (6, A_SETS, PROPOSALS + crash(1, 1, 0) + crash(2, 2, 0) + end(2), PATTERNS,
      [Crash(1, 1, 0), Crash(2, 2, 0)]),
     (1, [1], proposal(1, 4) + end(0), [4], []),
+    # The same numbers by PW, by PW and PR; numbers that need four bytes, lowest byte first.
+    (6, A_SETS, b"PW\1\7\0\0\0PW\2\5\0\0\0PW\3\x09\0\0\0PW\4\1\0\0\0PW\5\1\0\0\0PW\6\1\0\0\0" +
+     crash(2, 1, 1) + end(1), PATTERNS, [Crash(2, 1, 1)]),
+    (6, A_SETS, b"PW\1\7\0\0\0PR\2\5\0PR\3\x09\0PW\4\1\0\0\0PR\5\1\0PW\6\1\0\0\0" + end(0),
+     PATTERNS, []),
+    (1, [1], b"PW\1\1\2\3\4" + end(0), [0x04030201], []),
+    (1, [1], b"PW\1\xff\xff\xff\xff" + end(0), [2 ** 32 - 1], []),
+    (2, [1, 2], b"PR\1\xff\xffPW\2\0\0\1\0" + end(0), [65535, 65536], []),
 ]
 
 

@@ -9,22 +9,41 @@ from random import Random
 from regdulyn import Crash, Refusal, chosen_core, normal_table
 
 from .frames import accepted_table, full, group, places
+from .records import ALL_PATTERNS, OLD_PATTERNS
 
 # n, sets, proposals, crashes, and the chosen core.
 Scenario = tuple[int, list[int], list[int], list[Crash], int]
 
 
+EDGES = (0, 1, 255, 256, 65534, 65535, 65536, 65537, 65791, 65792, 1 << 24, (1 << 31) - 1, 1 << 31,
+         ALL_PATTERNS - 65536, ALL_PATTERNS - 1)
+
+
+def any_pattern(rng: Random) -> int:
+    """A pattern number of two bytes, of four, or at a limit."""
+    return rng.choice((rng.randrange(OLD_PATTERNS), rng.randrange(ALL_PATTERNS), rng.choice(EDGES)))
+
+
 def patterns(rng: Random, n: int) -> list[int]:
-    """Proposals: spread, close together, at the limits, or in order."""
-    kind = rng.randrange(4)
+    """Proposals: spread, close together, at the limits, in order, also across the most that two
+    bytes hold, or equal in their two low bytes."""
+    kind = rng.randrange(6)
     if kind == 0:
-        return [rng.randrange(65536) for _ in range(n)]
+        return [rng.randrange(rng.choice((OLD_PATTERNS, ALL_PATTERNS))) for _ in range(n)]
     if kind == 1:
         return [rng.randrange(3) for _ in range(n)]
     if kind == 2:
-        return [rng.choice((0, 1, 255, 256, 65534, 65535)) for _ in range(n)]
-    start = rng.randrange(65536 - n)
+        return [rng.choice(EDGES) for _ in range(n)]
+    if kind == 3:
+        low = rng.randrange(OLD_PATTERNS)
+        return [low + OLD_PATTERNS * rng.choice((0, 1, 2, 256, 65535)) for _ in range(n)]
+    start = rng.randrange(OLD_PATTERNS - n) if kind == 4 else OLD_PATTERNS - rng.randint(0, n)
     return [start + (place if rng.random() < 0.9 else 0) for place in range(n)][::-1]
+
+
+def some_wide(rng: Random, n: int) -> int:
+    """The drives of a run file that have a PW whatever their number: none, all, or some."""
+    return rng.choice((0, full(n), rng.randint(0, full(n))))
 
 
 def few_sends(rng: Random, n: int) -> int:

@@ -11,8 +11,8 @@ from . import run_calls, set_calls
 from .calls import MAX_BYTES, Script
 from .exchanges import exchange, handmade, openings
 from .records import crash, end
-from .samples import (A_SETS, CORE_DRIVE, HEARD_2, MISSED_2, PATTERNS, PROPOSALS, kn, make_samples,
-                      state)
+from .samples import (A_SETS, CORE_DRIVE, HEARD_2, MISSED_2, PATTERNS, PROPOSALS, dw, kn, kw,
+                      make_calls, make_messages, state)
 from .states import broken_states
 
 OPERATIONS = 400
@@ -34,14 +34,14 @@ def each_kind(script: Script) -> None:
     """A few operations of each kind, most on case A's table."""
     refused_by_state(script)
     script.open(6, A_SETS, 1, 7)
-    script.send(16, 1)
-    for data in (kn(3, 1, 4, 9, 0), kn(3, 1, 4, 9, 0), kn(2, 1, 2, 5, 0)):
+    script.send(18, 1)
+    for data in (kn(3, 1, 4, 9, 0), kn(3, 1, 4, 9, 0), kw(2, 1, 2, 5, 0, 0, 0)):
         script.message(data)
     script.close()
-    script.send(6, 0)
+    script.send(8, 0)
     script.open(6, A_SETS, 4, 1)
-    script.send(14, 0)
-    for data in (kn(1, 1, 1, 7, 0), kn(1, 1, 1, 7), kn(3, 1, 4, 9, 0)):
+    script.send(16, 0)
+    for data in (kn(1, 1, 1, 7, 0), kn(1, 1, 1, 7), kw(3, 1, 4, 9, 0, 1, 0), dw(2, 1, 5, 0, 0, 1)):
         script.message(data)
     script.close()
     script.open(7, [0x80], 1, 7)
@@ -63,7 +63,7 @@ def each_kind(script: Script) -> None:
         script.simulate(6, A_SETS, PATTERNS, [Crash(drive, 1, 0) for drive in drives])
 
 
-FIXED = (each_kind, make_samples, *set_calls.LIMITS, *run_calls.LIMITS)
+FIXED = (each_kind, make_messages, make_calls, *set_calls.LIMITS, *run_calls.LIMITS)
 
 
 def fixed_scripts() -> Iterator[Script]:

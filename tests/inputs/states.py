@@ -9,27 +9,31 @@ from regdulyn import Exchange
 
 from .frames import full, places
 from .messages import some_drives
+from .records import OLD_PATTERNS
+from .scenarios import any_pattern
 
 
 def fair_state(rng: Random) -> Exchange:
-    """A state that keeps every rule, and is otherwise anything."""
+    """A state that keeps every rule, and is otherwise anything; at times every number is one
+    that an old record can have."""
     n = rng.choice((1, 2, 6, 63, 64, rng.randint(1, 64)))
     core = some_drives(rng, full(n)) or 1 << rng.randrange(n)
     own = rng.choice(places(core)) + 1 if rng.random() < 0.7 else rng.randint(1, n)
     itself = core & 1 << own - 1
     size = core.bit_count()
     known = some_drives(rng, core) | itself
-    numbers = [rng.randrange(65536) if known >> place & 1 or rng.random() < 0.1 else 0
-               for place in range(64)]
+    small = rng.random() < 0.3
+    numbers = [(rng.randrange(OLD_PATTERNS) if small else any_pattern(rng))
+               if known >> place & 1 or rng.random() < 0.1 else 0 for place in range(64)]
     heard = some_drives(rng, core)
-    announcement = (rng.choice((0, own, n, 64, 255)), rng.randrange(65536))
+    announcement = (rng.choice((0, own, n, 64, 255)), any_pattern(rng))
     return Exchange(
         n=n, own=own, core=core, round=rng.choice((1, size, rng.randint(1, size))),
         heard_before=rng.choice((core, core, heard | itself, heard, 0, some_drives(rng, core))),
         heard=rng.choice((0, heard, heard, core)), known=known,
         known_at_start=rng.choice((known, some_drives(rng, core) | itself)), numbers=numbers,
         announcement=announcement if rng.random() < 0.3 else None,
-        decision=rng.choice((0, 65535, rng.randrange(65536))) if rng.random() < 0.3 else None,
+        decision=any_pattern(rng) if rng.random() < 0.3 else None,
         halted=rng.random() < 0.15)
 
 

@@ -16,7 +16,7 @@ from .listings import Decisions, RunListing, Unfit, run_listing
 
 @dataclass(frozen=True)
 class Send:
-    """One drive's message of a round: whether it is its decision (DC), who gets it, and who of those that go on does
+    """One drive's message of a round: whether it is its decision (DW), who gets it, and who of those that go on does
     not, since the sender stops first."""
 
     sender: int

@@ -208,6 +208,8 @@ class Legend:
         self.p, self.d = picture, picture.drawing
         self.y = picture.foot + 34
         self.width = max(self.d.right, LEAST_WIDTH) - MARGIN
+        boxes = (picture.box_width(d) for d, decision in picture.course.decided.items() if decision)
+        self.sample = max([48, *boxes])
 
     def draw(self) -> None:
         p, course = self.p, self.p.course
@@ -224,9 +226,9 @@ class Legend:
         if any(course.stop(d) for d in p.y):
             self._entry(self._cross, "the drive stops: its supply is gone before the round closes")
         if any(not send.decided for send in sends):
-            self._entry(self._known, "a message (KN): the white square sends all that it knows, the dots get it")
+            self._entry(self._known, "a message (KW): the white square sends all that it knows, the dots get it")
         if any(send.decided for send in sends):
-            self._entry(self._decide, "a message (DC): the black square sends its decision, the dots get it")
+            self._entry(self._decide, "a message (DW): the black square sends its decision, the dots get it")
         if any(send.missed for send in sends):
             self._entry(self._missed, "does not get the message: its sender stops before this send")
         self.y += 4
@@ -253,8 +255,9 @@ class Legend:
 
     def _entry(self, sample: Callable[[float, float], None], text: str) -> None:
         """A sample of the mark and what it means."""
-        sample(MARGIN + 24, self.y - 4)
-        self.y = self.d.paragraph(MARGIN + 62, self.y, text, self.width - 62, 13) + 6
+        sample(MARGIN + self.sample / 2, self.y - 4)
+        left = self.sample + 14
+        self.y = self.d.paragraph(MARGIN + left, self.y, text, self.width - left, 13) + 6
 
     def _decision(self, x: float, y: float) -> None:
         self._box(x, y, True)

@@ -14,9 +14,9 @@ pub struct Exchange {
     pub heard: u64,
     known: u64,
     start: u64,
-    numbers: [u16; 64],
-    announced: Option<(u8, u16)>,
-    pub decision: Option<u16>,
+    numbers: [u32; 64],
+    announced: Option<(u8, u32)>,
+    pub decision: Option<u32>,
     pub halted: bool,
 }
 
@@ -24,7 +24,14 @@ fn single(drive: u8) -> u64 {
     1 << (drive - 1)
 }
 
-pub fn open(n: u8, sets: &[u64], own: u8, number: u16) -> Answer<Exchange> {
+/// A pattern number of two or four bytes, lowest first.
+pub fn number(bytes: &[u8]) -> u32 {
+    let mut wide = [0; 4];
+    wide[..bytes.len()].copy_from_slice(bytes);
+    u32::from_le_bytes(wide)
+}
+
+pub fn open(n: u8, sets: &[u64], own: u8, number: u32) -> Answer<Exchange> {
     let core = accept(n, sets)?.cores[0];
     if !(1..=n).contains(&own) {
         return Err(8);
@@ -33,7 +40,7 @@ pub fn open(n: u8, sets: &[u64], own: u8, number: u16) -> Answer<Exchange> {
 }
 
 /// The state at opening.
-pub fn initial(n: u8, core: u64, own: u8, number: u16) -> Exchange {
+pub fn initial(n: u8, core: u64, own: u8, number: u32) -> Exchange {
     let known = core & single(own);
     let mut numbers = [0; 64];
     if known != 0 {
@@ -82,17 +89,17 @@ impl Exchange {
         if self.core & single(self.own) == 0 {
             return Err(27);
         }
-        let size = self.decision.map_or(12 + 2 * self.start.count_ones() as usize, |_| 6);
+        let size = self.decision.map_or(12 + 4 * self.start.count_ones() as usize, |_| 8);
         let part = buffer.get_mut(start..).and_then(|rest| rest.get_mut(..size)).ok_or(14u64)?;
         match self.decision {
             Some(number) => {
-                part[..4].copy_from_slice(&[b'D', b'C', self.own, self.round]);
+                part[..4].copy_from_slice(&[b'D', b'W', self.own, self.round]);
                 part[4..].copy_from_slice(&number.to_le_bytes());
             }
             None => {
-                part[..4].copy_from_slice(&[b'K', b'N', self.own, self.round]);
+                part[..4].copy_from_slice(&[b'K', b'W', self.own, self.round]);
                 part[4..12].copy_from_slice(&self.start.to_le_bytes());
-                for (value, drive) in part[12..].chunks_exact_mut(2).zip(bits(self.start)) {
+                for (value, drive) in part[12..].chunks_exact_mut(4).zip(bits(self.start)) {
                     value.copy_from_slice(&self.numbers[drive.trailing_zeros() as usize].to_le_bytes());
                 }
             }
@@ -138,8 +145,10 @@ impl Exchange {
         }
         let (mark, rest) = bytes.split_first_chunk::<2>().ok_or(1u64)?;
         match mark {
-            b"KN" => self.known(rest),
-            b"DC" => self.decide(rest),
+            b"KW" => self.known::<4>(rest),
+            b"DW" => self.decide::<4>(rest),
+            b"KN" => self.known::<2>(rest),
+            b"DC" => self.decide::<2>(rest),
             _ => Err(2),
         }
     }
@@ -162,7 +171,8 @@ impl Exchange {
         Ok(one)
     }
 
-    fn known(&mut self, rest: &[u8]) -> Answer<()> {
+    /// A KW or KN: the numbers of four or two bytes.
+    fn known<const WIDTH: usize>(&mut self, rest: &[u8]) -> Answer<()> {
         let (head, values) = rest.split_first_chunk::<10>().ok_or(1u64)?;
         let (sender, round) = (head[0], head[1]);
         let mask = u64::from_le_bytes(head[2..].try_into().unwrap());
@@ -172,13 +182,12 @@ impl Exchange {
         if mask & single(sender) == 0 || mask & !full(self.n) != 0 {
             return Err(15);
         }
-        let size = 2 * mask.count_ones() as usize;
+        let size = WIDTH * mask.count_ones() as usize;
         if values.len() != size {
             return Err(if values.len() < size { 1 } else { 7 });
         }
         let one = self.admit(sender, round, mask)?;
-        let entries = || bits(mask).zip(values.chunks_exact(2));
-        let number = |value: &[u8]| u16::from_le_bytes([value[0], value[1]]);
+        let entries = || bits(mask).zip(values.chunks_exact(WIDTH));
         for (drive, value) in entries() {
             if self.known & drive != 0 && self.numbers[drive.trailing_zeros() as usize] != number(value) {
                 return Err(25);
@@ -192,9 +201,10 @@ impl Exchange {
         Ok(())
     }
 
-    fn decide(&mut self, rest: &[u8]) -> Answer<()> {
-        let (head, behind) = rest.split_first_chunk::<4>().ok_or(1u64)?;
-        let (sender, round) = (head[0], head[1]);
+    /// A DW or DC.
+    fn decide<const WIDTH: usize>(&mut self, rest: &[u8]) -> Answer<()> {
+        let (&[sender, round], rest) = rest.split_first_chunk::<2>().ok_or(1u64)?;
+        let (value, behind) = rest.split_first_chunk::<WIDTH>().ok_or(1u64)?;
         if !(1..=self.n).contains(&sender) {
             return Err(8);
         }
@@ -203,7 +213,7 @@ impl Exchange {
         }
         self.heard |= self.admit(sender, round, 0)?;
         if self.announced.is_none_or(|(lowest, _)| sender < lowest) {
-            self.announced = Some((sender, u16::from_le_bytes([head[2], head[3]])));
+            self.announced = Some((sender, number(value)));
         }
         Ok(())
     }

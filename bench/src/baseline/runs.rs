@@ -1,7 +1,7 @@
 //! The run program: a table, a run file, a simulated exchange by messages, and its text.
 
 use super::cores::bits;
-use super::exchange::{initial, Exchange};
+use super::exchange::{initial, number, Exchange};
 use super::tables::{full, mark, read_with_rest, Table};
 use super::Answer;
 use std::io::Write;
@@ -11,7 +11,7 @@ type Crash = Option<(u8, u8)>;
 
 struct Scenario {
     table: Table,
-    numbers: Vec<u16>,
+    numbers: Vec<u32>,
     crashes: [Crash; 64],
 }
 
@@ -21,14 +21,19 @@ fn read(bytes: &[u8]) -> Answer<Scenario> {
     let mut numbers = Vec::with_capacity(64);
     for due in 1..=n {
         let (kind, fields) = mark(rest)?;
-        if &kind != b"PR" {
-            return Err(2);
+        let size = match &kind {
+            b"PW" => 5,
+            b"PR" => 3,
+            _ => return Err(2),
+        };
+        if fields.len() < size {
+            return Err(1);
         }
-        let ([drive, low, high], behind) = fields.split_first_chunk::<3>().ok_or(1u64)?;
-        if *drive != due {
+        let (record, behind) = fields.split_at(size);
+        if record[0] != due {
             return Err(8);
         }
-        numbers.push(u16::from_le_bytes([*low, *high]));
+        numbers.push(number(&record[1..]));
         rest = behind;
     }
     let (mut crashes, mut crashed, mut last, mut count) = ([None; 64], 0u64, 0, 0);
@@ -69,11 +74,11 @@ fn read(bytes: &[u8]) -> Answer<Scenario> {
 }
 
 /// The first decision of each drive: the number and the round.
-fn play(s: &Scenario) -> Vec<Option<(u16, u8)>> {
+fn play(s: &Scenario) -> Vec<Option<(u32, u8)>> {
     let (n, core) = (s.table.n, s.table.cores[0]);
     let mut states: Vec<Exchange> = (1..=n).map(|own| initial(n, core, own, s.numbers[own as usize - 1])).collect();
     let mut found = vec![None; n as usize];
-    let mut bytes = [0; 140];
+    let mut bytes = [0; 268];
     for round in 1..=core.count_ones() as u8 {
         let began: Vec<Exchange> = states.clone();
         for sender in bits(core) {
