@@ -159,7 +159,8 @@ fn run(name: &str, stops: bool) -> Case {
     )
 }
 
-// The calls of one drive, each on the same state again and again: the library's is copied into the call and out of it, as a controller has it.
+// The calls of one drive, each on the same state again and again: the library's is copied into the call and out of it,
+// as a controller has it.
 
 /// The opening; its result is the round.
 fn open(start: Start) -> Case {
@@ -234,8 +235,8 @@ fn send(start: Start) -> Case {
     )
 }
 
-/// In the last three each KW tells all numbers. Core drive 1 has heard only one sender, so it is undecided and sends all 64. Listener 64 has heard one of 16
-/// core drives, so it goes on.
+/// In the last three each KW tells all numbers. Core drive 1 has heard only one sender, so it is undecided and sends all
+/// 64. Listener 64 has heard one of 16 core drives, so it goes on.
 pub fn all() -> Vec<Case> {
     let mut cases = vec![
         cores(inputs::all_but_one(45)),

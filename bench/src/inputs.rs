@@ -26,7 +26,8 @@ pub fn all_but_two(n: u8) -> Input {
     Input { name: "14 of 16".to_string(), n, sets }
 }
 
-/// One drive of each of seven pairs, in every way: 128 sets, whose cores are the pairs. With a drive that all sets share, if asked for.
+/// One drive of each of seven pairs, in every way: 128 sets, whose cores are the pairs. With a drive that all sets
+/// share, if asked for.
 pub fn one_of_each_pair(shared: bool) -> Input {
     let extra = if shared { 1 << 14 } else { 0 };
     let choice = |taken: u64| (0..7).map(|pair| 1 << (2 * pair + (taken >> pair & 1))).sum::<u64>();
@@ -77,8 +78,8 @@ fn single_sets(count: u8) -> Vec<u64> {
     (0..count).map(|place| 1 << place).collect()
 }
 
-/// Drive `own` of 64, of which the first `core` are each a set alone and so the chosen core, and `count` KWs of the other core drives in round 1,
-/// each with all numbers of the core.
+/// Drive `own` of 64, of which the first `core` are each a set alone and so the chosen core, and `count` KWs of the other
+/// core drives in round 1, each with all numbers of the core.
 pub fn single_drives(core: u8, own: u8, count: usize) -> Start {
     let numbers: Vec<u8> = (0..u32::from(core)).flat_map(|place| (OWN_NUMBER + place).to_le_bytes()).collect();
     let message = |sender: u8| [&[b'K', b'W', sender, 1], &full(core).to_le_bytes()[..], &numbers].concat();
@@ -93,7 +94,8 @@ pub fn single_drives(core: u8, own: u8, count: usize) -> Start {
     }
 }
 
-/// A table of 64 single drives and a run file in which each drive but the last stops in the round of its number, if asked for, after one send.
+/// A table of 64 single drives and a run file in which each drive but the last stops in the round of its number, if asked
+/// for, after one send.
 pub fn whole_exchange(stops: bool) -> Vec<u8> {
     let mut file = table_bytes(64, &single_sets(64));
     for drive in 1..=64u8 {
