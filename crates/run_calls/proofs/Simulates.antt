@@ -28,10 +28,10 @@ use Rattle.drive_states.specs.State.{values}
 use Rattle.drive_crashes.specs.Crashes.{noRound, crashesIn}
 use Rattle.run_files.specs.declared.reading.RunFile as files
 use Rattle.simulation.specs.Simulation.{Simulated, checkedCrashes, unlessTouched, simulated}
-use Rattle.simulation.specs.Endings.{foundOf, endingsIn, simulatedOutcome}
+use Rattle.simulated_decisions.specs.Endings.{endingFor, endingAt, foundOf}
+use Rattle.simulation.specs.Endings.{endingsIn, simulatedOutcome}
 use Rattle.simulation.specs.declared.simulating.Simulated as simulations
 use Rattle.run_listing.specs.RunListing.{simulatedWith}
-use Rattle.run_listing.specs.RunParts.{endingFor, endingAt}
 use Rattle.run_calls.specs.declared.simulating.DriveEnding.{DriveEnding}
 use Rattle.run_calls.specs.declared.simulating.SimulationReply.{SimulationReply}
 use Rattle.run_calls.specs.Simulations.{noEnding, driveEnding, inDrives, simulationReply}

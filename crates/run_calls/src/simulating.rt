@@ -11,7 +11,7 @@ ghost use Rattle.drive_crashes.specs.Crashes.{crashesIn};
 ghost use Rattle.simulation.specs.Simulation.{simulated};
 ghost use Rattle.simulation.specs.Endings.{simulatedOutcome};
 ghost use Rattle.run_listing.specs.RunListing.{simulatedWith};
-ghost use Rattle.run_listing.specs.RunParts.{endingFor, endingAt};
+ghost use Rattle.simulated_decisions.specs.Endings.{endingFor, endingAt};
 ghost use Rattle.run_calls.specs.Simulations.{noEnding, driveEnding, inDrives, simulationReply, crashesOf};
 use drive_crashes::Crashes;
 use drive_sets::Answer;

@@ -5,11 +5,12 @@ use Prim.Native.Nat.{ℕ, zero, suc, _+_, _<_}
 use native.Mathlib.Omega.{arith}
 use lib.ListN.{getD, take}
 use Rattle.drive_sets.specs.Lists.{range}
-use Rattle.simulation.specs.Endings.{endingBy, endingsIn, foundOf, simulatedOutcome}
+use Rattle.simulated_decisions.specs.Endings.{endingBy, endingFor, endingAt, foundOf}
+use Rattle.simulation.specs.Endings.{endingsIn, simulatedOutcome}
 use Rattle.agreement.specs.RoundEndings.{Ending}
 use Rattle.text.specs.Text.{joined, refusalLine}
 use Rattle.run_listing.specs.RunListing.{driveLine, endingLines, coreLine, runText, simulatedWith}
-use Rattle.run_listing.specs.RunParts.{endingFor, driveLines, endingAt}
+use Rattle.run_listing.specs.RunParts.{driveLines}
 use Rattle.drive_sets.specs.Refusals.{Outcome, andThen, number, outcomeOf}
 use Rattle.drive_sets.specs.declared.Refusal.{Refusal}
 use Rattle.table_files.specs.Files.{ReadTable}

@@ -3,7 +3,7 @@
 use mathlib.Core.Path.{_≡_, refl, sym, ap, ap₂, _∙_, subst}
 use mathlib.Core.Bool.{Bool, true, false, _&&_, cond}
 use mathlib.Core.List.{List, [], _∷_, map}
-use Prim.Native.Nat.{ℕ, _-_, _^_, _≤_, _<_}
+use Prim.Native.Nat.{ℕ, _-_, _^_, _<_}
 use native.Mathlib.Omega.{arith}
 use lib.ListN.{length, getD, take, List·getD-map}
 use lib.Seq.{getD-take}
@@ -22,7 +22,7 @@ use Rattle.drive_sets.specs.Refusals.{Outcome, refused, result, andThen}
 use Rattle.drive_sets.specs.Refusals.Laws.{refused-no-result}
 use Rattle.survivor_tables.specs.Order.{normal}
 use Rattle.survivor_tables.specs.Tables.{chosen, normalTable, chosenCore, Accepted}
-use Rattle.survivor_tables.specs.Tables.Laws.{accepted-table, core-given, chosen-core}
+use Rattle.survivor_tables.specs.Tables.Laws.{accepted-table, core-given}
 use Rattle.drive_sets.specs.Counts.{isDrive}
 use Rattle.drive_sets.specs.Limits.{patternLimit}
 use Rattle.drive_sets.specs.Counts.Laws.{drive-bounds, isDrive-range}
@@ -40,7 +40,7 @@ use Rattle.simulation.specs.Simulation.{checkedCrashes, Simulated, simul
 use Rattle.simulation.specs.Simulation.Laws.{checked-valid}
 use Rattle.drive_states.specs.State.{pattern, numberIn}
 use Rattle.simulated_rounds.specs.Rounds.{crashAt, Says}
-use Rattle.simulation.specs.Arguments.{Told}
+use Rattle.simulated_decisions.specs.Arguments.{Told}
 
 -- ---- the result of a scenario
 
@@ -106,9 +106,6 @@ module _ (n : ℕ) (sets : List ℕ) (numbers : List Pattern) (c : Crashes) (cor
   -- the table is accepted, and this is its chosen core
   given : Accepted n sets × (chosen (normal sets) ≡ core)
   given = core-given n sets e
-
-  pub chosen-bounds : (n ≤ 64) × (core < 2 ^ n)
-  chosen-bounds = (given .0 .high, subst (λ (x : ℕ). x < 2 ^ n) (given .1) (chosen-core n sets (given .0) .within))
 
   pub told : ((i : ℕ) → getD numbers i (pattern 0) .0 < patternLimit)
       → checkedCrashes n core 0 (by-drive.crashesIn c) (result (by-drive.crashesIn c)) ≡ result (by-drive.crashesIn c)

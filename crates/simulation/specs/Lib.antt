@@ -1,4 +1,3 @@
--- The simulated exchange, that it reaches agreement, and what the code's values say.
+-- The simulated exchange, that it reaches agreement, and what the code's answer says.
 pub mod Simulation
-pub mod Arguments
 pub mod Endings

@@ -1,8 +1,4 @@
-// The simulated exchange: what the canonical run of a scenario gives. An opening is the state that `open` gives, for a
-// core that is worked out once; each round is a call of `simulated_rounds`, with the states of the drives in an array
-// by value as there.
+// The simulated exchange as a call: what the canonical run of a scenario gives, from the first decisions of
+// `simulated_decisions`.
 mod checking;
-mod noting;
-mod opened;
-mod running;
 pub mod simulating;

@@ -1,7 +1,6 @@
 // The simulated exchange as a call. The crashes are handed over by drive, as the run file reader gives them: at most
 // one to a drive, rising.
 ghost use mathlib.Core.Path.{_≡_};
-ghost use Prim.Native.Nat.{_^_, _≤_, _<_};
 ghost use lib.ListN.{take};
 ghost use Rattle.drive_sets.specs.Refusals.{result, Alone};
 ghost use Rattle.survivor_tables.specs.Tables.{chosenCore};
@@ -10,25 +9,19 @@ ghost use Rattle.runs.specs.CrashRecords.{crashed};
 ghost use Rattle.drive_crashes.specs.Crashes.{crashesIn};
 ghost use Rattle.drive_states.specs.State.{values};
 ghost use Rattle.simulation.specs.Simulation.{checkedCrashes, simulatedOf, unlessTouched, simulated};
-ghost use Rattle.simulation.specs.Arguments.{Told};
+ghost use Rattle.simulated_decisions.specs.Arguments.{Told};
 ghost use Rattle.simulation.specs.Endings.{refusedSimulated, simulatedOutcome};
 use crate::checking;
-use crate::noting;
-use crate::running;
 use drive_crashes::Crashes;
 use drive_sets::Answer;
 use drive_sets::Pattern;
 use drive_sets::Position;
 use drive_sets::Refusal;
-use drive_sets::Round;
+use simulated_decisions::noting;
+use simulated_decisions::noting::Notes;
+use simulated_decisions::running;
 use survivor_tables::missed::first_missed;
 use tables::calls::Chosen;
-
-// For each drive, drive 1 first, the round in which it decided, 0 where it has not, and the pattern number.
-pub struct Notes {
-    pub rounds: [Round; 64],
-    pub numbers: [Pattern; 64],
-}
 
 // How the drives end, where the call is accepted: a drive with a CR is stopped, and the first decisions of the others;
 // the core, and f.
@@ -54,11 +47,10 @@ fn refused(r: Refusal) -> Simulated
 
 // The simulated exchange of an accepted table with this core, where the crashes pass.
 fn result_on(n: u8, core: u64, numbers: [Pattern; 64], crashes: Crashes) -> Simulated
-    requires { ⌜ (n ≤ 64) × (core < 2 ^ n) ⌝ }
     ensures { λ r. ⌜ ((s : Scenario) → Told n core numbers crashes s → simulatedOutcome n r ≡ result (simulatedOf s)) ⌝ }
     ensures taken { λ r. ⌜ r .answer ≡ Answer.Accepted ⌝ }
 {
-    let found = running::run(n, core, numbers, crashes);
+    let found = running::first_decisions(n, core, numbers, crashes);
     let crashed = crashes.crashed;
     let stops = drive_sets::size(core & crashed);
     Simulated {

@@ -1,7 +1,6 @@
 -- Stopped, undecided, or the decision with its round.
 use borrow.Author.Tests.{eq-eqb, ne-eqb}
-use Rattle.simulation.specs.Endings.{endingBy}
-use Rattle.run_listing.specs.RunParts.{endingFor}
+use Rattle.simulated_decisions.specs.Endings.{endingBy, endingFor}
 use borrow.Author.Needs.{needs}
 use Rattle.run_calls.proofs.simulating.ending_of.Statement.{statement}
 use Rattle.run_calls.proofs.simulating.ending_of.Tie as tie

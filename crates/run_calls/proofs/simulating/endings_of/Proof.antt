@@ -3,7 +3,7 @@ use mathlib.Core.Path.{sym, subst}
 use Prim.Native.Nat.{_-_}
 use lib.ListN.{replicate}
 use Rattle.drive_sets.specs.Limits.{maxDrives}
-use Rattle.run_listing.specs.RunParts.{endingAt}
+use Rattle.simulated_decisions.specs.Endings.{endingAt}
 use Rattle.run_calls.specs.declared.simulating.DriveEnding.{DriveEnding}
 use Rattle.run_calls.proofs.Simulates.{Putting, putting-start, drive-turn, putting-end}
 use borrow.Author.Needs.{needs}

@@ -7,7 +7,7 @@ use Rattle.drive_crashes.specs.Crashes.{roundAt}
 use Rattle.drive_states.specs.State.{numberIn}
 use Rattle.text.proofs.Puts.{filled-both}
 use Rattle.run_listing.specs.RunListing.{endingText, driveLine}
-use Rattle.run_listing.specs.RunParts.{endingFor, endingAt}
+use Rattle.simulated_decisions.specs.Endings.{endingFor, endingAt}
 use borrow.Author.Needs.{needs}
 use Rattle.run_listing.proofs.run_text.put_drive.Statement.{statement}
 use Rattle.run_listing.proofs.run_text.put_drive.Tie as tie

@@ -5,7 +5,8 @@ use Rattle.drive_sets.specs.Lists.{range}
 use Rattle.drive_sets.specs.Lists.Places.{length-range}
 use Rattle.text.proofs.Puts.{Putting, putting-start, putting-turn, putting-end}
 use Rattle.run_listing.specs.RunListing.{driveLine}
-use Rattle.run_listing.specs.RunParts.{endingAt, driveLines}
+use Rattle.simulated_decisions.specs.Endings.{endingAt}
+use Rattle.run_listing.specs.RunParts.{driveLines}
 use Rattle.run_listing.proofs.RunPrograms.{drive-at}
 use borrow.Author.Needs.{needs}
 use Rattle.run_listing.proofs.run_text.put_drives.Statement.{statement}

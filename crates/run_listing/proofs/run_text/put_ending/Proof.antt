@@ -1,10 +1,9 @@
 -- Stopped, undecided, or the decision with its round.
 use borrow.Author.Tests.{eq-eqb, ne-eqb}
 use Rattle.records.specs.Marks.{ascii}
-use Rattle.simulation.specs.Endings.{endingBy}
+use Rattle.simulated_decisions.specs.Endings.{endingBy, endingFor}
 use Rattle.text.proofs.Puts.{filled-both}
 use Rattle.run_listing.specs.RunListing.{endingText}
-use Rattle.run_listing.specs.RunParts.{endingFor}
 use borrow.Author.Needs.{needs}
 use Rattle.run_listing.proofs.run_text.put_ending.Statement.{statement}
 use Rattle.run_listing.proofs.run_text.put_ending.Tie as tie

@@ -2,10 +2,10 @@
 use native.Mathlib.Omega.{arith}
 use borrow.Author.Tests.{ne-eqb}
 use Rattle.agreement.specs.Canonical.{endingOn}
-use Rattle.simulation.specs.Endings.{endingBy, orLater}
+use Rattle.simulated_decisions.specs.Endings.{endingBy, orLater}
 use borrow.Author.Needs.{needs}
-use Rattle.simulation.proofs.noting.first_decision.Statement.{statement}
-use Rattle.simulation.proofs.noting.first_decision.Tie as tie
+use Rattle.simulated_decisions.proofs.noting.first_decision.Statement.{statement}
+use Rattle.simulated_decisions.proofs.noting.first_decision.Tie as tie
 
 pub first-decision-spec : {M : Type 1} → statement M
 unfolding orLater endingOn endingBy

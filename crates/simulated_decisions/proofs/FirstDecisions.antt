@@ -20,7 +20,7 @@ use Rattle.agreement.specs.Canonical.{endingOn}
 use Rattle.drive_crashes.specs.Crashes.{noRound, roundAt}
 use Rattle.drive_states.specs.State.{pattern, numberIn}
 use Rattle.simulated_sends.specs.States.{blank, stateAt}
-use Rattle.simulation.specs.Endings.{endingBy, foundOf, nothingFound, orLater}
+use Rattle.simulated_decisions.specs.Endings.{endingBy, foundOf, nothingFound, orLater}
 
 -- ---- nothing found
 

@@ -5,18 +5,19 @@ ghost use Prim.Native.Nat.{ℕ, _^_, _≤_, _<_};
 ghost use Rattle.drive_sets.specs.Counts.{isDrive};
 ghost use Rattle.runs.specs.Scenario.{Scenario};
 ghost use Rattle.agreement.specs.Canonical.{canonicalEnding};
-ghost use Rattle.simulation.specs.Arguments.{Told};
-ghost use Rattle.simulation.specs.Endings.{foundOf};
+ghost use Rattle.simulated_decisions.specs.Arguments.{Told};
+ghost use Rattle.simulated_decisions.specs.Endings.{foundOf};
 use crate::noting;
+use crate::noting::Notes;
 use crate::opened;
-use crate::simulating::Notes;
 use drive_crashes::Crashes;
+use drive_sets::MAX_DRIVES;
 use drive_sets::Pattern;
 use drive_sets::Round;
 use simulated_rounds::rounds;
 
 // The first decisions of the drives 1 to n, where the table has this chosen core.
-pub(crate) fn run(n: u8, core: u64, numbers: [Pattern; 64], crashes: Crashes) -> Notes
+fn run(n: u8, core: u64, numbers: [Pattern; 64], crashes: Crashes) -> Notes
     requires { ⌜ (n ≤ 64) × (core < 2 ^ n) ⌝ }
     ensures { λ r. ⌜ ((s : Scenario) → Told n core numbers crashes s → (d : ℕ) → isDrive n d ≡ true → foundOf r d ≡ canonicalEnding s d) ⌝ }
 {
@@ -33,4 +34,17 @@ pub(crate) fn run(n: u8, core: u64, numbers: [Pattern; 64], crashes: Crashes) ->
         done += 1;
     }
     found
+}
+
+// The same of any frame and core: nothing where the frame does not hold the core, which no scenario has.
+pub fn first_decisions(n: u8, core: u64, numbers: [Pattern; 64], crashes: Crashes) -> Notes
+    ensures { λ r. ⌜ ((s : Scenario) → Told n core numbers crashes s → (d : ℕ) → isDrive n d ≡ true → foundOf r d ≡ canonicalEnding s d) ⌝ }
+{
+    if MAX_DRIVES < n {
+        return noting::nothing();
+    }
+    if !drive_sets::subset(core, drive_sets::full(n)) {
+        return noting::nothing();
+    }
+    run(n, core, numbers, crashes)
 }

@@ -1,14 +1,14 @@
 -- The drives one after the other.
 use borrow.Author.Needs.{needs}
-use Rattle.simulation.proofs.FirstDecisions.{Noting, note-start, note-turn, note-end}
+use Rattle.simulated_decisions.proofs.FirstDecisions.{Noting, note-start, note-turn, note-end}
 use Rattle.drive_states.specs.State.{numberIn}
-use Rattle.simulation.specs.Endings.{foundOf}
+use Rattle.simulated_decisions.specs.Endings.{foundOf}
 use mathlib.Core.Path.{sym, _∙_}
 use lib.ListN.{length-map}
 use native.Mathlib.Omega.{arith}
 use Prim.Native.Nat.{_-_}
-use Rattle.simulation.proofs.noting.note_all.Statement.{statement}
-use Rattle.simulation.proofs.noting.note_all.Tie as tie
+use Rattle.simulated_decisions.proofs.noting.note_all.Statement.{statement}
+use Rattle.simulated_decisions.proofs.noting.note_all.Tie as tie
 
 abbrev Inv-loop : tie.InvT-loop
 Inv-loop n round states rounds₀ numbers₀ i₀ rounds numbers i = Noting rounds₀ numbers₀ states (round .0) rounds numbers i

@@ -1,13 +1,13 @@
 -- The openings, then round after round.
 use borrow.Author.Needs.{needs}
-use Rattle.simulation.proofs.Openings.{world-opened}
-use Rattle.simulation.proofs.AllRounds.{Running, run-start, run-turn, run-end, all-given}
+use Rattle.simulated_decisions.proofs.Openings.{world-opened}
+use Rattle.simulated_decisions.proofs.AllRounds.{Running, run-start, run-turn, run-end, all-given}
 use Rattle.drive_sets.specs.Masks.Sizes.{size-le}
 use native.Mathlib.Omega.{arith}
 use Prim.Native.Nat.{_-_}
 use mathlib.Core.Path.{_∙_}
-use Rattle.simulation.proofs.running.run.Statement.{statement}
-use Rattle.simulation.proofs.running.run.Tie as tie
+use Rattle.simulated_decisions.proofs.running.run.Statement.{statement}
+use Rattle.simulated_decisions.proofs.running.run.Tie as tie
 
 abbrev Inv-loop : tie.InvT-loop
 Inv-loop n core crashes states₀ found₀ last done₀ states found done = Running n core crashes states₀ states found done

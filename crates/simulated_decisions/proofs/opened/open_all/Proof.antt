@@ -1,10 +1,10 @@
 -- The drives one after the other.
 use borrow.Author.Needs.{needs}
-use Rattle.simulation.proofs.Openings.{Opening, open-start, open-turn, open-end}
+use Rattle.simulated_decisions.proofs.Openings.{Opening, open-start, open-turn, open-end}
 use native.Mathlib.Omega.{arith}
 use Prim.Native.Nat.{_-_}
-use Rattle.simulation.proofs.opened.open_all.Statement.{statement}
-use Rattle.simulation.proofs.opened.open_all.Tie as tie
+use Rattle.simulated_decisions.proofs.opened.open_all.Statement.{statement}
+use Rattle.simulated_decisions.proofs.opened.open_all.Tie as tie
 
 abbrev Inv-loop : tie.InvT-loop
 Inv-loop n core numbers all₀ i₀ all i = Opening n core numbers all i

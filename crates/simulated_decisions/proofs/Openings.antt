@@ -29,7 +29,7 @@ use Rattle.agreement.specs.Canonical.{openingCalls}
 use Rattle.drive_crashes.specs.declared.Crashes.{Crashes}
 use Rattle.drive_states.specs.State.{pattern, numberIn}
 use Rattle.simulated_sends.specs.States.{blank, stateAt, worldOf}
-use Rattle.simulation.specs.Arguments.{Told}
+use Rattle.simulated_decisions.specs.Arguments.{Told}
 
 -- ---- the loop
 

@@ -16,11 +16,11 @@ use Rattle.runs.specs.Scenario.{Scenario, coreOf}
 use Rattle.agreement.specs.RoundEndings.{Ending, decides, undecided, stopped}
 use Rattle.agreement.specs.Canonical.{openingCalls, roundCalls, roundsFrom, canonicalRounds, endingOn, firstDecision, canonicalEnding}
 use Rattle.drive_crashes.specs.declared.Crashes.{Crashes}
-use Rattle.simulation.specs.declared.simulating.Notes.{Notes}
+use Rattle.simulated_decisions.specs.declared.noting.Notes.{Notes}
 use Rattle.simulated_sends.specs.States.{stateAt, worldOf}
 use Rattle.simulated_rounds.specs.Rounds.{Says}
-use Rattle.simulation.specs.Endings.{foundOf, nothingFound, orLater}
-use Rattle.simulation.proofs.FirstDecisions.{nothing-found}
+use Rattle.simulated_decisions.specs.Endings.{foundOf, nothingFound, orLater}
+use Rattle.simulated_decisions.proofs.FirstDecisions.{nothing-found}
 use Rattle.simulated_sends.proofs.Worlds.{world-at}
 
 -- ---- the first decision counts

@@ -6,12 +6,17 @@ ghost use Rattle.drive_sets.specs.Counts.{isDrive};
 ghost use Rattle.agreement.specs.RoundEndings.{undecided};
 ghost use Rattle.agreement.specs.Canonical.{endingOn};
 ghost use Rattle.simulated_sends.specs.States.{stateAt};
-ghost use Rattle.simulation.specs.Endings.{endingBy, foundOf, nothingFound, orLater};
-use crate::simulating::Notes;
+ghost use Rattle.simulated_decisions.specs.Endings.{endingBy, foundOf, nothingFound, orLater};
 use drive_sets::Pattern;
 use drive_sets::Round;
 use drive_states::Decision;
 use drive_states::Exchange;
+
+// For each drive, drive 1 first, the round in which it decided, 0 where it has not, and the pattern number.
+pub struct Notes {
+    pub rounds: [Round; 64],
+    pub numbers: [Pattern; 64],
+}
 
 // The round in which one drive decided, 0 where it has not, and the pattern number.
 struct First {
@@ -20,7 +25,7 @@ struct First {
 }
 
 // Nothing found yet.
-pub(crate) fn nothing() -> Notes
+pub fn nothing() -> Notes
     ensures { λ r. ⌜ r ≡ nothingFound ⌝ }
 {
     Notes {
