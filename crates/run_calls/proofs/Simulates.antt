@@ -32,9 +32,9 @@ use Rattle.simulated_decisions.specs.Endings.{endingFor, endingAt, foundOf}
 use Rattle.simulation.specs.Endings.{endingsIn, simulatedOutcome}
 use Rattle.simulation.specs.declared.simulating.Simulated as simulations
 use Rattle.run_listing.specs.RunListing.{simulatedWith}
-use Rattle.run_calls.specs.declared.simulating.DriveEnding.{DriveEnding}
-use Rattle.run_calls.specs.declared.simulating.SimulationReply.{SimulationReply}
-use Rattle.run_calls.specs.Simulations.{noEnding, driveEnding, inDrives, simulationReply}
+use Rattle.simulation_replies.specs.declared.DriveEnding.{DriveEnding}
+use Rattle.simulation_replies.specs.declared.SimulationReply.{SimulationReply}
+use Rattle.simulation_replies.specs.Replies.{noEnding, driveEnding, inDrives, simulationReply}
 
 -- ---- the loop
 

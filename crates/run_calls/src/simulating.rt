@@ -5,22 +5,26 @@ ghost use Prim.Native.Nat.{_≤_};
 ghost use lib.ListN.{take};
 ghost use Rattle.drive_sets.specs.Limits.{maxDrives};
 ghost use Rattle.drive_sets.specs.Lists.{range};
-ghost use Rattle.drive_sets.specs.Refusals.{refused, number};
 ghost use Rattle.drive_states.specs.State.{values};
 ghost use Rattle.drive_crashes.specs.Crashes.{crashesIn};
 ghost use Rattle.simulation.specs.Simulation.{simulated};
 ghost use Rattle.simulation.specs.Endings.{simulatedOutcome};
 ghost use Rattle.run_listing.specs.RunListing.{simulatedWith};
-ghost use Rattle.simulated_decisions.specs.Endings.{endingFor, endingAt};
-ghost use Rattle.run_calls.specs.Simulations.{noEnding, driveEnding, inDrives, simulationReply, crashesOf};
+ghost use Rattle.simulated_decisions.specs.Endings.{endingAt};
+ghost use Rattle.simulation_replies.specs.Replies.{inDrives, simulationReply};
+ghost use Rattle.run_calls.specs.Simulations.{crashesOf};
 use drive_crashes::Crashes;
 use drive_sets::Answer;
 use drive_sets::Drive;
 use drive_sets::Pattern;
-use drive_sets::Refusal;
 use drive_sets::Round;
 use simulation::simulating::Simulated;
 use simulation::simulating::simulate;
+use simulation_replies::DriveEnding;
+use simulation_replies::SimulationReply;
+use simulation_replies::ending_of;
+use simulation_replies::no_ending;
+use simulation_replies::refused_simulation;
 
 // What the drives propose, drive 1 first, and which of them stop: of each such drive d, at place d - 1, the round and
 // the sends that it still makes.
@@ -30,55 +34,6 @@ pub struct Scenario {
     pub numbers: [Pattern; 64],
     pub rounds: [Round; 64],
     pub sends: [u8; 64],
-}
-
-// How a drive ends: the number on which it decides and the round, 0 in both where it does not; `stopped` is 1 for a
-// drive that stops, even if it decided before.
-#[repr(C)]
-pub struct DriveEnding {
-    pub number: Pattern,
-    pub round: Round,
-    pub stopped: u8,
-}
-
-// How the drives end, drive 1 first, with zeros behind drive n; the chosen core, and how many of its drives stop.
-#[repr(C)]
-pub struct SimulationReply {
-    pub drives: [DriveEnding; 64],
-    pub core: u64,
-    pub stops: u8,
-    pub refusal: u32,
-}
-
-fn no_ending() -> DriveEnding
-    ensures { λ r. ⌜ r ≡ noEnding ⌝ }
-{
-    DriveEnding {
-        number: Pattern(0),
-        round: Round(0),
-        stopped: 0,
-    }
-}
-
-// How a drive ends: the round is 0 where it has not decided.
-fn ending_of(crashes: bool, round: Round, number: Pattern) -> DriveEnding
-    ensures { λ r. ⌜ r ≡ driveEnding (endingFor crashes (round .0) (number .0)) ⌝ }
-{
-    if crashes {
-        return DriveEnding {
-            number: Pattern(0),
-            round: Round(0),
-            stopped: 1,
-        };
-    }
-    if round.0 == 0 {
-        return no_ending();
-    }
-    DriveEnding {
-        number,
-        round,
-        stopped: 0,
-    }
 }
 
 // How the drives 1 to n end, with zeros behind them.
@@ -98,18 +53,6 @@ fn endings_of(n: u8, crashed: u64, rounds: [Round; 64], numbers: [Pattern; 64]) 
         i += 1;
     }
     drives
-}
-
-fn refused_simulation(r: Refusal) -> SimulationReply
-    ensures { λ t. ⌜ t ≡ simulationReply (refused (number r)) ⌝ }
-{
-    let none = no_ending();
-    SimulationReply {
-        drives: [none; 64],
-        core: 0,
-        stops: 0,
-        refusal: r.number() as u32,
-    }
 }
 
 // What the simulated exchange of n drives gave.

@@ -6,7 +6,7 @@ use Prim.Native.Nat.{ℕ, suc}
 use lib.Dec.{eqb, ltb}
 use lib.ListN.{length}
 use Rattle.drive_sets.specs.Counts.{isRound}
-use Rattle.drive_sets.specs.Refusals.{Outcome, refused, result}
+use Rattle.drive_sets.specs.Refusals.{Outcome, result}
 use Rattle.drive_sets.specs.Refusals.Numbered.{Numbered, result-numbered, if-numbered, then-numbered}
 use Rattle.drive_sets.specs.Positions.{isNone}
 use Rattle.survivor_tables.specs.Hitting.{firstMissed}
@@ -16,16 +16,10 @@ use Rattle.survivor_tables.specs.Tables.{isEmpty, chosen, normalTable, chosenCo
 use Rattle.runs.specs.CrashRecords.{CrashRecord, crashed, isNext, mostSends, checkedCrash}
 use Rattle.crash_lists.specs.CrashLists.{crashFields, CrashList, noCrash, takenCrash, crashList}
 use Rattle.run_files.specs.RunFiles.{takenProposal, proposalList, readRecords, untouchedLeft, wholeRun, readBehind, readRunFile}
-use Rattle.simulation.specs.Simulation.{Simulated, checkedCrashes, unlessTouched, simulated}
+use Rattle.simulation.specs.Simulation.{checkedCrashes, unlessTouched, simulated}
 use Rattle.run_listing.specs.RunListing.{simulatedWith}
-use Rattle.c_replies.specs.Replies.{refusalOf}
 use Rattle.records.specs.RecordLists.Numbered.{list-numbered}
 use Rattle.survivor_tables.specs.Tables.Numbered.{normal-numbered}
-use Rattle.run_calls.specs.Simulations.{simulationReply}
-
-pub simulation-refusal : (o : Outcome Simulated) → simulationReply o .refusal ≡ refusalOf o
-simulation-refusal (refused r) = refl
-simulation-refusal (result s) = refl
 
 -- ---- the scenario
 

@@ -4,7 +4,7 @@ use Prim.Native.Nat.{_-_}
 use lib.ListN.{replicate}
 use Rattle.drive_sets.specs.Limits.{maxDrives}
 use Rattle.simulated_decisions.specs.Endings.{endingAt}
-use Rattle.run_calls.specs.declared.simulating.DriveEnding.{DriveEnding}
+use Rattle.simulation_replies.specs.declared.DriveEnding.{DriveEnding}
 use Rattle.run_calls.proofs.Simulates.{Putting, putting-start, drive-turn, putting-end}
 use borrow.Author.Needs.{needs}
 use Rattle.run_calls.proofs.simulating.endings_of.Statement.{statement}

@@ -1,6 +1,6 @@
 -- The refusal of the file, or what its simulated exchange gave.
 use mathlib.Core.Path.{ap, _∙_}
-use Rattle.run_calls.specs.Simulations.{simulationReply}
+use Rattle.simulation_replies.specs.Replies.{simulationReply}
 use Rattle.run_calls.proofs.Simulates.{simulated-frame, file-said, file-told}
 use borrow.Author.Needs.{needs}
 use Rattle.run_calls.proofs.simulating.regdulyn_simulate_file.Statement.{statement}

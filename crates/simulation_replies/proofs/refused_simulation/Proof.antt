@@ -3,10 +3,10 @@ use mathlib.Core.Path.{ap₂}
 use Prim.Native.Nat.{ℕ}
 use lib.ListN.{replicate}
 use Rattle.drive_sets.specs.Limits.{maxDrives}
-use Rattle.run_calls.specs.declared.simulating.DriveEnding.{DriveEnding}
+use Rattle.simulation_replies.specs.declared.DriveEnding.{DriveEnding}
 use borrow.Author.Needs.{needs}
-use Rattle.run_calls.proofs.simulating.refused_simulation.Statement.{statement}
-use Rattle.run_calls.proofs.simulating.refused_simulation.Tie as tie
+use Rattle.simulation_replies.proofs.refused_simulation.Statement.{statement}
+use Rattle.simulation_replies.proofs.refused_simulation.Tie as tie
 
 pub refused-simulation-spec : {M : Type 1} → statement M
 refused-simulation-spec =

@@ -2,8 +2,8 @@
 use borrow.Author.Tests.{eq-eqb, ne-eqb}
 use Rattle.simulated_decisions.specs.Endings.{endingBy, endingFor}
 use borrow.Author.Needs.{needs}
-use Rattle.run_calls.proofs.simulating.ending_of.Statement.{statement}
-use Rattle.run_calls.proofs.simulating.ending_of.Tie as tie
+use Rattle.simulation_replies.proofs.ending_of.Statement.{statement}
+use Rattle.simulation_replies.proofs.ending_of.Tie as tie
 
 pub ending-of-spec : {M : Type 1} → statement M
 unfolding endingFor endingBy

@@ -1,0 +1,2 @@
+-- The reply of the simulated exchange.
+pub mod Replies
