@@ -1,3 +1,2 @@
 -- What the functions' proofs share.
 mod Outcomes
-mod ReadTables

@@ -1,3 +1,2 @@
--- The replies of the calls, and what a reader holds.
+-- The replies of the calls given n and sets.
 pub mod Replies
-pub mod Reading

@@ -10,9 +10,9 @@ ghost use Rattle.drive_sets.specs.Lent.{fitting, sizeWritten, bufferAfter};
 ghost use Rattle.verdicts.specs.Calls.{verdict};
 ghost use Rattle.c_replies.specs.Replies.{sizeReply};
 ghost use Rattle.table_calls.specs.Replies.{missedReply, verdictReply};
-use crate::lists;
 use c_replies::SizeReply;
 use drive_sets::Answer;
+use table_replies::lists;
 use tables::calls::MissedSet;
 
 // The position of the first set that a group misses, 0 for none.

@@ -2,5 +2,4 @@
 // by value, as a struct of numbers whose `refusal` is 0 where the call is accepted. Beside a refusal the rest of a
 // reply is 0, and lent memory is as it was.
 mod calls;
-mod lists;
 mod reading;

@@ -1,36 +1,27 @@
--- No call about tables is refused with the number 0: so a reply has refusal 0 exactly where the call is accepted.
+-- No call given n and sets is refused with the number 0: so a reply has refusal 0 exactly where the call is accepted.
 use mathlib.Core.Path.{_≡_, refl}
 use mathlib.Core.Bool.{not, _&&_}
-use mathlib.Core.List.{List, []}
+use mathlib.Core.List.{List}
 use Prim.Native.Nat.{ℕ}
 use lib.Dec.{leb, ltb}
-use lib.ListN.{length, drop}
+use lib.ListN.{length}
 use Rattle.drive_sets.specs.declared.Position.{Position}
 use Rattle.drive_sets.specs.Lent.{fitting}
 use Rattle.drive_sets.specs.Lent.Laws.{fitting-numbered}
 use Rattle.drive_sets.specs.Limits.{maxSets}
 use Rattle.drive_sets.specs.Refusals.{Outcome, refused, result, andThen}
 use Rattle.drive_sets.specs.Refusals.Numbered.{Numbered, result-numbered, if-numbered, then-numbered}
-use Rattle.records.specs.declared.Due.the-variants.{AtFrame}
-use Rattle.records.specs.Fields.{fieldAt}
-use Rattle.records.specs.Marks.{headOf}
-use Rattle.records.specs.RecordLists.{readList}
-use Rattle.records.specs.RecordLists.Numbered.{record-numbered, list-numbered}
-use Rattle.survivor_tables.specs.Tables.{isFrame, isSet, isEmpty, withinCoreLimit, normalTable, coreList, missedSet, survivorSets}
-use Rattle.survivor_tables.specs.Tables.Numbered.{limit-numbered, normal-numbered, cores-numbered, back-numbered}
-use Rattle.table_files.specs.Files.{ReadTable, takenSet, setList, listedTable, readListed, accepted, readTable, readWhole, tableBytes}
+use Rattle.survivor_tables.specs.Tables.{isFrame, isSet, normalTable, coreList, missedSet, survivorSets}
+use Rattle.survivor_tables.specs.Tables.Numbered.{normal-numbered, cores-numbered, back-numbered}
+use Rattle.table_files.specs.Files.{tableBytes}
 use Rattle.table_writing.specs.Writing.{writeTable}
 use Rattle.complete_tables.specs.Complete.{completeTable}
 use Rattle.threshold.specs.Threshold.{thresholdSets, thresholdTable, thresholdList}
 use Rattle.verdicts.specs.Calls.{judged, verdict}
 use Rattle.c_replies.specs.Replies.{refusalOf}
-use Rattle.table_calls.specs.Replies.{fittingTable, tableReply, missedReply}
+use Rattle.table_calls.specs.Replies.{missedReply}
 
 -- ---- a reply's refusal is the outcome's
-
-pub table-refusal : (s : List ℕ) (o : Outcome ReadTable) → tableReply s o .refusal ≡ refusalOf o
-table-refusal s (refused r) = refl
-table-refusal s (result t) = refl
 
 pub missed-refusal : (o : Outcome Position) → missedReply o .refusal ≡ refusalOf o
 missed-refusal (refused r) = refl
@@ -77,35 +68,3 @@ unfolding verdict judged
 verdict-numbered k n sets =
     if-numbered (not (leb 2 k && leb k 4)) 12 refl
     (then-numbered (normalTable n sets) (judged k n) (normal-numbered n sets) (λ table. if-numbered (leb n k) 33 refl result-numbered))
-
--- ---- the readers
-
-set-numbered : (n : ℕ) (listed s : List ℕ) → Numbered (takenSet n listed s)
-unfolding takenSet
-set-numbered n listed s = if-numbered (leb maxSets (length listed)) 5 refl (if-numbered (not (isSet n (fieldAt 2 8 s))) 4 refl result-numbered)
-
-listed-numbered : (s : List ℕ) → Numbered (readListed s)
-unfolding readListed
-listed-numbered s =
-    let n = fieldAt 2 1 s in
-    record-numbered (headOf AtFrame s) _ (λ kind. if-numbered (not (isFrame n)) 3 refl
-    (then-numbered (readList (setList n) [] (drop 3 s)) (λ l. result (listedTable n l)) (list-numbered (setList n) (set-numbered n) [] (drop 3 s)) (λ l. result-numbered)))
-
-accepted-numbered : (t : ReadTable) → Numbered (accepted t)
-unfolding accepted
-accepted-numbered t = then-numbered (withinCoreLimit (t .sets)) _ (limit-numbered (t .sets)) (λ table. result-numbered)
-
-table-numbered : (old : List ℕ) (o : Outcome ReadTable) → Numbered o → Numbered (fittingTable old o)
-unfolding fittingTable
-table-numbered old o h =
-    then-numbered o _ h (λ t. then-numbered (fitting 0 (length old) (t .sets)) (λ sets. result t) (fitting-numbered 0 (length old) (t .sets)) (λ sets. result-numbered))
-
-pub read-numbered : (s old : List ℕ) → Numbered (fittingTable old (readTable s))
-unfolding readTable
-read-numbered s old = table-numbered old (readTable s) (then-numbered (readListed s) accepted (listed-numbered s) accepted-numbered)
-
-pub whole-numbered : (s old : List ℕ) → Numbered (fittingTable old (readWhole s))
-unfolding readWhole
-whole-numbered s old =
-    table-numbered old (readWhole s)
-    (then-numbered (readListed s) _ (listed-numbered s) (λ t. if-numbered (not (isEmpty (t .rest))) 7 refl (accepted-numbered t)))

@@ -1,5 +1,5 @@
 -- The table that the bytes begin with, and those behind it.
-use Rattle.table_calls.proofs.ReadTables.{rest-short, table-held}
+use Rattle.table_replies.proofs.ReadTables.{rest-short, table-held}
 use borrow.Author.Needs.{needs}
 use Rattle.table_calls.proofs.reading.regdulyn_read_table.Statement.{statement}
 use Rattle.table_calls.proofs.reading.regdulyn_read_table.Tie as tie

@@ -1,5 +1,5 @@
 -- The table that the bytes are.
-use Rattle.table_calls.proofs.ReadTables.{whole-held}
+use Rattle.table_replies.proofs.ReadTables.{whole-held}
 use borrow.Author.Needs.{needs}
 use Rattle.table_calls.proofs.reading.regdulyn_read_whole.Statement.{statement}
 use Rattle.table_calls.proofs.reading.regdulyn_read_whole.Tie as tie

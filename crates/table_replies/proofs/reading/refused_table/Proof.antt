@@ -2,8 +2,8 @@
 use mathlib.Core.Path.{ap}
 use Prim.Native.Nat.{ℕ}
 use borrow.Author.Needs.{needs}
-use Rattle.table_calls.proofs.reading.refused_table.Statement.{statement}
-use Rattle.table_calls.proofs.reading.refused_table.Tie as tie
+use Rattle.table_replies.proofs.reading.refused_table.Statement.{statement}
+use Rattle.table_replies.proofs.reading.refused_table.Tie as tie
 
 pub refused-table-spec : {M : Type 1} → statement M
 refused-table-spec =

@@ -7,7 +7,7 @@ use c_replies::SizeReply;
 use drive_sets::Refusal;
 
 // The first sets, so many or all there are.
-pub(crate) fn first_sets(sets: &[u64], count: usize) -> &[u64]
+pub fn first_sets(sets: &[u64], count: usize) -> &[u64]
     ensures { λ r. ⌜ now r ≡ take count (now (sets .entry)) ⌝ }
 {
     if sets.len() < count {
@@ -18,7 +18,7 @@ pub(crate) fn first_sets(sets: &[u64], count: usize) -> &[u64]
 
 // The first sets, so many or all there are, over the first places of out; how many they are. 14 where there are too few
 // places.
-pub(crate) fn put_list(sets: &[u64], count: usize, out: &mut [u64]) -> SizeReply
+pub fn put_list(sets: &[u64], count: usize, out: &mut [u64]) -> SizeReply
     ensures { λ r. ⌜ r ≡ sizeReply (sizeWritten (fitting 0 (length (now (out .entry))) (take count (now (sets .entry))))) ⌝ }
     ensures { λ _. ⌜ now (out .exit) ≡ bufferAfter (fitting 0 (length (now (out .entry))) (take count (now (sets .entry)))) 0 (now (out .entry)) ⌝ }
 {

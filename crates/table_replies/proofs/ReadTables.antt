@@ -25,9 +25,9 @@ use Rattle.table_files.specs.WithCores.{readWithCores, readComplete, readWholeC
 use Rattle.table_files.specs.Files.Laws.{whole-table}
 use Rattle.table_files.proofs.TableReads.{table-refused, table-behind, read-refused, read-accepted}
 use Rattle.table_files.specs.Files.Rest.{table-rest}
-use Rattle.table_calls.specs.declared.reading.TableReply.{TableReply}
-use Rattle.table_calls.specs.Replies.{fittingTable, setsRead, tableReply}
-use Rattle.table_calls.specs.Reading.{TableHeld}
+use Rattle.table_replies.specs.declared.reading.TableReply.{TableReply}
+use Rattle.table_replies.specs.Replies.{fittingTable, setsRead, tableReply}
+use Rattle.table_replies.specs.Reading.{TableHeld}
 
 -- ---- the table that bytes begin with
 

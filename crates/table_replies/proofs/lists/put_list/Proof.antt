@@ -1,8 +1,8 @@
 -- 14, or the first sets, copied.
-use Rattle.table_calls.proofs.Outcomes.{list-full, list-put}
+use Rattle.table_replies.proofs.ListReplies.{list-full, list-put}
 use borrow.Author.Needs.{needs}
-use Rattle.table_calls.proofs.lists.put_list.Statement.{statement}
-use Rattle.table_calls.proofs.lists.put_list.Tie as tie
+use Rattle.table_replies.proofs.lists.put_list.Statement.{statement}
+use Rattle.table_replies.proofs.lists.put_list.Tie as tie
 
 pub put-list-spec : {M : Type 1} → statement M
 put-list-spec =

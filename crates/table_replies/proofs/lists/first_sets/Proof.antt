@@ -1,8 +1,8 @@
 -- All of the sets where there are fewer, else the first of them.
 use Rattle.records.proofs.Parts.{first-all, first-some}
 use borrow.Author.Needs.{needs}
-use Rattle.table_calls.proofs.lists.first_sets.Statement.{statement}
-use Rattle.table_calls.proofs.lists.first_sets.Tie as tie
+use Rattle.table_replies.proofs.lists.first_sets.Statement.{statement}
+use Rattle.table_replies.proofs.lists.first_sets.Tie as tie
 
 pub first-sets-spec : {M : Type 1} → statement M
 first-sets-spec =

@@ -1,9 +1,9 @@
 -- The refusal, 14, or the sets, copied.
 use Rattle.complete_tables.specs.Complete.{setsOf}
-use Rattle.table_calls.proofs.ReadTables.{put-refused, put-full, put-all}
+use Rattle.table_replies.proofs.ReadTables.{put-refused, put-full, put-all}
 use borrow.Author.Needs.{needs}
-use Rattle.table_calls.proofs.reading.put_table.Statement.{statement}
-use Rattle.table_calls.proofs.reading.put_table.Tie as tie
+use Rattle.table_replies.proofs.reading.put_table.Statement.{statement}
+use Rattle.table_replies.proofs.reading.put_table.Tie as tie
 
 pub put-table-spec : {M : Type 1} → statement M
 unfolding setsOf
