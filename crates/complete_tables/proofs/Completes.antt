@@ -13,8 +13,8 @@ use Rattle.drive_sets.specs.declared.Refusal.{Refusal}
 use Rattle.drive_sets.specs.declared.Answer.{Answer}
 use Rattle.drive_sets.specs.Refusals.{Outcome, refused, result, andThen, number, outcomeOf}
 use Rattle.drive_sets.specs.Refusals.Laws.{refused-no-result, same-result, then-refuse}
-use Rattle.set_orders.specs.declared.normal_form.NormalForm.{NormalForm}
-use Rattle.set_orders.specs.declared.normal_form.NormalForm.the-variants as forms
+use Rattle.normal_forms.specs.declared.NormalForm.{NormalForm}
+use Rattle.normal_forms.specs.declared.NormalForm.the-variants as forms
 use Rattle.set_orders.specs.declared.sorting.Order.the-variants.{BySize}
 use Rattle.survivor_tables.specs.Hitting.{minimals}
 use Rattle.core_search.specs.Found.{Found}
@@ -23,9 +23,9 @@ use Rattle.drive_sets.specs.Lent.{sizeWritten, bufferAfter}
 use Rattle.drive_sets.specs.Lent.Laws.{first-places}
 use Rattle.survivor_tables.specs.Order.{sort, bySize, normal}
 use Rattle.set_orders.specs.Sorting.{precedes}
-use Rattle.set_orders.specs.NormalForms.{normalList, formOutcome}
+use Rattle.normal_forms.specs.NormalForms.{normalList, formOutcome}
 use Rattle.survivor_tables.specs.Order.Sort.{length-sort}
-use Rattle.set_orders.specs.NormalForms.Laws.{normalList-result}
+use Rattle.normal_forms.specs.NormalForms.Laws.{normalList-result}
 use Rattle.survivor_tables.specs.Order.Normal.{length-normal}
 use Rattle.survivor_tables.specs.declared.frames.Table.{Table}
 use Rattle.drive_sets.specs.Limits.{maxSets, maxCores}

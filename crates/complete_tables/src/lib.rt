@@ -9,7 +9,7 @@ ghost use Rattle.drive_sets.specs.Lists.{all};
 ghost use Rattle.drive_sets.specs.Refusals.{refused, number, outcomeOf};
 use drive_sets::Answer;
 use drive_sets::Refusal;
-use set_orders::normal_form::NormalForm;
+use normal_forms::NormalForm;
 use set_orders::sorting::Order;
 use survivor_tables::MAX_CORES;
 use survivor_tables::MAX_SETS;
@@ -74,7 +74,7 @@ fn complete_sets(n: u8, sets: &[u64]) -> TableWithCores
     ensures within { λ r. ⌜ CompleteWithin r ⌝ }
 {
     let mut normal = [0u64; MAX_SETS];
-    let form = set_orders::normal_form::normal(sets, &mut normal);
+    let form = normal_forms::normal(sets, &mut normal);
     match form {
         NormalForm::Refused(r) => refused(r),
         NormalForm::Sets(count) => with_cores(Table {

@@ -1,5 +1,4 @@
 -- What the functions' proofs share.
 pub mod Copies
 pub mod Halves
-pub mod Keeping
 pub mod Merges

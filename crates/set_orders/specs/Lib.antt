@@ -1,3 +1,2 @@
--- What the code promises of lists of sets: sorted in place, and the normal form.
+-- What the code promises of lists of sets: sorted in place.
 pub mod Sorting
-pub mod NormalForms

@@ -1,5 +1,4 @@
-// Lists of sets of drives put in order, by mask or by size, and their normal form.
-pub mod normal_form;
+// Lists of sets of drives put in order, by mask or by size, and copied.
 pub mod slices;
 pub mod sorting;
 

@@ -12,7 +12,7 @@ use Rattle.survivor_tables.specs.Order.{normal}
 use Rattle.survivor_tables.specs.Order.Normal.{length-normal}
 use Rattle.drive_sets.specs.Lent.{fitting}
 use Rattle.drive_sets.specs.Lent.Laws.{has-room}
-use Rattle.set_orders.specs.NormalForms.{normalList}
+use Rattle.normal_forms.specs.NormalForms.{normalList}
 
 pub normalList-fits : (room : ℕ) (sets : List ℕ) → length sets ≤ maxSets → normalList room sets ≡ fitting 0 room (normal sets)
 unfolding normalList

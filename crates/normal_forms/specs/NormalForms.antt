@@ -10,8 +10,8 @@ use Rattle.drive_sets.specs.Lists.{filter}
 use Rattle.drive_sets.specs.declared.Refusal.the-variants.{TooManySets}
 use Rattle.drive_sets.specs.Refusals.{Outcome, refused, result, refuseIf, number}
 use Rattle.survivor_tables.specs.Order.{dropRepeats, holdsAnother, normal}
-use Rattle.set_orders.specs.declared.normal_form.NormalForm.{NormalForm}
-use Rattle.set_orders.specs.declared.normal_form.NormalForm.the-variants.{Sets, Refused}
+use Rattle.normal_forms.specs.declared.NormalForm.{NormalForm}
+use Rattle.normal_forms.specs.declared.NormalForm.the-variants.{Sets, Refused}
 use Rattle.drive_sets.specs.Lent.{fitting}
 pub mod Laws
 

@@ -1,0 +1,2 @@
+-- What the code promises of the normal form.
+pub mod NormalForms
