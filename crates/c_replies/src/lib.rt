@@ -1,11 +1,11 @@
 // Replies to C as numbers: a refusal, 0 for none; how many places of lent memory were filled; a flag.
 ghost use mathlib.Core.Path.{_≡_};
 ghost use Rattle.drive_sets.specs.Refusals.{refused, number};
-ghost use Rattle.records.specs.LentBuffers.{writingOutcome};
+ghost use Rattle.lent_bytes.specs.LentBuffers.{writingOutcome};
 ghost use Rattle.c_replies.specs.Replies.{refusalIn, sizeReply, flagOf};
 use drive_sets::Answer;
 use drive_sets::Refusal;
-use records::Writing;
+use lent_bytes::Writing;
 
 // How many sets or bytes were put into lent memory.
 #[repr(C)]

@@ -20,7 +20,7 @@ use Rattle.drive_sets.specs.Loops.Filling.{Filling, filling-start, filling-turn
 use Rattle.drive_sets.specs.Masks.{has, single, minus, outside, subset, size, lowest, drives}
 use Rattle.drive_sets.specs.Masks.Sizes.{length-drives, drives-none, lowest-removed}
 use Rattle.drive_sets.specs.Refusals.{Outcome, refused, number}
-use Rattle.records.proofs.Parts.{part-then}
+use Rattle.lent_bytes.proofs.Parts.{part-then}
 use Rattle.survivor_tables.specs.Tables.{isFrame, isSet}
 use Rattle.survivor_tables.specs.Tables.Laws.{set-lt}
 use Rattle.drive_states.specs.declared.Exchange.{Exchange}

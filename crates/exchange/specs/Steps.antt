@@ -8,8 +8,8 @@ use Prim.Native.Nat.{ℕ}
 use lib.Dec.{eqb}
 use lib.ListN.{length}
 use Rattle.drive_sets.specs.Refusals.{refused}
-use Rattle.records.specs.declared.Writing.{Writing}
-use Rattle.records.specs.LentBuffers.{writingOutcome, Written}
+use Rattle.lent_bytes.specs.declared.Writing.{Writing}
+use Rattle.lent_bytes.specs.LentBuffers.{writingOutcome, Written}
 use Rattle.drive_states.specs.declared.Exchange.{Exchange}
 use Rattle.runs.specs.World.{Call, opens, sends, delivers, closes, driveOf, Slot, unopened, opened, World, isRefused}
 use Rattle.agreement.specs.Calls.{opening, receiving, closing}

@@ -12,10 +12,10 @@ use borrow.Author.Tests.{leb-true, not-false}
 use Rattle.drive_sets.specs.declared.Refusal.the-variants.{NoRoom}
 use Rattle.drive_sets.specs.Refusals.{Outcome, result, andThen}
 use Rattle.drive_sets.specs.Refusals.Laws.{passed, first-result, same-result}
-use Rattle.records.specs.declared.Writing.{Writing}
+use Rattle.lent_bytes.specs.declared.Writing.{Writing}
 use Rattle.drive_sets.specs.Lent.{writtenAt, fitting, bufferAfter}
 use Rattle.drive_sets.specs.Lent.Laws.{written-fits}
-use Rattle.records.specs.LentBuffers.{writingOutcome, WrittenIfRoom}
+use Rattle.lent_bytes.specs.LentBuffers.{writingOutcome, WrittenIfRoom}
 use Rattle.survivor_tables.specs.Order.{normal}
 use Rattle.survivor_tables.specs.Order.Normal.{normal-idempotent}
 use Rattle.survivor_tables.specs.Tables.{normalTable, Accepted}

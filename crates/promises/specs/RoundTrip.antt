@@ -5,8 +5,8 @@ use mathlib.Core.List.{List}
 use Prim.Native.Nat.{ℕ, _+_}
 use lib.ListN.{take, drop}
 use Rattle.drive_sets.specs.Refusals.{result}
-use Rattle.records.specs.declared.Writing.{Writing}
-use Rattle.records.specs.LentBuffers.{writingOutcome, WrittenIfRoom}
+use Rattle.lent_bytes.specs.declared.Writing.{Writing}
+use Rattle.lent_bytes.specs.LentBuffers.{writingOutcome, WrittenIfRoom}
 use Rattle.survivor_tables.specs.Order.{normal}
 use Rattle.table_files.specs.Files.{tableBytes}
 use Rattle.table_writing.specs.Writing.{writeTable}

@@ -1,16 +1,16 @@
-// The message call: its refusals in document 01's order, then the state with what the message says.
+// The message call: its refusals in document 01's order, then the state with what the message says, which
+// `accepted_messages` gives.
 ghost use mathlib.Core.Path.{_≡_};
 ghost use lib.ListN.{length};
 ghost use Rattle.drive_sets.specs.Refusals.{andThen};
 ghost use Rattle.records.specs.Marks.{numberWidth};
-ghost use Rattle.drive_states.specs.Messages.{entriesIn, senderOf, contentOf, messageOf, checked};
-ghost use Rattle.agreement.specs.Calls.{outsideCore, anyDiffers, lower, announcing, accept, admitting, receiving};
+ghost use Rattle.drive_states.specs.Messages.{messageOf, checked};
+ghost use Rattle.agreement.specs.Calls.{outsideCore, admitting, receiving};
 ghost use Rattle.exchange.specs.Replies.{Replied};
+use accepted_messages::accept;
+use accepted_messages::differs;
 use drive_sets::Answer;
-use drive_sets::Drive;
-use drive_sets::Pattern;
 use drive_sets::Refusal;
-use drive_states::Announcement;
 use drive_states::Exchange;
 use exchange::Reply;
 use exchange::refused;
@@ -18,8 +18,6 @@ use messages::reading;
 use records::Due;
 use records::Head;
 use records::Kind;
-
-mod entries;
 
 // 22: sender is oneself, or sender or a known drive is outside the core.
 fn outside_core(kind: Kind, x: Exchange, s: &[u8]) -> bool
@@ -34,72 +32,6 @@ fn outside_core(kind: Kind, x: Exchange, s: &[u8]) -> bool
         return true;
     }
     !drive_sets::subset(reading::mask_in(kind, s), x.core)
-}
-
-// 25: a pattern number differs from the one known for that drive.
-fn differs(kind: Kind, x: Exchange, s: &[u8]) -> bool
-    ensures { λ r. ⌜ r ≡ anyDiffers x (entriesIn (contentOf kind (now (s .entry)))) ⌝ }
-{
-    entries::any_differs(kind, x, reading::mask_in(kind, s), s)
-}
-
-// The announcement of the lower-numbered sender.
-fn lower(announced: Announcement, d: Drive, v: Pattern) -> Announcement
-    ensures { λ r. ⌜ r ≡ lower announced (d .0) (v .0) ⌝ }
-{
-    match announced {
-        Announcement::Absent => Announcement::By(d, v),
-        Announcement::By(e, w) => {
-            if d.0 < e.0 {
-                return Announcement::By(d, v);
-            }
-            Announcement::By(e, w)
-        }
-    }
-}
-
-// A DC or DW announces a decision.
-fn announcing(announced: Announcement, kind: Kind, s: &[u8]) -> Announcement
-    ensures { λ r. ⌜ r ≡ announcing announced (senderOf (now (s .entry))) (contentOf kind (now (s .entry))) ⌝ }
-{
-    if reading::is_known(kind) {
-        return announced;
-    }
-    lower(
-        announced,
-        reading::sender_of(s),
-        reading::pattern_of(kind, s),
-    )
-}
-
-// The state after an accepted message: every accepted sender counts as heard, a KN or KW adds its drives' numbers, a DC
-// or DW announces a decision.
-fn accept(kind: Kind, x: Exchange, s: &[u8]) -> Exchange
-    ensures { λ r. ⌜ r ≡ accept x (messageOf kind (now (s .entry))) ⌝ }
-{
-    let own = x.own;
-    let round = x.round;
-    let held = x.numbers;
-    let before = x.announced;
-    let decision = x.decision;
-    let mask = reading::mask_in(kind, s);
-    let numbers = entries::stored(kind, held, mask, s);
-    let heard = drive_sets::insert(x.heard, reading::sender_of(s));
-    let announced = announcing(before, kind, s);
-    Exchange {
-        n: x.n,
-        own,
-        core: x.core,
-        round,
-        before: x.before,
-        heard,
-        known: x.known | mask,
-        start: x.start,
-        numbers,
-        announced,
-        decision,
-        halted: x.halted,
-    }
 }
 
 // A whole message of this kind: 22, 26, 24, 21, 25.

@@ -1,5 +1,4 @@
--- Byte fields, marks and records, lists of records, and bytes in a lent buffer.
+-- Byte fields, marks and records, lists of records.
 pub mod Fields
 pub mod Marks
 pub mod RecordLists
-pub mod LentBuffers

@@ -1,14 +1,12 @@
-// Records: a two-letter mark and byte fields, lowest byte first, read from a slice and written into the part of a lent
-// buffer that starts at the cursor; lists of records. A mark is a number, matched to a record kind and tested against
-// what is due.
+// Records: a two-letter mark and byte fields, lowest byte first, read from a slice; lists of records. A mark is a number,
+// matched to a record kind and tested against what is due.
 ghost use mathlib.Core.Path.{_≡_};
-ghost use Prim.Native.Nat.{_+_, min};
+ghost use Prim.Native.Nat.{min};
 ghost use mathlib.Core.Bool.{_||_};
-ghost use lib.Dec.{eqb, leb};
+ghost use lib.Dec.{eqb};
 ghost use lib.ListN.{take, drop};
-ghost use Rattle.records.specs.Fields.{fromBytes, toBytes, fieldAt};
-ghost use Rattle.drive_sets.specs.Lent.{written};
-ghost use Rattle.records.specs.Marks.{mark, kindOf, numberWidth, bodyWidth, isKind, isDue, headOf, recordBytes};
+ghost use Rattle.records.specs.Fields.{fromBytes, fieldAt};
+ghost use Rattle.records.specs.Marks.{mark, kindOf, numberWidth, bodyWidth, isKind, isDue, headOf};
 ghost use Rattle.records.specs.RecordLists.{nextOf};
 use drive_sets::NARROW_PATTERN_BYTES;
 use drive_sets::PATTERN_BYTES;
@@ -52,12 +50,6 @@ pub enum Next {
     One,
     End,
     Stop(Refusal),
-}
-
-// How many bytes were written into a lent buffer, from the starting place on.
-pub enum Writing {
-    Wrote(usize),
-    Refused(Refusal),
 }
 
 // The marks, as two-byte fields: the first letter is the low byte.
@@ -148,46 +140,6 @@ pub fn field(s: &[u8], at: usize, width: usize) -> u64
     }
     let end = at + width;
     from_bytes(&s[at..end])
-}
-
-// So many bytes fit into a buffer of the given length from the starting place on.
-pub fn fits(room: usize, start: usize, size: usize) -> bool
-    ensures { λ r. ⌜ r ≡ leb (start + size) room ⌝ }
-{
-    if room < start {
-        return false;
-    }
-    size <= room - start
-}
-
-// The field of x over the first bytes of the part; every other byte stays.
-pub fn put_field(part: &mut [u8], width: usize, x: u64)
-    ensures { λ _. ⌜ now (part .exit) ≡ written (toBytes width x) (now (part .entry)) ⌝ }
-{
-    if part.len() < width {
-        return;
-    }
-    let mut rest = x;
-    let mut i = 0;
-    while i < width {
-        part[i] = (rest % 256) as u8;
-        rest = rest / 256;
-        i += 1;
-    }
-}
-
-// A record of a mark and one field over the first bytes of the part; every other byte stays.
-pub fn put_record(part: &mut [u8], m: u64, width: usize, x: u64)
-    ensures { λ _. ⌜ now (part .exit) ≡ written (recordBytes m width x) (now (part .entry)) ⌝ }
-{
-    if part.len() < 2 {
-        return;
-    }
-    if part.len() - 2 < width {
-        return;
-    }
-    put_field(part, 2, m);
-    put_field(&mut part[2..], width, x);
 }
 
 // The kind of record that a mark starts.

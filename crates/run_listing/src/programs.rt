@@ -9,7 +9,7 @@ ghost use Rattle.drive_sets.specs.Limits.{maxDrives, maxSets};
 use crate::run_text::put_core_line;
 use crate::run_text::put_drives;
 use drive_sets::Answer;
-use records::Writing;
+use lent_bytes::Writing;
 use simulation::simulating::Simulated;
 use simulation::simulating::simulate;
 use survivor_tables::frames::Table;

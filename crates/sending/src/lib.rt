@@ -2,16 +2,16 @@
 ghost use mathlib.Core.Path.{_≡_};
 ghost use lib.ListN.{length};
 ghost use Rattle.drive_sets.specs.Lent.{written, fitting};
-ghost use Rattle.records.specs.LentBuffers.{Written};
+ghost use Rattle.lent_bytes.specs.LentBuffers.{Written};
 ghost use Rattle.drive_states.specs.Messages.{messageBytes};
 ghost use Rattle.agreement.specs.Calls.{outgoing, sending};
 use drive_sets::PATTERN_BYTES;
 use drive_sets::Refusal;
 use drive_states::Decision;
 use drive_states::Exchange;
-use messages::DECIDE_BYTES;
-use messages::writing;
-use records::Writing;
+use lent_bytes::Writing;
+use message_writing::DECIDE_BYTES;
+use message_writing::writing;
 
 // An undecided core drive sends KW with all it knew when the round began; a decided one sends DW.
 fn put_message(part: &mut [u8], x: Exchange)
@@ -43,7 +43,7 @@ fn write_message(x: Exchange, buf: &mut [u8], start: usize) -> Writing
     ensures { λ r. ⌜ Written (fitting start (length (now (buf .entry))) (messageBytes (outgoing x))) start (now (buf .entry)) (now (buf .exit)) r ⌝ }
 {
     let size = outgoing_size(x);
-    if !records::fits(buf.len(), start, size) {
+    if !lent_bytes::fits(buf.len(), start, size) {
         return Writing::Refused(Refusal::NoRoom);
     }
     put_message(&mut buf[start..], x);

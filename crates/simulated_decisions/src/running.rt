@@ -6,7 +6,7 @@ ghost use Rattle.drive_sets.specs.Counts.{isDrive};
 ghost use Rattle.runs.specs.Scenario.{Scenario};
 ghost use Rattle.agreement.specs.Canonical.{canonicalEnding};
 ghost use Rattle.simulated_decisions.specs.Arguments.{Told};
-ghost use Rattle.simulated_decisions.specs.Endings.{foundOf};
+ghost use Rattle.simulated_decisions.specs.Endings.{foundOf, nothingFound};
 use crate::noting;
 use crate::noting::Notes;
 use crate::opened;
@@ -39,6 +39,7 @@ fn run(n: u8, core: u64, numbers: [Pattern; 64], crashes: Crashes) -> Notes
 // The same of any frame and core: nothing where the frame does not hold the core, which no scenario has.
 pub fn first_decisions(n: u8, core: u64, numbers: [Pattern; 64], crashes: Crashes) -> Notes
     ensures { λ r. ⌜ ((s : Scenario) → Told n core numbers crashes s → (d : ℕ) → isDrive n d ≡ true → foundOf r d ≡ canonicalEnding s d) ⌝ }
+    ensures none { λ r. ⌜ ((n ≤ 64 → core < 2 ^ n → ⊥) → r ≡ nothingFound) ⌝ }
 {
     if MAX_DRIVES < n {
         return noting::nothing();

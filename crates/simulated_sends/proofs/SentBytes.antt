@@ -14,9 +14,9 @@ use Rattle.drive_sets.specs.Bools.Laws.{cond-true}
 use Rattle.drive_sets.specs.Refusals.{Outcome, refused, result, number}
 use Rattle.drive_sets.specs.Refusals.Laws.{refused-no-result, same-result, passed, first-result}
 use Rattle.drive_sets.specs.Lent.{written, writtenAt, fitting, sizeWritten, bufferAfter}
-use Rattle.records.specs.declared.Writing.{Writing}
-use Rattle.records.specs.declared.Writing.the-variants as writings
-use Rattle.records.specs.LentBuffers.{writingOutcome, Written}
+use Rattle.lent_bytes.specs.declared.Writing.{Writing}
+use Rattle.lent_bytes.specs.declared.Writing.the-variants as writings
+use Rattle.lent_bytes.specs.LentBuffers.{writingOutcome, Written}
 use Rattle.drive_states.specs.declared.Exchange.{Exchange}
 use Rattle.drive_states.specs.State.{inCore, broken}
 use Rattle.drive_states.specs.Messages.{messageBytes}

@@ -11,8 +11,8 @@ ghost use Rattle.agreement.specs.Canonical.{room, deliveries};
 ghost use Rattle.simulated_sends.specs.States.{worldOf, listFor};
 use drive_sets::Drive;
 use drive_states::Exchange;
-use messages::LONGEST;
-use records::Writing;
+use lent_bytes::Writing;
+use message_writing::LONGEST;
 
 // The bytes to the drives of m, rising, as far as the sends go.
 fn deliver_to(states: [Exchange; 64], bytes: &[u8], m: u64, sends: u8) -> [Exchange; 64]

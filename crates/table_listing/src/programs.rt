@@ -9,7 +9,7 @@ ghost use Rattle.text.specs.Printing.{Printed};
 use crate::table_text::put_listing;
 use complete_tables::TableWithCores;
 use drive_sets::Answer;
-use records::Writing;
+use lent_bytes::Writing;
 use text::lines::put_refused;
 use text::printing::MAX_TEXT;
 use text::printing::print;

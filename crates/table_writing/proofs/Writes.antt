@@ -14,7 +14,7 @@ use Rattle.records.specs.Marks.{mark, bodyWidth, recordBytes}
 use Rattle.records.specs.RecordLists.{listBytes}
 use Rattle.records.specs.RecordLists.Laws.{length-list, list-more}
 use Rattle.records.specs.Marks.Laws.{length-record}
-use Rattle.records.proofs.Parts.{part-then}
+use Rattle.lent_bytes.proofs.Parts.{part-then}
 use Rattle.table_files.specs.Files.{tableBytes}
 
 -- ---- the sets

@@ -7,17 +7,17 @@ ghost use Rattle.table_files.specs.Files.{tableBytes};
 ghost use Rattle.table_writing.specs.Writing.{writeTable};
 ghost use Rattle.records.specs.declared.Kind.the-variants.{Survivor};
 ghost use Rattle.records.specs.RecordLists.{listBytes};
-ghost use Rattle.records.specs.LentBuffers.{Written, WrittenIfRoom};
+ghost use Rattle.lent_bytes.specs.LentBuffers.{Written, WrittenIfRoom};
 ghost use Rattle.drive_sets.specs.Limits.{maxSets};
 use drive_sets::Answer;
 use drive_sets::Refusal;
+use lent_bytes::Writing;
 use records::END;
 use records::END_WIDTH;
 use records::FRAME;
 use records::FRAME_WIDTH;
 use records::SURVIVOR;
 use records::SURVIVOR_WIDTH;
-use records::Writing;
 
 // FR and EN together.
 const ENDS_WIDTH: usize = FRAME_WIDTH + END_WIDTH;
@@ -32,7 +32,7 @@ fn put_sets(part: &mut [u8], sets: &[u64])
     let mut at = 0;
     let mut i = 0;
     while i < sets.len() {
-        records::put_record(&mut part[at..], SURVIVOR, 8, sets[i]);
+        lent_bytes::put_record(&mut part[at..], SURVIVOR, 8, sets[i]);
         at += SURVIVOR_WIDTH;
         i += 1;
     }
@@ -50,9 +50,9 @@ fn put_table(part: &mut [u8], n: u8, sets: &[u64])
         return;
     }
     let end = FRAME_WIDTH + SURVIVOR_WIDTH * sets.len();
-    records::put_record(part, FRAME, 1, n as u64);
+    lent_bytes::put_record(part, FRAME, 1, n as u64);
     put_sets(&mut part[FRAME_WIDTH..], sets);
-    records::put_record(&mut part[end..], END, 1, sets.len() as u64);
+    lent_bytes::put_record(&mut part[end..], END, 1, sets.len() as u64);
 }
 
 // A normal table from the starting place on, and nothing where it does not fit.
@@ -61,7 +61,7 @@ fn write_sets(n: u8, sets: &[u64], buf: &mut [u8], start: usize) -> Writing
     ensures { λ r. ⌜ Written (fitting start (length (now (buf .entry))) (tableBytes n (now (sets .entry)))) start (now (buf .entry)) (now (buf .exit)) r ⌝ }
 {
     let size = ENDS_WIDTH + SURVIVOR_WIDTH * sets.len();
-    if !records::fits(buf.len(), start, size) {
+    if !lent_bytes::fits(buf.len(), start, size) {
         return Writing::Refused(Refusal::NoRoom);
     }
     put_table(&mut buf[start..], n, sets);

@@ -12,11 +12,11 @@ use borrow.Author.Tests.{le-leb, leb-true, not-false}
 use borrow.Rule.Slice.PartMut.{putMid}
 use Rattle.drive_sets.specs.Bools.Laws.{cond-true}
 use Rattle.drive_sets.specs.Filled.{Filled}
-use Rattle.records.specs.declared.Writing.{Writing}
-use Rattle.records.specs.declared.Writing.the-variants as writings
+use Rattle.lent_bytes.specs.declared.Writing.{Writing}
+use Rattle.lent_bytes.specs.declared.Writing.the-variants as writings
 use Rattle.drive_sets.specs.Lent.{written}
 use Rattle.records.proofs.Parts.{rest-is}
-use Rattle.records.proofs.Buffers.{written-all}
+use Rattle.lent_bytes.proofs.Buffers.{written-all}
 use Rattle.text.specs.Printing.{Printed, bytesIn}
 use Rattle.text.proofs.Puts.{cut}
 

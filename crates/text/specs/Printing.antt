@@ -2,9 +2,9 @@
 use mathlib.Core.List.{List}
 use Prim.Native.Nat.{ℕ}
 use Rattle.drive_sets.specs.Refusals.{result}
-use Rattle.records.specs.declared.Writing.{Writing}
-use Rattle.records.specs.declared.Writing.the-variants as writings
-use Rattle.records.specs.LentBuffers.{WrittenIfRoom}
+use Rattle.lent_bytes.specs.declared.Writing.{Writing}
+use Rattle.lent_bytes.specs.declared.Writing.the-variants as writings
+use Rattle.lent_bytes.specs.LentBuffers.{WrittenIfRoom}
 
 -- the answer and the lent bytes: only the text's own bytes change, and on a refusal none
 abbrev pub Printed : List ℕ → ℕ → List ℕ → List ℕ → Writing → Type 0

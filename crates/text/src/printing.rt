@@ -4,7 +4,7 @@ ghost use Prim.Native.Nat.{_≤_, min};
 ghost use lib.ListN.{length, take};
 ghost use Rattle.text.specs.Printing.{Printed, bytesIn};
 use drive_sets::Refusal;
-use records::Writing;
+use lent_bytes::Writing;
 
 // No text of a program is longer: 1024 cores and 128 sets take a line of at most 22 bytes each, the rest less than 1024
 // bytes.
@@ -17,7 +17,7 @@ pub const MAX_INPUT: usize = 4096;
 pub fn print(text: &[u8], out: &mut [u8], start: usize) -> Writing
     ensures { λ r. ⌜ Printed (now (text .entry)) start (now (out .entry)) (now (out .exit)) r ⌝ }
 {
-    if !records::fits(out.len(), start, text.len()) {
+    if !lent_bytes::fits(out.len(), start, text.len()) {
         return Writing::Refused(Refusal::NoRoom);
     }
     bytes::copy(text, &mut out[start..]);

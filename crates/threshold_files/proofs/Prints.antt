@@ -14,9 +14,9 @@ use Rattle.drive_sets.specs.Lent.Laws.{has-room, first-places}
 use Rattle.drive_sets.specs.Limits.{maxText}
 use Rattle.drive_sets.specs.Refusals.{Outcome, refused, result, number}
 use Rattle.drive_sets.specs.Refusals.Laws.{refused-no-result, same-refused, same-result, first-result, passed}
-use Rattle.records.specs.declared.Writing.{Writing}
-use Rattle.records.specs.declared.Writing.the-variants as writings
-use Rattle.records.specs.LentBuffers.{writingOutcome, WrittenIfRoom}
+use Rattle.lent_bytes.specs.declared.Writing.{Writing}
+use Rattle.lent_bytes.specs.declared.Writing.the-variants as writings
+use Rattle.lent_bytes.specs.LentBuffers.{writingOutcome, WrittenIfRoom}
 use Rattle.survivor_tables.specs.Order.Normal.{length-normal}
 use Rattle.survivor_tables.specs.Tables.{normalTable}
 use Rattle.survivor_tables.specs.Tables.Laws.{table-accepted}

@@ -4,9 +4,9 @@
 // An input is: one byte, 0 for the table program, 1 for the run program and 2 for the threshold program; its length,
 // 2 bytes, lowest first; its bytes.
 ghost use Prim.Native.Nat.{_≤_};
+use lent_bytes::Writing;
 use libc::STDIN_FILENO;
 use libc::STDOUT_FILENO;
-use records::Writing;
 use text::printing::MAX_TEXT;
 
 // How many bytes the input at the start has.

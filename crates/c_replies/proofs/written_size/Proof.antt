@@ -1,7 +1,7 @@
 -- The writer's refusal, or how many bytes it wrote.
 use mathlib.Core.Path.{sym, ap, _∙_}
-use Rattle.records.specs.declared.Writing.{Writing}
-use Rattle.records.specs.LentBuffers.{writingOutcome}
+use Rattle.lent_bytes.specs.declared.Writing.{Writing}
+use Rattle.lent_bytes.specs.LentBuffers.{writingOutcome}
 use Rattle.c_replies.specs.Replies.{sizeReply}
 use borrow.Author.Needs.{needs}
 use Rattle.c_replies.proofs.written_size.Statement.{statement}

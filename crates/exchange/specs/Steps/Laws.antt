@@ -7,10 +7,10 @@ use Prim.Native.Nat.{ℕ}
 use lib.ListN.{length}
 use Rattle.drive_sets.specs.Bools.Laws.{clash}
 use Rattle.drive_sets.specs.Refusals.{Outcome, refused, result}
-use Rattle.records.specs.declared.Writing.{Writing}
-use Rattle.records.specs.LentBuffers.{Written}
+use Rattle.lent_bytes.specs.declared.Writing.{Writing}
+use Rattle.lent_bytes.specs.LentBuffers.{Written}
 use Rattle.drive_sets.specs.Lent.{sizeWritten}
-use Rattle.records.proofs.Buffers.{written-as}
+use Rattle.lent_bytes.proofs.Buffers.{written-as}
 use Rattle.drive_states.specs.declared.Exchange.{Exchange}
 use Rattle.runs.specs.World as worlds
 use Rattle.runs.specs.World.{Call, opens, sends, delivers, closes, driveOf, Slot, unopened, opened, World, afterCall, onState, isRefused}

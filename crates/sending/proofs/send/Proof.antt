@@ -1,5 +1,5 @@
 -- The refusals in order, then the message.
-use Rattle.records.proofs.Buffers.{written-as, written-refused}
+use Rattle.lent_bytes.proofs.Buffers.{written-as, written-refused}
 use mathlib.Core.Path.{refl}
 use Rattle.drive_states.specs.State.{inCore}
 use Rattle.agreement.specs.Calls.{sending}

@@ -4,7 +4,7 @@ use Prim.Native.Nat.{_+_}
 use native.Mathlib.Omega.{arith}
 use lib.ListN.{length}
 use borrow.Author.Tests.{leb-true, not-false}
-use Rattle.records.proofs.Buffers.{written-none, written-all}
+use Rattle.lent_bytes.proofs.Buffers.{written-none, written-all}
 use Rattle.drive_states.specs.Messages.{messageBytes}
 use Rattle.agreement.specs.Calls.{outgoing}
 use borrow.Author.Needs.{needs}

@@ -1,5 +1,5 @@
 -- No room, or all of it.
-use Rattle.records.proofs.Buffers.{written-none, written-all}
+use Rattle.lent_bytes.proofs.Buffers.{written-none, written-all}
 use Rattle.table_files.specs.Files.{tableBytes}
 use Rattle.table_writing.proofs.Writes.{length-table}
 use Prim.Native.Nat.{_+_, _*_}

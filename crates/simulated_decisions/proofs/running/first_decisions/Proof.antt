@@ -14,8 +14,8 @@ pub first-decisions-spec : {M : Type 1} → statement M
 first-decisions-spec =
     tie.close
     (tie.spec
-    (λ c κs. search needs) (λ c. λ s t. absurd (omega (arith, frame-bound t, c .before .if1 .taken))) (λ c κs. search needs) (λ c κs. search needs)
+    (λ c κs. search needs) (λ c. (λ s t. absurd (omega (arith, frame-bound t, c .before .if1 .taken)), λ out. c .nothing .ensures)) (λ c κs. search needs) (λ c κs. search needs)
     (λ c κs. search needs)
-    (λ c. let a = c .before .before .before .before .before .args in let out = sym (c .before .before .subset .ensures ∙ ap (subset (a .core)) (c .before .before .before .full .ensures)) ∙ not-true _ (c .before .if2 .taken) in λ s t. absurd (clash (subset-full (a .n) (a .core) (frame-bound t) (core-bound t)) out))
+    (λ c. let a = c .before .before .before .before .before .args in let out = sym (c .before .before .subset .ensures ∙ ap (subset (a .core)) (c .before .before .before .full .ensures)) ∙ not-true _ (c .before .if2 .taken) in (λ s t. absurd (clash (subset-full (a .n) (a .core) (frame-bound t) (core-bound t)) out), λ outside. c .nothing2 .ensures))
     (λ c κs. let a = c .before .before .before .before .args in (search needs, full-subset (a .n) (a .core) (sym (c .before .subset .ensures ∙ ap (subset (a .core)) (c .before .before .full .ensures)) ∙ not-false _ (c .if2 .left))))
-    (λ c. search needs))
+    (λ c. let a = c .before .before .before .before .before .args in let held = full-subset (a .n) (a .core) (sym (c .before .before .subset .ensures ∙ ap (subset (a .core)) (c .before .before .before .full .ensures)) ∙ not-false _ (c .before .if2 .left)) in (c .run .ensures, λ out. absurd (out (search needs) held))))

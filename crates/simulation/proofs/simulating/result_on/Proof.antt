@@ -17,4 +17,4 @@ result-on-spec =
     (tie.spec
     (λ c κs. search needs) (λ c κs. search needs)
     (λ c. let a = c .before .before .args in omega (arith, c .size .ensures, size-le (bitAnd (a .core) (a .crashes .crashed))))
-    (λ c. let a = c .before .before .args in (λ s t. result-is (a .n) (a .core) (a .crashes) s (t .says) (t .valid) _ (c .before .first-decisions .ensures s t) _ (c .size .ensures), refl)))
+    (λ c. let a = c .before .before .args in (λ s t. result-is (a .n) (a .core) (a .crashes) s (t .says) (t .valid) _ (c .before .first-decisions .ensures .0 s t) _ (c .size .ensures), refl)))

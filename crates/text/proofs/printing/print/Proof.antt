@@ -4,7 +4,7 @@ use Prim.Native.Nat.{_+_, _-_, _≤_}
 use native.Mathlib.Omega.{arith}
 use lib.ListN.{length}
 use borrow.Author.Tests.{leb-true, not-false}
-use Rattle.records.proofs.Buffers.{written-none}
+use Rattle.lent_bytes.proofs.Buffers.{written-none}
 use Rattle.text.proofs.Prints.{prints-all}
 use borrow.Author.Needs.{needs}
 use Rattle.text.proofs.printing.print.Statement.{statement}

@@ -1,0 +1,36 @@
+-- The entries one after the other: what is left, stored over what is held, gives what the whole gives.
+use mathlib.Core.Path.{refl}
+use native.Mathlib.Omega.{arith}
+use Rattle.drive_sets.specs.Masks.{size, drives}
+use Rattle.drive_sets.specs.Loops.Drives.{removed, taken-fewer, lowest-bounds}
+use Rattle.records.specs.Marks.{numberWidth}
+use Rattle.records.specs.Marks.Laws.{number-most}
+use Rattle.drive_states.specs.Messages.{entriesFrom}
+use Rattle.agreement.specs.Calls.{stored}
+use Rattle.accepted_messages.proofs.EntryWalks.{Entries, entries-start, entries-turn, entries-end}
+use lib.ListN.{drop}
+use borrow.Author.Needs.{needs}
+use Rattle.accepted_messages.proofs.entries.stored.Statement.{statement}
+use Rattle.accepted_messages.proofs.entries.stored.Tie as tie
+
+abbrev Inv-loop : tie.InvT-loop
+Inv-loop kind mask s width numbers m₀ at₀ held m at = Entries (numberWidth kind) s (stored numbers (entriesFrom (numberWidth kind) (drives mask) (drop 12 s))) (stored held) m at
+
+abbrev μ-loop : tie.MeasureT-loop
+μ-loop kind mask s width numbers m₀ at₀ held m at = size m
+
+pub stored-spec : {M : Type 1} → statement M
+unfolding stored
+stored-spec =
+    tie.close
+    (tie.spec
+    Inv-loop μ-loop (λ c κs. search needs)
+    (λ c. let a = c .before .before in entries-start (a .args .kind) (a .args .s .now) (stored (a .args .numbers)) (a .args .mask) (a .fits .mask .fits))
+    (λ c κs. search needs) (λ c κs. search needs)
+    (λ c. let w = lowest-bounds (c .before .before .before .loop .inv .walk .word) (c .before .before .loop-test .taken) (c .before .lowest .ensures) in omega (arith, w .0, w .1))
+    (λ c. search needs) (λ c. search needs)
+    (λ c. let w = lowest-bounds (c .before .before .before .loop .inv .walk .word) (c .before .before .loop-test .taken) (c .before .lowest .ensures) in omega (arith, w .0, w .1))
+    (λ c κs. search needs) (λ c. omega (arith, c .before .before .before .before .loop .inv .near, c .before .before .before .before .before .number-width .ensures, number-most (c .before .before .before .before .before .before .before .args .kind)))
+    (λ c. taken-fewer (removed (c .before .before .before .before .loop .inv .walk .word) (c .before .before .before .loop-test .taken) (c .before .before .lowest .ensures) (c .remove .ensures)))
+    (λ c. let l = c .before .before .before .before .loop in let a = c .before .before .before .before .before .before .before .args in entries-turn (a .kind) (a .s .now) (stored (l .stored)) (l .inv) (removed (l .inv .walk .word) (c .before .before .before .loop-test .taken) (c .before .before .lowest .ensures) (c .remove .ensures)) _ (c .before .pattern-at .ensures) _ (λ rest. refl) (c .before .before .before .before .before .number-width .ensures))
+    (λ c. let l = c .before .loop in let a = c .before .before .before .before .args in entries-end (a .kind) (a .s .now) (stored (l .stored)) (l .inv) (c .loop-test .left)))
