@@ -1,5 +1,5 @@
-// Bytes in a lent buffer: the room for them, fields and records of one field put into the part that starts at the cursor,
-// and what a call that writes answers.
+// Bytes in a lent buffer: the room for them, fields and records of one field put into the part that starts at the
+// cursor, and what a call that writes answers.
 ghost use mathlib.Core.Path.{_≡_};
 ghost use Prim.Native.Nat.{_+_};
 ghost use lib.Dec.{leb};

@@ -1,5 +1,5 @@
-// Records: a two-letter mark and byte fields, lowest byte first, read from a slice; lists of records. A mark is a number,
-// matched to a record kind and tested against what is due.
+// Records: a two-letter mark and byte fields, lowest byte first, read from a slice; lists of records. A mark is a
+// number, matched to a record kind and tested against what is due.
 ghost use mathlib.Core.Path.{_≡_};
 ghost use Prim.Native.Nat.{min};
 ghost use mathlib.Core.Bool.{_||_};

@@ -1,5 +1,5 @@
 -- The frame of a scenario has at most 64 drives and holds its core: so the tests of the code refuse no scenario.
-use mathlib.Core.Path.{_∙_, sym, subst}
+use mathlib.Core.Path.{subst}
 use mathlib.Core.List.{List}
 use Prim.Native.Nat.{ℕ, _^_, _≤_, _<_}
 use Rattle.drive_sets.specs.declared.Pattern.{Pattern}

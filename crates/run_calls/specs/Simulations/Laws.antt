@@ -1,5 +1,5 @@
 -- No simulated exchange is refused with the number 0: so a reply has refusal 0 exactly where the call is accepted.
-use mathlib.Core.Path.{_≡_, refl}
+use mathlib.Core.Path.{refl}
 use mathlib.Core.Bool.{not}
 use mathlib.Core.List.{List, [], _∷_}
 use Prim.Native.Nat.{ℕ, suc}
