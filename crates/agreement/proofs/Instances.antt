@@ -43,6 +43,22 @@ module _ (n : ℕ) (sets : List ℕ) (a : Accepted n sets) where
       let d = listed-core (set .0) (set .1) in
       (d .0, d .2)
 
+-- ---- a scenario whose table is accepted
+
+module _ (s : Scenario) (a : Accepted (s .n) (s .sets)) where
+  in-frame : (d : ℕ) → has d (coreOf s) ≡ true → elem d (frame s) ≡ true
+  unfolding frame coreOf
+  in-frame d h = has-range (s .n) (coreOf s) (chosen-core (s .n) (s .sets) a .within) d h
+
+  pub accepted-lawful : Lawful (instanceOf s)
+  unfolding reach frame
+  accepted-lawful = record {
+    in-frame = λ {d} h. in-frame d h;
+    no-return = λ {k} {d} h. ap not (gone-later (s .crash d) k (not-true _ h));
+    full-reach = λ {k} {d} {e} c h f ne. ap (elem e) (cut-up (s .crash d) (suc k) (listOf s d) (not-true _ h)) ∙ in-listOf s d e f ne;
+    core-first = λ {k} {d} {e} {c} h l i ne. reach-core s d (suc k) e c (in-frame c i) h l i ne;
+  }
+
 -- ---- a valid scenario
 
 module _ {s : Scenario} (ok : Valid s) where
@@ -54,17 +70,10 @@ module _ {s : Scenario} (ok : Valid s) where
   valid-core = chosen-core (s .n) (s .sets) valid-accepted
 
   pub core-frame : (d : ℕ) → has d (coreOf s) ≡ true → elem d (frame s) ≡ true
-  unfolding frame
-  core-frame d h = has-range (s .n) (coreOf s) (valid-core .within) d h
+  core-frame = in-frame s valid-accepted
 
   pub lawful : Lawful (instanceOf s)
-  unfolding reach frame
-  lawful = record {
-    in-frame = λ {d} h. core-frame d h;
-    no-return = λ {k} {d} h. ap not (gone-later (s .crash d) k (not-true _ h));
-    full-reach = λ {k} {d} {e} c h f ne. ap (elem e) (cut-up (s .crash d) (suc k) (listOf s d) (not-true _ h)) ∙ in-listOf s d e f ne;
-    core-first = λ {k} {d} {e} {c} h l i ne. reach-core s d (suc k) e c (core-frame c i) h l i ne;
-  }
+  lawful = accepted-lawful s valid-accepted
 
   -- ---- the bounds of an exchange
 

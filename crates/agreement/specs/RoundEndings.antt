@@ -1,11 +1,14 @@
 -- The simulated exchange: how each drive ends by the rounds of SyncCrash, from the scenario alone, with no call. What
--- is to be proved of it, as types: every run gives what the simulated exchange gives, and it gives agreement.
+-- is to be proved of it, as types: listeners' proposals do not matter, every run gives what the simulated exchange
+-- gives, and it gives agreement.
 use mathlib.Core.Path.{_≡_}
+use mathlib.Core.Bool.{true}
 use mathlib.Core.List.{List, map}
 use mathlib.Core.Logic.{_↔_}
 use mathlib.Core.Option.{Option, none, some}
 use Prim.Native.Nat.{ℕ, zero, suc, _≤_}
-use Rattle.drive_sets.specs.Masks.{size}
+use Rattle.drive_sets.specs.Masks.{has, size}
+use Rattle.survivor_tables.specs.Tables.{Accepted}
 use Rattle.sync_crash.specs.Rounds.{Instance, decision}
 use Rattle.runs.specs.World.{Call}
 use Rattle.runs.specs.Scenario.{Crash, stays, crashes, Scenario, frame, coreOf}
@@ -37,6 +40,13 @@ endingOf s (crashes r m) d = stopped
 
 unfoldable pub endings : Scenario → List Ending
 endings s = map (λ d. endingOf s (s .crash d) d) (frame s)
+
+-- ---- it depends on the core drives' proposals only
+
+-- nobody learns what a listener proposes: it may be any number
+unfoldable pub ListenersFree : Type 0
+ListenersFree = (s : Scenario) → Accepted (s .n) (s .sets) → (other : ℕ → ℕ) → ((d : ℕ) → has d (coreOf s) ≡ true → s .proposal d ≡ other d)
+    → endings s ≡ endings (record { n = s .n; sets = s .sets; proposal = other; crash = s .crash })
 
 -- ---- every run gives it
 

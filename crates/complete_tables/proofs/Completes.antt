@@ -12,7 +12,7 @@ use Rattle.drive_sets.specs.declared.Refusal.the-variants.{TooManyCores}
 use Rattle.drive_sets.specs.declared.Refusal.{Refusal}
 use Rattle.drive_sets.specs.declared.Answer.{Answer}
 use Rattle.drive_sets.specs.Refusals.{Outcome, refused, result, andThen, number, outcomeOf}
-use Rattle.drive_sets.specs.Refusals.Laws.{refused-no-result, same-result, then-refuse}
+use Rattle.drive_sets.specs.Refusals.Laws.{refused-no-result, same-result, then-refuse, then-assoc}
 use Rattle.normal_forms.specs.declared.NormalForm.{NormalForm}
 use Rattle.normal_forms.specs.declared.NormalForm.the-variants as forms
 use Rattle.set_orders.specs.declared.sorting.Order.the-variants.{BySize}
@@ -90,11 +90,7 @@ module _ (n : ℕ) (sets : List ℕ) (answer : Answer) (e : outcomeOf answer set
 
   pub complete-said : (a : Answer) → answer ≡ a → andThen (outcomeOf a sets) (completeSets n) ≡ completeTable n sets
   unfolding completeTable completeSets normalTable
-  complete-said a f = ap (λ (o : Outcome (List ℕ)). andThen o (completeSets n)) (check-said a f) ∙ go (checkedSets n sets)
-    where
-      go : (o : Outcome (List ℕ)) → andThen o (completeSets n) ≡ andThen (andThen o withinCoreLimit) (λ table. result (withCores n table))
-      go (refused r) = refl
-      go (result l) = refl
+  complete-said a f = ap (λ (o : Outcome (List ℕ)). andThen o (completeSets n)) (check-said a f) ∙ sym (then-assoc (checkedSets n sets) withinCoreLimit (λ table. result (withCores n table)))
 
 -- a table's sets, as a part of its array from the start on
 pub first-taken : (t : Table) → take (t .count - 0) (t .sets) ≡ setsOf t

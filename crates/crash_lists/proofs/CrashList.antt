@@ -29,8 +29,9 @@ use Rattle.drive_crashes.specs.declared.Crashes.{Crashes}
 use Rattle.crash_lists.specs.declared.Step.{Step}
 use Rattle.crash_lists.specs.declared.Step.the-variants.{Crash, End, Stop}
 use Rattle.runs.specs.CrashRecords.{CrashRecord, isNext, checkedCrash}
+use Rattle.runs.specs.CrashRecords.Laws.{next-bounds}
 use Rattle.crash_lists.specs.CrashLists.{crashFields, CrashList, noCrash, takenCrash, crashList}
-use Rattle.crash_lists.specs.CrashLists.Laws.{next-bounds, checked-passes}
+use Rattle.crash_lists.specs.CrashLists.Laws.{checked-passes}
 use Rattle.drive_crashes.specs.Crashes.{noCrashes, crashRecord, crashesIn, withCrash}
 use Rattle.crash_lists.specs.Reading.{stepOutcome}
 use Rattle.drive_crashes.specs.Crashes.Laws.{none-listed, with-crash-listed}

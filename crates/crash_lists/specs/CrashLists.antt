@@ -28,6 +28,6 @@ unfoldable pub takenCrash : ℕ → ℕ → CrashList → List ℕ → Outcome C
 takenCrash n core l s =
     andThen (checkedCrash n core (l .last) (crashFields s)) (λ c. result (record { crashes = l .crashes ++ (c ∷ []); last = c .drive }))
 
--- the records after drive n's PR or PW
+-- the records behind the last PR or PW
 abbrev pub crashList : ℕ → ℕ → ListFormat CrashList
-crashList n core = record { due = λ l. AtCrashOrEnd; count = λ l. length (l .crashes); complete = λ l. false; taken = takenCrash n core }
+crashList n core = record { due = λ l. AtCrashOrEnd; count = λ l. length (l .crashes); complete = λ l s. false; taken = takenCrash n core }

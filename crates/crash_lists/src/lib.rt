@@ -87,8 +87,8 @@ fn note(c: Crashes, drive: Drive, round: Round, made: u8) -> Crashes
     }
 }
 
-// The records behind drive n's number, for any n and core: 3 where n is above 64, then their refusals. Beside a refusal
-// nothing is told.
+// The records behind the last PR or PW, for any n and core: 3 where n is above 64, then their refusals. Beside a
+// refusal nothing is told.
 pub fn read_crashes(s: &[u8], n: u8, core: u64) -> CrashesRead
     ensures { λ r. ⌜ crashesOutcome r (now (s .entry)) ≡ refuseIf (ltb maxDrives n) Refusal.FrameSize (readList (crashList n core) noCrash (now (s .entry))) ⌝ }
     ensures within { λ r. ⌜ r .used ≤ length (now (s .entry)) ⌝ }

@@ -27,7 +27,7 @@ pub fn no_crashes() -> Crashes
 }
 
 // A drive of the frame, above the last.
-fn is_next(n: u8, last: Drive, drive: Drive) -> bool
+pub fn is_next(n: u8, last: Drive, drive: Drive) -> bool
     ensures { λ r. ⌜ r ≡ isNext n (last .0) (drive .0) ⌝ }
 {
     if !drive_sets::is_drive(n, drive) {

@@ -1,6 +1,6 @@
 -- The promises of demands 2 and 3, and of document 02's requests, as types: of cores and the way back from them, of the
 -- first set that a group misses, of tables written and read, of verdicts and their lines, of the simulated exchange, of
--- the text of the run program, and of old records.
+-- the text of the run program, of old records, and of listeners' records.
 pub mod Cores
 pub mod Back
 pub mod Missed
@@ -10,3 +10,4 @@ pub mod TableText
 pub mod Exchange
 pub mod RunText
 pub mod OldRecords
+pub mod Listeners

@@ -4,7 +4,6 @@ use mathlib.Core.Path.{_≡_}
 use mathlib.Core.Bool.{true, false}
 use mathlib.Core.List.{List, _++_}
 use Prim.Native.Nat.{ℕ}
-use lib.ListN.{length}
 use Rattle.drive_sets.specs.Counts.{isDrive}
 use Rattle.drive_sets.specs.Refusals.{result}
 use Rattle.records.specs.Marks.{Form, narrow, wide}
@@ -13,7 +12,8 @@ use Rattle.drive_states.specs.Messages.{Message, Fits, bytesIn, wrongMask, read
 use Rattle.agreement.specs.Calls.{receiving}
 use Rattle.survivor_tables.specs.Tables.{Accepted}
 use Rattle.table_files.specs.Files.{tableBytes}
-use Rattle.run_files.specs.RunFiles.{RunFile, ProposalRecord, RecordsFit, numbersOf, proposalBytes, readRunFile}
+use Rattle.proposal_lists.specs.ProposalLists.{ProposalRecord, proposalBytes, recordDrives, recordNumbers, RecordsFit}
+use Rattle.run_files.specs.RunFiles.{readRunFile}
 use Rattle.run_listing.specs.RunListing.{runProgram}
 
 -- ---- messages
@@ -27,19 +27,15 @@ MessageReadsBack = (n : ℕ) (form : Form) (m : Message) → Fits form m
 unfoldable pub OldMessages : Type 0
 OldMessages = (x : Exchange) (m : Message) → Fits narrow m → receiving x (bytesIn narrow m) ≡ receiving x (bytesIn wide m)
 
--- ---- run files: a PR or PW for each drive of the frame, and anything behind them
-
--- the numbers of a file that is not refused are those of its PR and PW
-unfoldable pub RunFileNumbers : Type 0
-RunFileNumbers = (n : ℕ) (sets : List ℕ) (ps : List ProposalRecord) (rest : List ℕ) → length ps ≡ n → RecordsFit ps
-    → (f : RunFile) → readRunFile n sets (proposalBytes 1 ps ++ rest) ≡ result f → f .numbers ≡ numbersOf ps
+-- ---- run files: PR and PW of any drives, and anything behind them
 
 -- which of them are PR and which PW changes nothing
 unfoldable pub OldRunFiles : Type 0
-OldRunFiles = (n : ℕ) (sets : List ℕ) (ps qs : List ProposalRecord) (rest : List ℕ) → length ps ≡ n → numbersOf ps ≡ numbersOf qs → RecordsFit ps → RecordsFit qs
-    → readRunFile n sets (proposalBytes 1 ps ++ rest) ≡ readRunFile n sets (proposalBytes 1 qs ++ rest)
+OldRunFiles = (n : ℕ) (sets : List ℕ) (ps qs : List ProposalRecord) (rest : List ℕ) → recordDrives ps ≡ recordDrives qs → recordNumbers ps ≡ recordNumbers qs → RecordsFit ps → RecordsFit qs
+    → readRunFile n sets (proposalBytes ps ++ rest) ≡ readRunFile n sets (proposalBytes qs ++ rest)
 
 -- and neither what the run program prints of it behind a table, whatever the order of its sets
 unfoldable pub OldListings : Type 0
-OldListings = (n : ℕ) (sets : List ℕ) → Accepted n sets → (ps qs : List ProposalRecord) (rest : List ℕ) → length ps ≡ n → numbersOf ps ≡ numbersOf qs → RecordsFit ps → RecordsFit qs
-    → runProgram (tableBytes n sets ++ (proposalBytes 1 ps ++ rest)) ≡ runProgram (tableBytes n sets ++ (proposalBytes 1 qs ++ rest))
+OldListings = (n : ℕ) (sets : List ℕ) → Accepted n sets → (ps qs : List ProposalRecord) (rest : List ℕ)
+    → recordDrives ps ≡ recordDrives qs → recordNumbers ps ≡ recordNumbers qs → RecordsFit ps → RecordsFit qs
+    → runProgram (tableBytes n sets ++ (proposalBytes ps ++ rest)) ≡ runProgram (tableBytes n sets ++ (proposalBytes qs ++ rest))

@@ -34,11 +34,11 @@ module _ {S : Type 0} (f : ListFormat S) where
   reading-start s state at h = record { bytes = length (drop at s); enough = omega (arith, length-drop at s); within = h; same = refl }
 
   module _ (whole : Outcome (ReadList S)) (s : List ℕ) (state : S) (at : ℕ) (r : Reading whole s state at) where
-    pub reading-complete : f .complete state ≡ true → result (record { list = state; rest = drop at s }) ≡ whole
+    pub reading-complete : f .complete state (drop at s) ≡ true → result (record { list = state; rest = drop at s }) ≡ whole
     reading-complete e = sym (read-complete f (r .bytes) state (drop at s) e) ∙ r .same
 
     -- a step on the part from `at` on
-    module _ (going : f .complete state ≡ false) where
+    module _ (going : f .complete state (drop at s) ≡ false) where
       step : {o : Outcome (Option S)} → o ≡ stepOf f state (take (length s - at) (drop at s)) → stepOf f state (drop at s) ≡ o
       step e = sym (e ∙ ap (stepOf f state) (rest-is s at))
 

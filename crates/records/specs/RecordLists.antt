@@ -17,6 +17,7 @@ use Rattle.records.specs.declared.Next.the-variants.{One, End, Stop}
 use Rattle.records.specs.Fields.{fieldAt}
 use Rattle.records.specs.Marks.{mark, bodyWidth, isKind, widthAt, headOf, recordBytes}
 pub mod Laws
+pub mod Written
 pub mod Numbered
 pub mod Prefixes
 
@@ -36,11 +37,11 @@ unfoldable pub nextOf : Due → ℕ → List ℕ → Next
 nextOf due count s = nextAt (headOf due s) count s
 
 -- how a list of records is read. A state is what was read so far: what is due in it, how many records are listed,
--- whether the list ends by itself, and what the record at the start of the bytes makes of it
+-- whether the list ends by itself at these bytes, and what the record at their start makes of it
 pub record ListFormat (S : Type 0) : Type 0 where
   pub due : S → Due
   pub count : S → ℕ
-  pub complete : S → Bool
+  pub complete : S → List ℕ → Bool
   pub taken : S → List ℕ → Outcome S
 
 -- what is read, and the bytes behind it
@@ -66,10 +67,10 @@ module _ {S : Type 0} where
   -- the records from a state on; the number is at least that of the bytes, so where it is zero they have ended
   unfoldable pub readFrom : ListFormat S → ℕ → S → List ℕ → Outcome (ReadList S)
   readFrom f zero state s =
-      cond (f .complete state) (result (record { list = state; rest = s })) (refused (number EndsTooSoon))
+      cond (f .complete state s) (result (record { list = state; rest = s })) (refused (number EndsTooSoon))
   readFrom f (suc bytes) state s =
       let next = andThen (stepOf f state s) (following f (readFrom f bytes) state s) in
-      cond (f .complete state) (result (record { list = state; rest = s })) next
+      cond (f .complete state s) (result (record { list = state; rest = s })) next
 
   -- the whole list
   unfoldable pub readList : ListFormat S → S → List ℕ → Outcome (ReadList S)

@@ -6,7 +6,7 @@ ghost use mathlib.Core.Bool.{_||_};
 ghost use lib.Dec.{eqb};
 ghost use lib.ListN.{take, drop};
 ghost use Rattle.records.specs.Fields.{fromBytes, fieldAt};
-ghost use Rattle.records.specs.Marks.{mark, kindOf, numberWidth, bodyWidth, isKind, isDue, headOf};
+ghost use Rattle.records.specs.Marks.{mark, kindOf, numberWidth, bodyWidth, isKind, isDue, kindAt, headOf};
 ghost use Rattle.records.specs.RecordLists.{nextOf};
 use drive_sets::NARROW_PATTERN_BYTES;
 use drive_sets::PATTERN_BYTES;
@@ -266,6 +266,13 @@ pub(crate) fn is_due(due: Due, k: Kind) -> bool
         Due::AtCrashOrEnd => is_either(m, CRASH, END),
         Due::AtMessage => is_either(m, KNOWN, DECIDE) || is_either(m, WIDE_KNOWN, WIDE_DECIDE),
     }
+}
+
+// A record that is due here starts the bytes; where its mark is cut, none does.
+pub fn starts(s: &[u8], due: Due) -> bool
+    ensures { λ r. ⌜ r ≡ isDue due (kindAt (now (s .entry))) ⌝ }
+{
+    is_due(due, kind_of(field(s, 0, 2)))
 }
 
 // The record at the start of the bytes: refused where its mark is cut, is not due, or the rest is cut.

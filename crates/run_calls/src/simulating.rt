@@ -26,8 +26,8 @@ use simulation_replies::ending_of;
 use simulation_replies::no_ending;
 use simulation_replies::refused_simulation;
 
-// What the drives propose, drive 1 first, and which of them stop: of each such drive d, at place d - 1, the round and
-// the sends that it still makes.
+// What the core drives propose, drive 1 first, with any number for a listener, and which drives stop: of each such
+// drive d, at place d - 1, the round and the sends that it still makes.
 #[repr(C)]
 pub struct Scenario {
     pub stopped: u64,

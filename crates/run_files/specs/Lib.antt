@@ -1,3 +1,3 @@
--- Run files, and reading as the code does it.
+-- Run files, and what the reader's answers say.
 pub mod RunFiles
 pub mod Reading

@@ -1,3 +1,2 @@
-// Run files: the pattern numbers that the drives propose and their crashes, read from the bytes after a table.
-mod proposals;
+// Run files: the pattern numbers that the core drives propose and the crashes, read from the bytes after a table.
 pub mod reading;

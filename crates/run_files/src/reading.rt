@@ -1,5 +1,5 @@
-// The run file reader: PR or PW for each drive, CR, EN with their count, nothing after it, and a survivor set that no
-// crash touches.
+// The run file reader: PR or PW for each core drive, CR, EN with their count, nothing after it, and a survivor set that
+// no crash touches.
 ghost use mathlib.Core.Path.{_≡_};
 ghost use Prim.Native.Nat.{_≤_};
 ghost use lib.ListN.{length};
@@ -7,17 +7,18 @@ ghost use Rattle.run_files.specs.RunFiles.{readRecords, readBehind, read
 ghost use Rattle.run_files.specs.Reading.{recordsOutcome, runFileOutcome, refusedFile};
 ghost use Rattle.drive_sets.specs.Limits.{maxDrives};
 ghost use Rattle.drive_sets.specs.Refusals.{Alone};
-use crate::proposals;
 use drive_crashes::Crashes;
 use drive_crashes::no_crashes;
 use drive_sets::Answer;
 use drive_sets::Pattern;
 use drive_sets::Position;
 use drive_sets::Refusal;
+use proposal_lists::read_proposals;
 use survivor_tables::missed::first_missed;
 use tables::calls::Chosen;
 
-// What a run file says, where it is accepted: the pattern numbers, drive 1 first, and the crashes by drive.
+// What a run file says, where it is accepted: the pattern numbers, drive 1 first, with 0 at a listener's place, and the
+// crashes by drive.
 pub struct RunFile {
     pub answer: Answer,
     pub numbers: [Pattern; 64],
@@ -59,7 +60,7 @@ fn read_records(s: &[u8], n: u8, core: u64) -> RunRecords
     ensures { λ r. ⌜ recordsOutcome n r (now (s .entry)) ≡ readRecords n core (now (s .entry)) ⌝ }
     ensures within { λ r. ⌜ r .used ≤ length (now (s .entry)) ⌝ }
 {
-    let given = proposals::read_proposals(s, n);
+    let given = read_proposals(s, n, core);
     let answer = given.answer;
     let first = given.used;
     let numbers = given.numbers;

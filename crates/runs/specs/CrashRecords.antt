@@ -9,6 +9,7 @@ use Rattle.drive_sets.specs.Masks.{has, ofDrives}
 use Rattle.drive_sets.specs.Refusals.{Outcome, result, refuseIf}
 use Rattle.drive_sets.specs.Counts.{isDrive, isRound}
 use Rattle.runs.specs.Scenario.{Crash, stays, crashes, Scenario}
+pub mod Laws
 
 -- a CR record: drive, round, sends
 pub record CrashRecord : Type 0 where

@@ -1,9 +1,10 @@
 -- The crashes checked in order: the loop over the drives with a CR, from the lowest, and the checks with what comes
 -- next.
-use mathlib.Core.Path.{_≡_, refl}
+use mathlib.Core.Path.{_≡_, refl, sym, _∙_}
 use mathlib.Core.List.{List, [], _∷_, map}
 use Prim.Native.Nat.{ℕ}
-use Rattle.drive_sets.specs.Refusals.{Outcome, refused, result, andThen}
+use Rattle.drive_sets.specs.Refusals.{Outcome, result, andThen}
+use Rattle.drive_sets.specs.Refusals.Laws.{then-same, then-assoc}
 use Rattle.drive_sets.specs.Loops.Drives.{Walk}
 use Rattle.runs.specs.CrashRecords.{CrashRecord, checkedCrash}
 use Rattle.drive_crashes.specs.declared.Crashes.{Crashes}
@@ -24,10 +25,6 @@ module _ {A B : Type 0} where
       → checkedCrashes n core last crs next ≡ andThen (checkedCrashes n core last crs (result a)) (λ passed. next)
   unfolding checkedCrashes
   checked-then n core last [] a next = refl
-  checked-then n core last (c ∷ cs) a next = go (checkedCrash n core last c) (checked-then n core (c .drive) cs a next)
-    where
-      go : (o : Outcome CrashRecord) → checkedCrashes n core (c .drive) cs next ≡ andThen (checkedCrashes n core (c .drive) cs (result a)) (λ passed. next)
-          → andThen o (λ passed. checkedCrashes n core (c .drive) cs next)
-          ≡ andThen (andThen o (λ passed. checkedCrashes n core (c .drive) cs (result a))) (λ passed. next)
-      go (refused r) h = refl
-      go (result x) h = h
+  checked-then n core last (c ∷ cs) a next =
+      then-same (checkedCrash n core last c) (λ x e. checked-then n core (c .drive) cs a next)
+      ∙ sym (then-assoc (checkedCrash n core last c) (λ x. checkedCrashes n core (c .drive) cs (result a)) (λ x. next))

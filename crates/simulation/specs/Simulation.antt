@@ -1,5 +1,5 @@
--- The simulated exchange as a call: from n and sets, pattern numbers and CR records the refusals, or how each drive
--- ends by the rounds, the core and f. Every run of the scenario gives the same.
+-- The simulated exchange as a call: from n and sets, pattern numbers, any for a listener, and CR records the refusals,
+-- or how each drive ends by the rounds, the core and f. Every run of the scenario gives the same.
 use mathlib.Core.List.{List, [], _∷_}
 use Prim.Native.Nat.{ℕ}
 use Rattle.drive_sets.specs.declared.Refusal.the-variants.{NoneUntouched}

@@ -100,8 +100,8 @@ fn where_checked(
     }
 }
 
-// The simulated exchange: from n and sets, the pattern numbers, drive 1 first, and the crashes. The table's refusals,
-// then those of each crash, then 11. Beside a refusal nothing is told.
+// The simulated exchange: from n and sets, the pattern numbers, drive 1 first, with any for a listener, and the
+// crashes. The table's refusals, then those of each crash, then 11. Beside a refusal nothing is told.
 pub fn simulate(n: u8, sets: &[u64], numbers: [Pattern; 64], crashes: Crashes) -> Simulated
     ensures { λ t. ⌜ simulatedOutcome n t ≡ simulated n (now (sets .entry)) (take n (values numbers)) (crashesIn crashes) ⌝ }
     ensures alone { λ t. ⌜ Alone (λ (u : Simulated). u .answer) refusedSimulated t ⌝ }

@@ -8,7 +8,7 @@ use Rattle.drive_sets.specs.declared.Answer.{Answer}
 use Rattle.drive_sets.specs.declared.Answer.the-variants.{Accepted, Refused}
 use Rattle.drive_sets.specs.declared.Refusal.{Refusal}
 use Rattle.drive_sets.specs.Refusals.{Outcome, refused, result, andThen, number, outcomeOf}
-use Rattle.drive_sets.specs.Refusals.Laws.{refused-no-result, first-result, same-result}
+use Rattle.drive_sets.specs.Refusals.Laws.{refused-no-result, first-result, same-result, then-same, then-assoc, then-then}
 use Rattle.complete_tables.specs.declared.TableWithCores.{TableWithCores}
 use Rattle.table_files.specs.declared.reading.TableRead.{TableRead}
 use Rattle.survivor_tables.specs.Tables.{cores, withinCoreLimit, normalTable}
@@ -22,32 +22,18 @@ use Rattle.complete_tables.proofs.Accepts.{then-refused}
 -- a listing that is accepted, with its cores, and with what stands behind
 pub accepted-completed : (t : ReadTable) → andThen (accepted t) (λ a. result (withCores (a .n) (a .sets))) ≡ completed t
 unfolding completeSets accepted
-accepted-completed t = go (withinCoreLimit (t .sets))
-  where
-    go : (o : Outcome (List ℕ))
-        → andThen (andThen o (λ table. result (record { n = t .n; sets = table; rest = t .rest }))) (λ (a : ReadTable). result (withCores (a .n) (a .sets)))
-        ≡ andThen o (λ table. result (withCores (t .n) table))
-    go (refused r) = refl
-    go (result table) = refl
+accepted-completed t = then-then (withinCoreLimit (t .sets)) (λ table. record { n = t .n; sets = table; rest = t .rest }) (λ (a : ReadTable). result (withCores (a .n) (a .sets)))
 
 abbrev behind : Outcome Complete → List ℕ → Outcome ReadComplete
 behind o rest = andThen o (λ table. result (record { table = table; rest = rest }))
 
 read-behind : (s : List ℕ) → readComplete s ≡ andThen (readListed s) (λ t. behind (completed t) (t .rest))
 unfolding readWithCores readComplete readTable accepted completeSets
-read-behind s = go (readListed s)
-  where
-    one : (t : ReadTable) (o : Outcome (List ℕ))
-        → andThen (andThen o (λ table. result (record { n = t .n; sets = table; rest = t .rest }))) readWithCores
-        ≡ behind (andThen o (λ table. result (withCores (t .n) table))) (t .rest)
-    one t (refused r) = refl
-    one t (result table) = refl
-
-    go : (o : Outcome ReadTable)
-        → andThen (andThen o accepted) readWithCores
-        ≡ andThen o (λ t. behind (completed t) (t .rest))
-    go (refused r) = refl
-    go (result t) = one t (withinCoreLimit (t .sets))
+read-behind s =
+    then-assoc (readListed s) accepted readWithCores
+    ∙ then-same (readListed s) (λ t e.
+    then-then (withinCoreLimit (t .sets)) (λ table. record { n = t .n; sets = table; rest = t .rest }) readWithCores
+    ∙ sym (then-then (withinCoreLimit (t .sets)) (λ table. withCores (t .n) table) (λ table. result (record { table = table; rest = t .rest }))))
 
 -- ---- what is listed is accepted by the call given n and sets, but for its cores
 

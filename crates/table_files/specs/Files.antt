@@ -38,7 +38,7 @@ takenSet n listed s =
 
 -- the records after FR, with the sets listed so far
 abbrev pub setList : ℕ → ListFormat (List ℕ)
-setList n = record { due = λ listed. dueAfter (length listed); count = length; complete = λ listed. false; taken = takenSet n }
+setList n = record { due = λ listed. dueAfter (length listed); count = length; complete = λ listed s. false; taken = takenSet n }
 
 abbrev pub listedTable : ℕ → ReadList (List ℕ) → ReadTable
 listedTable n l = record { n = n; sets = l .list; rest = l .rest }

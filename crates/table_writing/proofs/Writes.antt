@@ -12,7 +12,7 @@ use Rattle.drive_sets.specs.Lent.{written}
 use Rattle.drive_sets.specs.Lent.Laws.{length-written, written-fits, written-none}
 use Rattle.records.specs.Marks.{mark, bodyWidth, recordBytes}
 use Rattle.records.specs.RecordLists.{listBytes}
-use Rattle.records.specs.RecordLists.Laws.{length-list, list-more}
+use Rattle.records.specs.RecordLists.Written.{length-list, list-more}
 use Rattle.records.specs.Marks.Laws.{length-record}
 use Rattle.lent_bytes.proofs.Parts.{part-then}
 use Rattle.table_files.specs.Files.{tableBytes}

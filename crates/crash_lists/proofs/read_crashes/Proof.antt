@@ -1,4 +1,4 @@
--- The loop over the records behind drive n's number: what is left to read gives what the whole gives. It ends, since
+-- The loop over the records behind the last PR or PW: what is left to read gives what the whole gives. It ends, since
 -- the drives rise and are at most n.
 use mathlib.Core.Path.{refl}
 use native.Mathlib.Omega.{arith}

@@ -1,18 +1,17 @@
 -- Laws of the CR records that are read: each passes 8, 9 and 10 behind the one before it, since a record is taken only
 -- where it is checked.
 use mathlib.Core.Path.{_≡_, sym, subst}
-use mathlib.Core.Bool.{true, not, _&&_}
+use mathlib.Core.Bool.{true, not}
 use mathlib.Core.List.{List, [], _∷_, _++_, append-nil}
-use Prim.Native.Nat.{ℕ, _≤_, _<_}
-use lib.Dec.{leb, ltb}
+use Prim.Native.Nat.{ℕ, _≤_}
+use lib.Dec.{ltb}
 use lib.ListN.{length}
 use lib.Seq.{append-snoc}
-use borrow.Author.Tests.{not-false, leb-true, ltb-true, ltb-false}
-use Rattle.drive_sets.specs.Bools.Laws.{and-left, and-right}
+use borrow.Author.Tests.{not-false, ltb-false}
 use Rattle.drive_sets.specs.declared.Refusal.the-variants.{DriveNumber, CrashRound, CrashSends}
 use Rattle.drive_sets.specs.Refusals.{result}
 use Rattle.drive_sets.specs.Refusals.Laws.{same-result, passed, first-result}
-use Rattle.drive_sets.specs.Counts.{isDrive, isRound}
+use Rattle.drive_sets.specs.Counts.{isRound}
 use Rattle.records.specs.RecordLists.{ReadList, readList}
 use Rattle.records.specs.RecordLists.Laws.{read-keeps}
 use Rattle.runs.specs.CrashRecords.{CrashRecord, isNext, mostSends, checkedCrash}
@@ -24,12 +23,6 @@ pub record Passes (n core last : ℕ) (c : CrashRecord) : Type 0 where
   pub next : isNext n last (c .drive) ≡ true
   pub round : isRound core (c .round) ≡ true
   pub sends : c .sends ≤ mostSends n core (c .drive)
-
-pub next-bounds : (n last d : ℕ) → isNext n last d ≡ true → (1 ≤ d) × (d ≤ n) × (last < d)
-unfolding isNext isDrive
-next-bounds n last d h =
-    let two = and-left (leb 1 d && leb d n) (ltb last d) h in
-    (leb-true 1 d (and-left (leb 1 d) (leb d n) two), leb-true d n (and-right (leb 1 d) (leb d n) two), ltb-true last d (and-right (leb 1 d && leb d n) (ltb last d) h))
 
 module _ (n core last : ℕ) (c : CrashRecord) where
   pub checked-passes : {c′ : CrashRecord} → checkedCrash n core last c ≡ result c′ → (c ≡ c′) × Passes n core last c

@@ -1,5 +1,5 @@
 -- How many drives a set has, its lowest drive, and its drives as a rising list and back.
-use mathlib.Core.Path.{_≡_, refl, sym, ap, ap₂, _∙_}
+use mathlib.Core.Path.{_≡_, refl, sym, ap, ap₂, _∙_, subst}
 use mathlib.Core.Bool.{Bool, true, false, not, _&&_, _||_, and-true}
 use mathlib.Core.List.{List, [], _∷_}
 use Prim.Native.Nat.{ℕ, zero, suc, _+_, _-_, _*_, _/_, _%_, _^_, _≤_, _<_, zero-le, suc-le-suc}
@@ -143,6 +143,12 @@ pub lowest-least : (d m : ℕ) → m < 2 ^ 64 → has d m ≡ true → lowest m 
 unfolding lowest has
 lowest-least zero m h e = absurd (clash e refl)
 lowest-least (suc i) m h e = suc-le-suc (trailing-least 64 i m (has-bounds 64 (suc i) m h e .1) (eqb-true (bit i m) 1 e))
+
+-- where no drive of the set is below d, neither is the lowest; that of the empty set is none
+pub lowest-from : (m d : ℕ) → m < 2 ^ 64 → d ≤ 64 → ((e : ℕ) → has e m ≡ true → d ≤ e) → d ≤ lowest m
+unfolding trailingZeros lowest
+lowest-from m d word high from =
+    by-test (eqb m 0) (λ t. subst (λ (x : ℕ). d ≤ lowest x) (sym (eqb-true m 0 t)) (omega arith)) (λ t. from (lowest m) (lowest-has m word (eqb-false m 0 t)))
 
 -- ---- the drives as a list
 

@@ -62,8 +62,17 @@ module _ {A : Type 0} (answer : A → Answer) (refusedAs : Refusal → A) (is : 
   pub accepted-alone : {a : A} → answer a ≡ Accepted → Alone answer refusedAs a
   accepted-alone e r h = absurd (accepted-not-refused (sym e ∙ h))
 
--- a step that only makes a value, and the next
+-- two steps that make the same of a result
+pub then-same : {A B : Type 0} (o : Outcome A) {f g : A → Outcome B} → ((a : A) → o ≡ result a → f a ≡ g a) → andThen o f ≡ andThen o g
+then-same (refused r) same = refl
+then-same (result a) same = same a refl
+
+-- a step and the next; and where the first only makes a value
 module _ {A B C : Type 0} where
+  pub then-assoc : (o : Outcome A) (f : A → Outcome B) (g : B → Outcome C) → andThen (andThen o f) g ≡ andThen o (λ a. andThen (f a) g)
+  then-assoc (refused r) f g = refl
+  then-assoc (result a) f g = refl
+
   pub then-then : (o : Outcome A) (f : A → B) (g : B → Outcome C) → andThen (andThen o (λ a. result (f a))) g ≡ andThen o (λ a. g (f a))
   then-then (refused r) f g = refl
   then-then (result a) f g = refl

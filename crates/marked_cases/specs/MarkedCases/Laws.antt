@@ -19,7 +19,8 @@ use Rattle.drive_sets.specs.Counts.{isRound}
 use Rattle.runs.specs.Statement.{coreCrashes}
 use Rattle.agreement.specs.RoundEndings.{endingAfter, endingFrom, endingOf, endings}
 use Rattle.crash_lists.specs.CrashLists.{crashFields, takenCrash}
-use Rattle.run_files.specs.RunFiles.{takenProposal, readRecords, untouchedLeft, wholeRun, readBehind, readRunFile}
+use Rattle.proposal_lists.specs.ProposalLists.{withProposal, takenProposal, proposalsEnd, readProposals}
+use Rattle.run_files.specs.RunFiles.{readRecords, untouchedLeft, wholeRun, readBehind, readRunFile}
 use Rattle.simulation.specs.Simulation.{checkedCrashes, simulated}
 use Rattle.text.specs.Text.{digit, inBase, digits, joined, field, fields, named, line, lines, refusalLine}
 use Rattle.verdict_lines.specs.VerdictLines.{noPart, verdictPart, verdictLine, verdictLines}
@@ -28,5 +29,5 @@ use Rattle.run_listing.specs.RunListing.{endingText, driveLine, endingLines, co
 use Rattle.marked_cases.specs.MarkedCases.{AllGiven, sv, fileA, fileC, fileH, fileI, prs, cr, onA, fileJ, runJ, marked}
 
 pub marked-cases : AllGiven marked
-unfolding marked sv fileA fileC fileH fileI prs cr onA fileJ runJ evaluated orElse elem firstSome outside trailingZeros lowest ofDrives firstFailing checkedSets chosenCore dueAfter takenSet nextOf stepOf readFrom readList readListed accepted readTable readWhole firstWith disjoint blocksOf withMove moved moves fillEmpty verdictOn judged verdictGiven start smallestOf sends reaches adds known announces announced heard unchanged stable ifStable decides halts closes closed step after frame coreOf goneBy hasCrash listOf cut reach crashed isNext isRound mostSends checkedCrash crashIn scenario coreCrashes endingAfter endingFrom endingOf endings takenProposal crashFields takenCrash readRecords untouchedLeft wholeRun readBehind readRunFile checkedCrashes simulated digit inBase digits joined field fields named line lines refusalLine noPart verdictPart verdictLine verdictLines listing tableProgram endingText driveLine endingLines coreLine simulatedWith simulatedFile runProgram
+unfolding marked sv fileA fileC fileH fileI prs cr onA fileJ runJ evaluated orElse elem firstSome outside trailingZeros lowest ofDrives firstFailing checkedSets chosenCore dueAfter takenSet nextOf stepOf readFrom readList readListed accepted readTable readWhole firstWith disjoint blocksOf withMove moved moves fillEmpty verdictOn judged verdictGiven start smallestOf sends reaches adds known announces announced heard unchanged stable ifStable decides halts closes closed step after frame coreOf goneBy hasCrash listOf cut reach crashed isNext isRound mostSends checkedCrash crashIn scenario coreCrashes endingAfter endingFrom endingOf endings withProposal takenProposal proposalsEnd readProposals crashFields takenCrash readRecords untouchedLeft wholeRun readBehind readRunFile checkedCrashes simulated digit inBase digits joined field fields named line lines refusalLine noPart verdictPart verdictLine verdictLines listing tableProgram endingText driveLine endingLines coreLine simulatedWith simulatedFile runProgram
 marked-cases = (refl, (refl, (refl, (refl, (refl, (refl, (refl, (refl, (refl, (refl, (refl, tt)))))))))))

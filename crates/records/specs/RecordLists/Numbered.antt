@@ -34,9 +34,9 @@ module _ {S : Type 0} (f : ListFormat S) (taken-numbered : (state : S) (s : List
 
   from-numbered : (bytes : ℕ) (state : S) (s : List ℕ) → Numbered (readFrom f bytes state s)
   unfolding readFrom stepOf fromOne
-  from-numbered zero state s = either-numbered (f .complete state) result-numbered (record { from = refl })
+  from-numbered zero state s = either-numbered (f .complete state s) result-numbered (record { from = refl })
   from-numbered (suc bytes) state s =
-      either-numbered (f .complete state) result-numbered
+      either-numbered (f .complete state s) result-numbered
       (then-numbered (stepOf f state s) (following f (readFrom f bytes) state s)
       (step-numbered (nextOf (f .due state) (f .count state) s) (taken-numbered state s))
       (following-numbered (readFrom f bytes) (from-numbered bytes) state s))

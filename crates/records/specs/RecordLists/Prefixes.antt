@@ -91,7 +91,8 @@ width-most s = omega (arith, body-most (kindAt s))
 module _ {S B : Type 0} (f : ListFormat S) (finish : ReadList S → Outcome B) (most : ℕ)
     (blind : (list : S) (rest : List ℕ) (j : ℕ) → most ≤ j → finish (record { list = list; rest = take j rest }) ≡ finish (record { list = list; rest = rest }))
     (own : (state : S) (k : ℕ) (s : List ℕ) → widest ≤ k → f .taken state (take k s) ≡ f .taken state s)
-    (left : S → ℕ) (falls : (state : S) (s : List ℕ) (t : S) → f .complete state ≡ false → f .taken state s ≡ result t → left t < left state) where
+    (ends : (state : S) (k : ℕ) (s : List ℕ) → widest ≤ k → f .complete state (take k s) ≡ f .complete state s)
+    (left : S → ℕ) (falls : (state : S) (s : List ℕ) (t : S) → f .complete state s ≡ false → f .taken state s ≡ result t → left t < left state) where
   step-prefix : (state : S) (k : ℕ) (s : List ℕ) → widest ≤ k → stepOf f state (take k s) ≡ stepOf f state s
   unfolding stepOf nextOf
   step-prefix state k s h =
@@ -109,9 +110,9 @@ module _ {S B : Type 0} (f : ListFormat S) (finish : ReadList S → Outcome B) (
 
   -- one step, where what is read behind a record is alike
   module _ (bytes bytes′ : ℕ) (state : S) (s : List ℕ) (k : ℕ) (all : length s ≤ bytes) (all′ : length (take k s) ≤ bytes′) (h : widest + most ≤ k)
-      (later : (t : S) → f .complete state ≡ false → f .taken state s ≡ result t
+      (later : (t : S) → f .complete state s ≡ false → f .taken state s ≡ result t
       → Alike finish (readFrom f (bytes′ - 1) t (take (k - widthAt s) (drop (widthAt s) s))) (readFrom f (bytes - 1) t (drop (widthAt s) s))) where
-    followed : f .complete state ≡ false → (o : Outcome (Option S)) → stepOf f state s ≡ o
+    followed : f .complete state s ≡ false → (o : Outcome (Option S)) → stepOf f state s ≡ o
         → Alike finish (andThen o (following f (readFrom f (bytes′ - 1)) state (take k s))) (andThen o (following f (readFrom f (bytes - 1)) state s))
     followed going (refused r) e = no-other
     followed going (result none) e =
@@ -124,11 +125,11 @@ module _ {S B : Type 0} (f : ListFormat S) (finish : ReadList S → Outcome B) (
 
     from-prefix : Alike finish (readFrom f bytes′ state (take k s)) (readFrom f bytes state s)
     from-prefix =
-        by-test (f .complete state)
-        (λ t. subst (λ (o : Outcome (ReadList S)). Alike finish o (readFrom f bytes state s)) (sym (read-complete f bytes′ state (take k s) t))
+        by-test (f .complete state s)
+        (λ t. subst (λ (o : Outcome (ReadList S)). Alike finish o (readFrom f bytes state s)) (sym (read-complete f bytes′ state (take k s) (ends state k s (omega arith) ∙ t)))
         (subst (Alike finish (result (record { list = state; rest = take k s }))) (sym (read-complete f bytes state s t)) (ends-alike state s k (omega arith))))
         (λ t. subst (λ (o : Outcome (ReadList S)). Alike finish o (readFrom f bytes state s))
-        (sym (read-step f bytes′ state (take k s) all′ t ∙ ap (λ (o : Outcome (Option S)). andThen o (following f (readFrom f (bytes′ - 1)) state (take k s))) (step-prefix state k s (omega arith))))
+        (sym (read-step f bytes′ state (take k s) all′ (ends state k s (omega arith) ∙ t) ∙ ap (λ (o : Outcome (Option S)). andThen o (following f (readFrom f (bytes′ - 1)) state (take k s))) (step-prefix state k s (omega arith))))
         (subst (Alike finish (andThen (stepOf f state s) (following f (readFrom f (bytes′ - 1)) state (take k s)))) (sym (read-step f bytes state s all t)) (followed t (stepOf f state s) refl)))
 
   prefix-from : (more bytes bytes′ : ℕ) (state : S) (s : List ℕ) (k : ℕ) → left state ≤ more → length s ≤ bytes → length (take k s) ≤ bytes′

@@ -2,10 +2,10 @@
 use mathlib.Core.Path.{refl}
 use mathlib.Core.Bool.{not}
 use mathlib.Core.List.{List, [], _∷_}
-use Prim.Native.Nat.{ℕ, suc}
-use lib.Dec.{eqb, ltb}
-use lib.ListN.{length}
+use Prim.Native.Nat.{ℕ}
+use lib.Dec.{ltb}
 use Rattle.drive_sets.specs.Counts.{isRound}
+use Rattle.drive_sets.specs.Masks.{lowest}
 use Rattle.drive_sets.specs.Refusals.{Outcome, result}
 use Rattle.drive_sets.specs.Refusals.Numbered.{Numbered, result-numbered, if-numbered, then-numbered}
 use Rattle.drive_sets.specs.Positions.{isNone}
@@ -15,7 +15,8 @@ use Rattle.records.specs.RecordLists.{readList}
 use Rattle.survivor_tables.specs.Tables.{isEmpty, chosen, normalTable, chosenCore}
 use Rattle.runs.specs.CrashRecords.{CrashRecord, crashed, isNext, mostSends, checkedCrash}
 use Rattle.crash_lists.specs.CrashLists.{crashFields, CrashList, noCrash, takenCrash, crashList}
-use Rattle.run_files.specs.RunFiles.{takenProposal, proposalList, readRecords, untouchedLeft, wholeRun, readBehind, readRunFile}
+use Rattle.proposal_lists.specs.ProposalLists.{ProposalList, noProposal, takenProposal, proposalList, readProposals}
+use Rattle.run_files.specs.RunFiles.{readRecords, untouchedLeft, wholeRun, readBehind, readRunFile}
 use Rattle.simulation.specs.Simulation.{checkedCrashes, unlessTouched, simulated}
 use Rattle.run_listing.specs.RunListing.{simulatedWith}
 use Rattle.records.specs.RecordLists.Numbered.{list-numbered}
@@ -46,9 +47,12 @@ simulated-numbered n sets numbers crs =
 
 -- ---- the run file
 
-proposal-numbered : (given s : List ℕ) → Numbered (takenProposal given s)
+proposal-numbered : (n : ℕ) (l : ProposalList) (s : List ℕ) → Numbered (takenProposal n l s)
 unfolding takenProposal
-proposal-numbered given s = if-numbered (not (eqb (fieldAt 2 1 s) (suc (length given)))) 8 refl result-numbered
+proposal-numbered n l s =
+    if-numbered (not (isNext n (l .last) (fieldAt 2 1 s))) 8 refl
+    (if-numbered (ltb (lowest (l .owed)) (fieldAt 2 1 s)) 8 refl
+    result-numbered)
 
 listed-numbered : (n core : ℕ) (l : CrashList) (s : List ℕ) → Numbered (takenCrash n core l s)
 unfolding takenCrash
@@ -56,9 +60,10 @@ listed-numbered n core l s =
     then-numbered (checkedCrash n core (l .last) (crashFields s)) _ (crash-numbered n core (l .last) (crashFields s)) (λ c. result-numbered)
 
 records-numbered : (n core : ℕ) (s : List ℕ) → Numbered (readRecords n core s)
-unfolding readRecords
+unfolding readRecords readProposals
 records-numbered n core s =
-    then-numbered (readList (proposalList n) [] s) _ (list-numbered (proposalList n) proposal-numbered [] s)
+    then-numbered (readProposals n core s) _
+    (then-numbered (readList (proposalList n) (noProposal n core) s) _ (list-numbered (proposalList n) (proposal-numbered n) (noProposal n core) s) (λ p. result-numbered))
     (λ p. then-numbered (readList (crashList n core) noCrash (p .rest)) _ (list-numbered (crashList n core) (listed-numbered n core) noCrash (p .rest)) (λ c. result-numbered))
 
 file-numbered : (n : ℕ) (sets s : List ℕ) → Numbered (readRunFile n sets s)

@@ -1,4 +1,4 @@
--- What a run file that is not refused says: a pattern number for each drive, crashes that pass 8, 9 and 10, drives
+-- What a run file that is not refused says: a pattern number to each drive, crashes that pass 8, 9 and 10, drives
 -- rising, and a survivor set that no crash touches.
 use mathlib.Core.Path.{_≡_, refl, sym, ap, _∙_, subst}
 use mathlib.Core.Bool.{true, false, not, cond}
@@ -31,12 +31,14 @@ use Rattle.survivor_tables.specs.Tables.Laws.{core-given}
 use Rattle.drive_sets.specs.Limits.{patternLimit}
 use Rattle.records.specs.RecordLists.{readList}
 use Rattle.runs.specs.CrashRecords.{drivesOf, CrashRecord, crashed, mostSends}
+use Rattle.runs.specs.CrashRecords.Laws.{next-bounds}
 use Rattle.drive_sets.specs.Counts.{isRound}
 use Rattle.crash_lists.specs.CrashLists.{noCrash, crashList}
-use Rattle.crash_lists.specs.CrashLists.Laws.{Passes, next-bounds, AllPass, crashes-read}
-use Rattle.run_files.specs.RunFiles.{RunFile, proposalList, ReadRun, readRecords, untouchedLeft, wholeRun, readBehind, readRunFile}
+use Rattle.crash_lists.specs.CrashLists.Laws.{Passes, AllPass, crashes-read}
+use Rattle.run_files.specs.RunFiles.{RunFile, ReadRun, readRecords, untouchedLeft, wholeRun, readBehind, readRunFile}
 use Rattle.records.specs.Fields.{Bytes}
-use Rattle.run_files.specs.RunFiles.Laws.{numbers-read}
+use Rattle.proposal_lists.specs.ProposalLists.{readProposals}
+use Rattle.proposal_lists.specs.ProposalLists.Laws.{numbers-read}
 
 -- ---- one crash
 
@@ -130,7 +132,7 @@ not-refused n sets s f e =
     let found = first-result (chosenCore n sets) (λ k. readBehind n k sets s) e in
     let given = core-given n sets (found .1) in
     let read = first-result (readRecords n core s) (wholeRun sets) (ap (λ (k : ℕ). readBehind n k sets s) (given .1) ∙ found .2) in
-    let first = first-result (readList (proposalList n) [] s) _ (read .1) in
+    let first = first-result (readProposals n core s) _ (read .1) in
     let p = first .0 in
     let second = first-result (readList (crashList n core) noCrash (p .rest)) _ (first .2) in
     let c = second .0 .list in
@@ -138,7 +140,7 @@ not-refused n sets s f e =
     let ended = passed (not (isEmpty (read .0 .rest))) TrailingBytes (untouchedLeft sets (read .0 .file)) (read .2) in
     let left = passed (isNone (firstMissed sets (crashed (c .crashes)))) NoneUntouched _ (ap (λ (r : ReadRun). untouchedLeft sets (r .file)) is ∙ ended .1) in
     let high = given .0 .high in
-    let numbers = numbers-read n s (first .1) in
+    let numbers = numbers-read n core s (first .1) in
     let all = crashes-read n core (p .rest) (second .1) in
     let same = same-result (left .1) in
     let set = some-missed sets (crashed (c .crashes)) (left .0) in

@@ -26,7 +26,8 @@ use Rattle.records.specs.Fields.{fromBytes, fieldAt}
 use Rattle.records.specs.Marks.{ascii, markText, mark, bodyWidth, isKind, isDue, widthAt, headOf, recordBytes}
 use Rattle.records.specs.Marks.Laws.{length-record, head-record, kind-is, record-field, record-rest}
 use Rattle.records.specs.RecordLists.{ReadList, readList, listBytes}
-use Rattle.records.specs.RecordLists.Laws.{OwnKind, other-kind, Leads, length-list, list-back, read-keeps, record-there}
+use Rattle.records.specs.RecordLists.Laws.{OwnKind, other-kind, read-keeps, record-there}
+use Rattle.records.specs.RecordLists.Written.{Leads, length-list, list-back}
 use Rattle.drive_sets.specs.Limits.{maxDrives, maxSets, maxCores}
 use Rattle.survivor_tables.specs.Tables.{isFrame, isSet, isEmpty, cores, withinCoreLimit, checkedSets, Accepted}
 use Rattle.survivor_tables.specs.Tables.Laws.{some-not-empty, set-lt, accepted-within-limit, accepted-frame, accepted-normal}
@@ -69,7 +70,7 @@ unfolding bodyWidth
 sets-lead [] n listed whole e few good high = sym (e ∙ append-nil listed)
 sets-lead (x ∷ sets) n listed whole e few good high = (
   listed ++ (x ∷ []),
-  refl,
+  (λ s. refl),
   set-due (length listed),
   (λ rest. set-taken n listed rest x (omega (arith, ap length e, length-append listed (x ∷ sets))) (good x (elem-head x sets)) high),
   sets-lead sets n (listed ++ (x ∷ [])) whole (e ∙ sym (append-snoc listed x sets)) few (λ s h. good s (elem-tail s x sets h)) high,
@@ -93,7 +94,7 @@ listed-read n sets rest a =
     ∙ ap (λ (o : Outcome (ReadList (List ℕ))). andThen o (λ l. result (listedTable n l)))
     (list-back (setList n) Survivor refl sets (length (listBytes Survivor sets ++ end)) [] sets rest
     (omega (arith, length-append (listBytes Survivor sets) end, length-list Survivor sets, length-append (recordBytes (mark End) 1 (length sets)) rest, length-record (mark End) 1 (length sets)))
-    (sets-lead sets n [] sets refl (a .most) (a .good) (a .high)) refl (end-due (length sets) (a .some)) (omega (arith, a .most))))
+    (sets-lead sets n [] sets refl (a .most) (a .good) (a .high)) (λ s. refl) (end-due (length sets) (a .some)) (omega (arith, a .most))))
   where
     end : List ℕ
     end = recordBytes (mark End) 1 (length sets) ++ rest

@@ -25,7 +25,7 @@ module _ {S : Type 0} (f : ListFormat S) where
   abbrev Behind : List ℕ → ReadList S → Type 0
   Behind s r = (k : ℕ) × (r .rest ≡ drop k s)
 
-  complete-rest : (bytes : ℕ) (state : S) (s : List ℕ) {r : ReadList S} → readFrom f bytes state s ≡ result r → f .complete state ≡ true → Behind s r
+  complete-rest : (bytes : ℕ) (state : S) (s : List ℕ) {r : ReadList S} → readFrom f bytes state s ≡ result r → f .complete state s ≡ true → Behind s r
   complete-rest bytes state s e t = (0, ap (λ (r : ReadList S). r .rest) (same-result (sym e ∙ read-complete f bytes state s t)))
 
   step-rest : (state : S) (s : List ℕ) {r : ReadList S} (later : S → List ℕ → Outcome (ReadList S))
@@ -37,9 +37,9 @@ module _ {S : Type 0} (f : ListFormat S) where
   list-rest : (bytes : ℕ) (state : S) (s : List ℕ) {r : ReadList S} → readFrom f bytes state s ≡ result r → Behind s r
   unfolding readFrom
   list-rest zero state s e =
-      by-test (f .complete state) (complete-rest zero state s e) (λ t. absurd (refused-no-result (sym (cond-false _ _ t) ∙ e)))
+      by-test (f .complete state s) (complete-rest zero state s e) (λ t. absurd (refused-no-result (sym (cond-false _ _ t) ∙ e)))
   list-rest (suc bytes) state s e =
-      by-test (f .complete state) (complete-rest (suc bytes) state s e)
+      by-test (f .complete state s) (complete-rest (suc bytes) state s e)
       (λ t. let w = first-result (stepOf f state s) (following f (readFrom f bytes) state s) (sym (cond-false _ _ t) ∙ e) in
       step-rest state s (readFrom f bytes) (λ x. list-rest bytes x (drop (widthAt s) s)) (w .0) (w .2))
 

@@ -53,7 +53,7 @@ module _ {B : Type 0} (finish : ReadTable → Outcome B) (most : ℕ)
       → Alike finish (andThen (readList (setList n) [] (take k s)) (λ l. result (listedTable n l))) (andThen (readList (setList n) [] s) (λ l. result (listedTable n l)))
   sets-prefix n s k h = record {
     same = then-then (readList (setList n) [] (take k s)) (listedTable n) finish
-        ∙ (list-prefix (setList n) (λ l. finish (listedTable n l)) most (blind n) (set-prefix n) (λ l. maxSets - length l) (λ l b t going e. sets-left n l b t e) [] s k (omega arith)
+        ∙ (list-prefix (setList n) (λ l. finish (listedTable n l)) most (blind n) (set-prefix n) (λ l j s h. refl) (λ l. maxSets - length l) (λ l b t going e. sets-left n l b t e) [] s k (omega arith)
         ∙ sym (then-then (readList (setList n) [] s) (listedTable n) finish));
   }
 
