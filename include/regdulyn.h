@@ -152,7 +152,8 @@ static inline const char *regdulyn_refusal_text(uint32_t refusal)
     case REGDULYN_REFUSED_TOO_MANY_SETS: return "more than 128 sets";
     case REGDULYN_REFUSED_COUNT_DIFFERS: return "the count after EN differs";
     case REGDULYN_REFUSED_TRAILING_BYTES: return "bytes after the end";
-    case REGDULYN_REFUSED_DRIVE_NUMBER: return "a drive number outside the frame, not the next, or not above the last";
+    case REGDULYN_REFUSED_DRIVE_NUMBER:
+        return "a drive number outside the frame, not above the last, or above a core drive whose PR or PW is missing";
     case REGDULYN_REFUSED_STOP_ROUND: return "a stop's round is not 1 to the core's size";
     case REGDULYN_REFUSED_STOP_SENDS: return "a stop has more sends than the drive can make";
     case REGDULYN_REFUSED_NONE_UNTOUCHED: return "every survivor set has a drive that stops";
@@ -275,8 +276,8 @@ regdulyn_size_reply regdulyn_send_list(regdulyn_state state, uint8_t *list, size
 
 /*
  * Opens an exchange: drive `own` of a frame of n drives with `count` survivor sets, in any order, proposes `number`.
- * Every drive of the frame must be opened with the same table. Whatever state was there before is replaced; it is not
- * looked at.
+ * A drive outside the core proposes none, and may be opened with any. Every drive of the frame must be opened with the
+ * same table. Whatever state was there before is replaced; it is not looked at.
  *
  * Refusals: 3 n is not 1 to 64; 2 no sets; 5 more than 128; 4 a set that is 0 or has a drive above n; 13 more than
  * 1024 cores; 8 own is not 1 to n.
@@ -431,12 +432,13 @@ typedef struct regdulyn_verdict_reply {
 } regdulyn_verdict_reply;
 
 /*
- * What a simulated exchange starts from. The numbers of drives above n, and the rounds and sends of drives that do not
- * stop, are not read.
+ * What a simulated exchange starts from. Only drives of the core propose a number: at the place of another drive, or
+ * of one above n, any number may stand, and the reply is the same. The rounds and sends of drives that do not stop are
+ * not read.
  */
 typedef struct regdulyn_scenario {
     uint64_t stopped;                      /* the drives that stop: a mask, while regdulyn_ending has a flag */
-    uint32_t numbers[REGDULYN_MAX_DRIVES]; /* what drive d proposes, at [d - 1] */
+    uint32_t numbers[REGDULYN_MAX_DRIVES]; /* what drive d of the core proposes, at [d - 1] */
     uint8_t rounds[REGDULYN_MAX_DRIVES];   /* the round in which drive d stops, at [d - 1], where it does */
     uint8_t sends[REGDULYN_MAX_DRIVES];    /* how many sends of that round it still makes, at [d - 1] */
 } regdulyn_scenario;
@@ -576,7 +578,7 @@ regdulyn_verdict_reply regdulyn_verdict(uint8_t k, uint8_t n, const uint64_t *se
  * sets, each with its number, and those of `stopped` lose their supply. A drive that stops in round r acts normally
  * before that round, then makes the first `sends` of that round's sends, in the order of regdulyn_drive_send_list, and
  * is gone. It is what every exchange of this scenario gives, whatever the order in which messages come: all drives
- * that do not stop decide the same number, and one that some drive proposed.
+ * that do not stop decide the same number, and one that some drive of the core proposed.
  *
  * Refusals: 3 n is not 1 to 64; 2 no sets; 5 more than 128; 4 a set that is 0 or has a drive above n; 13 more than
  * 1024 cores; then for each drive that stops, by rising number, 8 it is above n, 9 its round is not 1 to the number of
@@ -586,13 +588,16 @@ regdulyn_verdict_reply regdulyn_verdict(uint8_t k, uint8_t n, const uint64_t *se
 regdulyn_simulation_reply regdulyn_simulate(uint8_t n, const uint64_t *sets, size_t count, regdulyn_scenario scenario);
 
 /*
- * The same of a run file: PW or PR for each drive, CR for each that stops, EN, as they stand behind a table in a file.
- * A PW has its number in 4 bytes, a PR in 2; one file may have both kinds. With `bytes + used` and `length - used` of
- * regdulyn_read_table it tries out a file that begins with its table.
+ * The same of a run file: PW or PR for each drive of the core, by rising number, CR for each that stops, EN, as they
+ * stand behind a table in a file. A PW has its number in 4 bytes, a PR in 2; one file may have both kinds. A PW or PR
+ * of a drive outside the core may stand in its place among them, and its number is dropped. With `bytes + used` and
+ * `length - used` of regdulyn_read_table it tries out a file that begins with its table.
  *
  * Refusals: those of the table as above; then from left to right, at each record 1 its mark is cut, 2 the mark is
- * unknown or not due, 1 the rest of the record is cut, 8 a drive that is above n, not the next or not above the last,
- * 9 and 10 as above, 6 the count after EN differs; then 7 bytes after the end; 11 as above.
+ * unknown or not due, 1 the rest of the record is cut, 8 a drive that is 0, above n, not above the last, or above one
+ * of the core whose PW or PR is missing, 9 and 10 as above, 6 the count after EN differs; then 7 bytes after the end;
+ * 11 as above. CR and EN are not due as long as a drive of the core has no PW or PR; a PW or PR is not due behind that
+ * of drive n, nor behind a CR.
  */
 regdulyn_simulation_reply regdulyn_simulate_file(uint8_t n, const uint64_t *sets, size_t count, const uint8_t *bytes,
                                                  size_t length);

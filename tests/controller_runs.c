@@ -2,8 +2,8 @@
  * Plays exchanges by the calls of include/regdulyn.h, in the order that the header states: the sends and messages of
  * a round are mixed at random, with calls between them that are refused, and some arrive as KN and DC where their
  * numbers fit into two bytes. Reads scenarios from standard input: the number of drives and of sets, the sets in
- * hexadecimal, the pattern numbers, and for each drive the round in which it stops, 0 for none, and its sends in it.
- * Prints what each drive decides, as the run program does, and an empty line after each.
+ * hexadecimal, the numbers that the drives are opened with, and for each drive the round in which it stops, 0 for none,
+ * and its sends in it. Prints what each drive decides, as the run program does, and an empty line after each.
  */
 #include <inttypes.h>
 #include <stdio.h>

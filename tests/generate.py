@@ -3,7 +3,8 @@
 `table_inputs` and `run_inputs` yield bytes. Both start with a fixed list that
 covers every refusal number, every cut of a file and the limits, and go on at
 random. The same seed gives the same inputs. Somewhat more than half are
-accepted. `long_tables` and `long_runs` yield inputs about as long as the
+accepted. Run files have PR and PW for every drive, for core drives alone, or
+for some listeners too. `long_tables` and `long_runs` yield inputs about as long as the
 programs' buffers, and longer, `hard_tables` tables on which the search for
 cores goes far, and `small_tables` tables of small frames. `threshold_inputs`
 yields n and t around every limit, and `fixed_thresholds` a few, with every
@@ -18,7 +19,8 @@ from inputs.damage import RUN_DAMAGE, TABLE_DAMAGE, damaged
 from inputs.frames import Frame, accepted_table, crowded_table, full, hard_frames, normal_tables
 from inputs.records import (MARKS, UNKNOWN_MARKS, Crash, Records, crash, frame,
                             proposal, run, run_records, survivor, table, table_records)
-from inputs.scenarios import EDGES, accepted_run, some_wide, spoil_crash, touch_every_set
+from inputs.scenarios import (EDGES, accepted_run, some_left_out, some_wide, spoil_crash,
+                              touch_every_set)
 
 # The refusals that each program can print.
 REFUSALS = {"table": {1, 2, 3, 4, 5, 6, 7, 13}, "run": {1, 2, 3, 4, 5, 6, 7, 8, 9, 10, 11, 13},
@@ -162,10 +164,14 @@ def marked_crashes() -> Iterator[list[Crash]]:
 
 
 def fixed_runs() -> Iterator[bytes]:
-    """Marked cases, limits, and the largest frames; PR, PW, and both in one file."""
+    """Marked cases, limits, and the largest frames; PR, PW, and both in one file; records of all
+    drives, and of core drives alone."""
     first = table(*EXAMPLE)
     for crashes in marked_crashes():
         yield first + run(MARKED_PATTERNS, crashes)
+    for left_out in (0b111000, 0b101000, 0b010000):
+        yield first + run(MARKED_PATTERNS, [Crash(2, 1, 1)], 0b010101, left_out)
+    yield table(5, [2, 8]) + run([1, 7, 1, 5, 1], [Crash(2, 1, 1)], 0, 0b10101)
     for wide in (full(6), 0b010101, 0b111000):
         yield first + run(MARKED_PATTERNS, [Crash(2, 1, 1)], wide)
     yield first + run([65543, 65541, 65545, 1, 1, 1], [Crash(2, 1, 1)])
@@ -185,6 +191,8 @@ def fixed_runs() -> Iterator[bytes]:
     yield singles + run(across, [Crash(drive, drive, 0) for drive in range(1, 4)], full(64))
     yield singles + run(across, [Crash(drive, 1, drive % 64) for drive in range(1, 64)])
     yield table(64, [1]) + run(falling, [Crash(drive, 1, 0) for drive in range(2, 65)])
+    yield table(64, [1]) + run(falling, [Crash(drive, 1, 0) for drive in range(2, 65)], 0, full(64) - 1)
+    yield table(64, [1 << 63]) + run(falling, [], 0, full(63))
     yield table(22, [3 << 2 * pair for pair in range(11)]) + run([1], [])
     yield table(22, [3 << 2 * pair for pair in range(11)])
     yield from (table(1, [1]) + run([number], [], 1) for number in EDGES)
@@ -208,7 +216,15 @@ def fixed_run_refusals() -> Iterator[bytes]:
                  b"FR"):
         yield first + head + tail + b"EN\1"
         yield first + head + tail
-    for short in (head[:-5], head[:20], b""):
+    core = head[:15]
+    for tail in (b"EN\0", b"EN", b"E", crash(2, 1, 1) + b"EN\1", crash(2, 1, 1) + proposal(4, 1), b"PR",
+                 b"PW\5\0", proposal(3, 1), proposal(1, 1, True), proposal(7, 1), proposal(5, 1) + b"EN\0",
+                 proposal(5, 1) + proposal(4, 1), proposal(6, 1) + proposal(7, 1), proposal(6, 1) + b"PW"):
+        yield first + core + tail
+    for missing in range(3):
+        kept = head[:5 * missing] + head[5 * missing + 5:]
+        yield from (first + data + tail for data in (kept, kept[:10]) for tail in (b"EN\0", crash(1, 1, 0)))
+    for short in (head[:-5], head[:20], head[:10], b""):
         yield from (first + short + tail for tail in
                     (b"EN\0", crash(1, 1, 0), proposal(6, 1), proposal(0, 1), proposal(0, 1, True),
                      b"P", b"EN"))
@@ -248,8 +264,9 @@ def long_runs() -> Iterator[bytes]:
 
 def random_run_records(rng: Random) -> tuple[Records, Records]:
     """A table's records and a run file's, accepted."""
-    n, sets, proposals, crashes, _ = accepted_run(rng)
-    return table_records(n, sets), run_records(proposals, crashes, some_wide(rng, n))
+    n, sets, proposals, crashes, core = accepted_run(rng)
+    return table_records(n, sets), run_records(proposals, crashes, some_wide(rng, n),
+                                               some_left_out(rng, n, core))
 
 
 def random_runs(rng: Random) -> Iterator[bytes]:
@@ -261,13 +278,14 @@ def random_runs(rng: Random) -> Iterator[bytes]:
         elif chance < 0.80:
             n, sets, proposals, _, core = accepted_run(rng)
             stops = touch_every_set(rng, n, sets, core)
-            records = run_records(proposals, stops, some_wide(rng, n))
+            records = run_records(proposals, stops, some_wide(rng, n), some_left_out(rng, n, core))
             yield table(n, sets) + (b"".join(records) if rng.random() < 0.7
                                     else damaged(rng, records, RUN_DAMAGE))
         elif chance < 0.84:
             n, sets, proposals, crashes, core = accepted_run(rng)
             stops = spoil_crash(rng, n, core, crashes)
-            yield table(n, sets) + run(proposals, stops, some_wide(rng, n))
+            yield table(n, sets) + run(proposals, stops, some_wide(rng, n),
+                                       some_left_out(rng, n, core))
         elif chance < 0.94:
             yield b"".join(head) + damaged(rng, tail, RUN_DAMAGE)
         elif chance < 0.97:

@@ -85,6 +85,22 @@ def every_split_has_a_core(n: int, k: int, all_cores: list[int]) -> bool:
     return True
 
 
+def proposals_refusal(n: int, core: set[int], listed: list[int], mark: bytes) -> int:
+    """The number that the PR and PW of a run file meet, of these drives one after the other, all
+    whole; or, where they meet none, what stands behind them: 0 where CR or EN may stand there."""
+    for place, drive in enumerate(listed):
+        before = listed[:place]
+        if n in before:
+            return 2
+        if drive not in range(max(before, default=0) + 1, n + 1):
+            return 8
+        if [owed for owed in core if owed < drive and owed not in before]:
+            return 8
+    if len(mark) < 2:
+        return 1
+    return 0 if mark in (b"CR", b"EN") and core.issubset(listed) else 2
+
+
 def send_list(n: int, core: set[int], sender: int) -> list[int]:
     return (sorted(core - {sender}) +
             [drive for drive in range(1, n + 1) if drive not in core])

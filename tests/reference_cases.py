@@ -13,7 +13,7 @@ ROOT = Path(__file__).resolve().parent.parent
 sys.path[:0] = [str(ROOT / "reference"), str(ROOT / "tests"), str(ROOT / "tools")]
 
 from cases import (calls, definitions, drives, exchanges, files, generated,  # noqa: E402
-                   marked, samples, thresholds)
+                   marked, proposals, samples, thresholds)
 
 GROUPS = (
     marked.marked_cases, marked.example_cases,
@@ -25,6 +25,8 @@ GROUPS = (
     drives.opening_cases, drives.state_refusals, drives.send_cases, drives.message_refusals,
     drives.value_cases, drives.message_cases, drives.close_cases,
     samples.call_samples, samples.run_samples,
+    proposals.drive_list_cases, proposals.old_file_cases, proposals.free_number_cases,
+    proposals.missing_cases, proposals.whole_run_cases, proposals.wide_and_old_cases,
     exchanges.exchange_definitions,
     generated.generator_cases, generated.script_cases,
 )

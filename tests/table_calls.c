@@ -1,6 +1,7 @@
 /*
  * The table calls from C through the header alone, on the table of case A (six drives, sets 1, 2, 3c) and on what they
- * refuse. What it prints is stored in tests/table_calls.out. It ends with 1 where lent memory changes that should not.
+ * refuse. What it prints is stored in tests/table_calls.out. It ends with 1 where lent memory changes that should not,
+ * and where a listener's number in a scenario, or its record in a run file, changes a reply.
  */
 #include <inttypes.h>
 #include <stdio.h>
@@ -103,12 +104,97 @@ static regdulyn_scenario case_b(void)
     return s;
 }
 
+static int same_reply(regdulyn_simulation_reply a, regdulyn_simulation_reply b)
+{
+    int same = a.core == b.core && a.stops == b.stops && a.refusal == b.refusal;
+    for (int i = 0; i < REGDULYN_MAX_DRIVES; i++)
+        same = same && a.drives[i].number == b.drives[i].number && a.drives[i].round == b.drives[i].round &&
+               a.drives[i].stopped == b.drives[i].stopped;
+    return same;
+}
+
+/* The bytes of a run file: PR, or PW where `wide` has the drive, of the drives of `drives`, and the stop, if any. */
+static size_t run_file(uint8_t *bytes, regdulyn_scenario s, unsigned drives, unsigned wide, unsigned stopped)
+{
+    size_t size = 0;
+    for (unsigned d = 1; d <= 6; d++) {
+        uint32_t number = s.numbers[d - 1];
+        unsigned width = wide >> (d - 1) & 1 ? 4 : 2;
+        if (!(drives >> (d - 1) & 1))
+            continue;
+        bytes[size++] = 'P';
+        bytes[size++] = width == 4 ? 'W' : 'R';
+        bytes[size++] = (uint8_t)d;
+        for (unsigned i = 0; i < width; i++)
+            bytes[size++] = (uint8_t)(number >> 8 * i);
+    }
+    if (stopped != 0) {
+        bytes[size++] = 'C';
+        bytes[size++] = 'R';
+        bytes[size++] = (uint8_t)stopped;
+        bytes[size++] = s.rounds[stopped - 1];
+        bytes[size++] = s.sends[stopped - 1];
+    }
+    bytes[size++] = 'E';
+    bytes[size++] = 'N';
+    bytes[size++] = stopped != 0;
+    return size;
+}
+
+/*
+ * Case A, whose core is 7, with no stop and with every stop of one drive: the reply is the same whatever numbers stand
+ * at the places of drives 4, 5 and 6, and for the run file with a PR or PW of any of them or of none. Without that of
+ * drive 1, 2 or 3 the file is refused: with 8 where the record of a later drive follows, and else with 2.
+ */
+static void listeners(void)
+{
+    static const uint32_t others[] = {0, 1, 5, 65536, 0xffffffff};
+    uint8_t bytes[REGDULYN_MAX_RUN];
+    unsigned replies = 0;
+    for (unsigned stop = 0; stop < 7 * 3 * 6; stop++) {
+        unsigned stopped = stop / 18, round = 1 + stop / 6 % 3, sends = stop % 6;
+        regdulyn_scenario s = case_b();
+        s.stopped = stopped == 0 ? 0 : (uint64_t)1 << (stopped - 1);
+        if (stopped != 0) {
+            s.rounds[stopped - 1] = (uint8_t)round;
+            s.sends[stopped - 1] = (uint8_t)(stopped <= 3 ? sends : 0);
+        }
+        regdulyn_simulation_reply due = regdulyn_simulate(6, sets, count, s);
+        for (unsigned i = 0; i < 5 * 8; i++) {
+            unsigned drives = i / 5 << 3;
+            s.numbers[3] = others[i % 5], s.numbers[4] = others[(i + 1) % 5], s.numbers[5] = others[(i + 3) % 5];
+            int same = due.refusal == 0 && same_reply(due, regdulyn_simulate(6, sets, count, s));
+            for (unsigned wide = 0; wide < 64; wide += 42) {
+                size_t size = run_file(bytes, s, 7 | drives, wide, stopped);
+                same = same && same_reply(due, regdulyn_simulate_file(6, sets, count, bytes, size));
+                for (unsigned d = 1; d <= 3; d++) {
+                    unsigned kept = (7 | drives) & ~(1u << (d - 1));
+                    size = run_file(bytes, s, kept, wide, stopped);
+                    same = same && regdulyn_simulate_file(6, sets, count, bytes, size).refusal ==
+                                       (kept >> d != 0 ? 8u : 2u);
+                }
+                replies += 4;
+            }
+            replies++;
+            if (!same) {
+                printf("listeners: a reply differs, stop %u, numbers %u\n", stop, i);
+                exit(1);
+            }
+        }
+    }
+    printf("listeners: %u replies, as they are due\n", replies);
+}
+
 static const uint8_t run[] = {'P', 'R', 1, 7, 0, 'P', 'R', 2, 5, 0, 'P', 'R', 3, 9, 0, 'P', 'R', 4, 1, 0, 'P', 'R',
                               5,   1,   0, 'P', 'R', 6, 1, 0, 'C', 'R', 2, 1, 1, 'E', 'N', 1};
 
 /* The same with PW for drives 1 to 3, whose numbers are 0x10000007, 0x20000005 and 0xffffffff. */
 static const uint8_t wide[] = {'P', 'W', 1, 7, 0, 0, 16, 'P', 'W', 2, 5, 0, 0, 32, 'P', 'W', 3, 255, 255, 255, 255,
                                'P', 'R', 4, 1, 0, 'P', 'R', 5, 1, 0, 'P', 'R', 6, 1, 0, 'C', 'R', 2, 1, 1, 'E', 'N', 1};
+
+/* Case B with PR and PW of the drives of the core alone. */
+static const uint8_t core[] = {'P', 'R', 1, 7, 0, 'P', 'W', 2, 5, 0, 0, 0, 'P', 'R', 3, 9, 0, 'C', 'R', 2, 1, 1,
+                               'E', 'N', 1};
 
 int main(void)
 {
@@ -176,6 +262,11 @@ int main(void)
     print_simulation("simulate the file with PW", 6, regdulyn_simulate_file(6, sets, count, wide, sizeof wide));
     print_simulation("simulate the file with PW, cut in a number", 6,
                      regdulyn_simulate_file(6, sets, count, wide, 20));
+
+    print_simulation("simulate the file of the core", 6, regdulyn_simulate_file(6, sets, count, core, sizeof core));
+    print_simulation("simulate the file of the core, cut in a record", 6,
+                     regdulyn_simulate_file(6, sets, count, core, 16));
+    listeners();
 
     print_text("listing of the table", regdulyn_table_listing(file, 36, text, sizeof text, 8), 8);
     fresh();

@@ -4,19 +4,21 @@ records in their order. To bytes, from bytes, and the refusal that the second pr
 """
 
 import sys
-from dataclasses import dataclass, field
+from dataclasses import dataclass, field, replace
 from pathlib import Path
 from typing import NamedTuple, Optional
 
 sys.path.insert(0, str(Path(__file__).resolve().parent.parent / "reference"))
 
 import regdulyn  # noqa: E402
+from regdulyn.masks import bit  # noqa: E402
 from regdulyn.records import (CRASH, END, FRAME, MASK_WIDTH, PATTERN_WIDTH, PROPOSAL,  # noqa: E402
                               PROPOSAL_WIDTHS, SURVIVOR, number)
 
 
 class Place(NamedTuple):
-    """Where a part of the contents stands: the word of its line, and which line of that word, from 0."""
+    """Where a part of the contents stands: the word of its line, and which line of that word, from 0; with `patterns`
+    which of its numbers, and where there are no more of them what stands behind the last."""
 
     word: str
     index: int = 0
@@ -30,17 +32,31 @@ class Stop(NamedTuple):
 
 @dataclass
 class Contents:
-    """`drives` is None where a text gives no number; `patterns` is None where no run file stands behind the table."""
+    """`drives` is None where a text gives no number. `patterns` has the pattern numbers by drive, rising; it is None
+    where no run file stands behind the table, or a text has stops and no line `patterns`."""
 
     drives: Optional[int] = None
     sets: list[int] = field(default_factory=list)
-    patterns: Optional[list[int]] = None
+    patterns: Optional[dict[int, int]] = None
     stops: list[Stop] = field(default_factory=list)
 
     @property
     def kind(self) -> str:
         """The program that reads the file."""
-        return "table" if self.patterns is None else "run"
+        return "table" if self.patterns is None and not self.stops else "run"
+
+
+def of_core(contents: Contents) -> Contents:
+    """The same without the pattern numbers of listeners; as it is where the table is refused."""
+    if contents.patterns is None:
+        return contents
+    try:
+        core = regdulyn.chosen_core(contents.drives, contents.sets)
+    except regdulyn.Refusal:
+        return contents
+    kept = {drive: value for drive, value in contents.patterns.items()
+            if core & bit(drive) or drive > contents.drives}
+    return replace(contents, patterns=kept)
 
 
 # To bytes
@@ -53,10 +69,10 @@ def table_bytes(contents: Contents) -> bytes:
 
 def file_bytes(contents: Contents) -> bytes:
     """The records of the whole file, numbers as they stand: a PW for each pattern number."""
-    if contents.patterns is None:
+    if contents.kind == "table":
         return table_bytes(contents)
     patterns = b"".join(PROPOSAL + bytes([drive]) + value.to_bytes(PATTERN_WIDTH, "little")
-                        for drive, value in enumerate(contents.patterns, start=1))
+                        for drive, value in (contents.patterns or {}).items())
     stops = b"".join(CRASH + bytes(stop) for stop in contents.stops)
     return table_bytes(contents) + patterns + stops + END + bytes([len(contents.stops)])
 
@@ -141,16 +157,17 @@ def _run_contents(scanner: Scanner, contents: Contents, offsets: dict[Place, int
         raise Unreadable(start, f"the table has ended, and what follows starts no run file:"
                          f" {shown_bytes(scanner.data[start:start + 2])}")
     offsets[Place("patterns")] = start
-    contents.patterns = []
-    due = (*PROPOSAL_WIDTHS, CRASH, END)
+    contents.patterns = {}
+    last, due = 0, (*PROPOSAL_WIDTHS, CRASH, END)
     while (mark := scanner.mark(*due)) != END:
         at = scanner.offset - 2
         if mark in PROPOSAL_WIDTHS:
             drive, value = scanner.fields(1, PROPOSAL_WIDTHS[mark])
-            if drive != len(contents.patterns) + 1:
-                raise Unreadable(at, f"{mark.decode()} of drive {drive}, and drive {len(contents.patterns) + 1} is"
-                                 " the next")
-            contents.patterns.append(value)
+            if drive <= last:
+                raise Unreadable(at, f"{mark.decode()} of drive {drive}, and a drive above {last} is due")
+            contents.patterns[drive] = value
+            offsets[Place("patterns", len(contents.patterns))] = scanner.offset
+            last = drive
         else:
             due = (CRASH, END)
             offsets[Place("stop", len(contents.stops))] = at

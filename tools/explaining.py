@@ -10,7 +10,7 @@ from math import comb
 from typing import Iterator
 
 from contents import Contents, counted, drive_list
-from regdulyn.masks import all_drives, drives, is_part, mask_of, size
+from regdulyn.masks import all_drives, bit, drives, is_part, mask_of, size
 from regdulyn.tables import first_missed
 
 
@@ -96,10 +96,13 @@ def missed_line(printed: bytes, given: list[int]) -> str:
 
 def run_lines(contents: Contents, printed: bytes) -> Iterator[str]:
     """The run file in words, with its table's listing."""
-    stops = {stop.drive: stop for stop in contents.stops}
-    for drive, pattern in enumerate(contents.patterns, start=1):
-        stop = stops.get(drive)
+    stops, [chosen] = {stop.drive: stop for stop in contents.stops}, listed(printed, "chosen")
+    for drive in range(1, contents.drives + 1):
+        stop, pattern = stops.get(drive), contents.patterns.get(drive)
+        said = "no pattern number" if pattern is None else f"pattern number {pattern}"
+        if not chosen & bit(drive):
+            said = "listens" if pattern is None else f"listens ({said} is dropped)"
         end = "stays up" if stop is None else f"stops in round {stop.round} after {counted(stop.sends, 'send')}"
-        yield f"  drive {drive}: pattern number {pattern}, {end}"
+        yield f"  drive {drive}: {said}, {end}"
     untouched = [mask for mask in listed(printed, "set") if not mask & mask_of(stops)]
     yield f"survivor sets in which no drive stops: {', '.join(f'set {mask:x}' for mask in untouched) or 'none'}"

@@ -24,7 +24,7 @@ OF_FILES = {
     5: "more than 128 sets",
     6: "the count after EN differs",
     7: "bytes after the end",
-    8: "a drive number outside the frame, not the next, or not above the last",
+    8: "a drive number outside the frame, not above the last, or above a core drive whose PR or PW is missing",
     9: "a stop's round is not 1 to the core's size",
     10: "a stop has more sends than the drive can make",
     11: "every survivor set has a drive that stops",

@@ -78,7 +78,8 @@ Writes the bytes of a table, or of a table and a run file, from lines of a word 
 
 """ + WORDS + """
 
-Each pattern number is written in a PW, of four bytes; PR, of two, is still read.
+Each pattern number of a drive that talks is written in a PW, of four bytes, and one of a listener is left out: nobody
+uses it. A file that is meant to be refused has those of listeners too. PR, of two bytes, is still read.
 
 Each mistake is one line FILE:LINE: MESSAGE on standard error; then nothing is written and the exit status is 1. What
 the library would refuse is a mistake too, unless a line `refused N` names that very refusal.
@@ -87,13 +88,16 @@ the library would refuse is a mistake too, unless a line `refused N` names that 
 SHOW = """\
 usage: ./regdulyn show FILE > FILE.txt
 
-Prints the text from which make makes the file: of a table, or a run file with PW, the very bytes; of one with PR the
-same with PW in their place, which gives the same listing. The text is canonical: `refused N` where the library refuses
-the file, `drives`, the sets as masks in the file's order, `patterns` and the stops; numbers without leading zeros,
-masks in lower case, no comments. A text is canonical exactly if show prints it for what make makes from it.
+Prints the text of the file: `refused N` where the library refuses it, `drives`, the sets as masks in the file's order,
+`patterns` with every number that stands there, - for a drive without one, and the stops; numbers without leading
+zeros, masks in lower case, no comments. From the text make makes the very bytes, but for two things that give the same
+listing: a PW in place of each PR and, where the file is not refused, no pattern numbers of listeners. A text is
+canonical if show prints it for what make makes from it: so is every text that show prints of a file that is refused,
+or in which no listener has a number.
 
-Of a refused file standard error has what is wrong, each with the byte, from 0, at which its record starts, and the exit
-status is 1. Bytes that are no row of records are not shown: standard error has the first byte that does not fit.
+Of a refused file standard error has what is wrong, each with the byte, from 0, at which its record starts, or what
+stands in the place of a missing one, and the exit status is 1. Bytes that are no row of records are not shown: standard
+error has the first byte that does not fit.
 """
 
 THRESHOLD = """\

@@ -1,6 +1,8 @@
 """What the library refuses in a file's contents: all of it and where, for who mends the file; the library itself gives
 the first refusal alone."""
 
+from bisect import bisect
+from itertools import groupby
 from typing import Iterator, NamedTuple
 
 import regdulyn
@@ -49,11 +51,27 @@ def _set_mistakes(contents: Contents, n: int) -> Iterator[Mistake]:
             yield Mistake(Place("set", index), f"{drive_list(above)} above the number of drives, {n}")
 
 
+def _pattern_mistakes(contents: Contents, n: int, core: int) -> Iterator[Mistake]:
+    """Core drives without a number, where it would stand, and the first number of no drive."""
+    if contents.patterns is None:
+        if contents.stops:
+            whose = f"a number for {drive_list(drives(core))} of the chosen core" if core else "numbers"
+            yield Mistake(Place("stop"), f"no line patterns with {whose}")
+        return
+    given = list(contents.patterns)
+    missing = (drive for drive in drives(core) if drive not in contents.patterns)
+    for index, together in groupby(missing, lambda drive: bisect(given, drive)):
+        yield Mistake(Place("patterns", index),
+                      f"no pattern number for {drive_list(tuple(together))} of the chosen core")
+    above = bisect(given, n)
+    if above < len(given):
+        yield Mistake(Place("patterns", above),
+                      f"a pattern number for drive {given[above]}, and there are drives 1 to {n}")
+
+
 def _run_mistakes(contents: Contents, n: int, core: int) -> Iterator[Mistake]:
     """`core` is 0 where it is not known."""
-    if contents.patterns is not None and len(contents.patterns) != n:
-        given = counted(len(contents.patterns), "pattern number") if contents.patterns else "no line patterns"
-        yield Mistake(Place("patterns"), f"{given} for {counted(n, 'drive')}")
+    yield from _pattern_mistakes(contents, n, core)
     last = 0
     for index, stop in enumerate(contents.stops):
         place = Place("stop", index)

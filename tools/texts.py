@@ -2,8 +2,10 @@
 
 The canonical text has, in this order, a line `refused N` where the library refuses the file, `drives N`, one line `set
 MASK` for each set as the file lists them, and with a run file `patterns` and one line `stop D R S` for each stop.
-Numbers have no leading zeros, masks are in lower case, words are one space apart, and there are no comments. Whether a
-pattern number stood in a PR or in a PW is not said; what is made has PW.
+Numbers have no leading zeros, masks are in lower case, words are one space apart, and there are no comments; - stands
+for a drive without a pattern number in front of one that has it. Whether a number stood in a PR or in a PW is not said;
+what is made has PW. A listener's number is made only where a line `refused` stands: so the text of a file that is not
+refused is canonical only if no listener has a number in it.
 """
 
 import re
@@ -21,13 +23,14 @@ WORDS = """\
     set 1                 a survivor set as a mask; one line for each set
     set 2
     members 3 4 5 6       a survivor set by drive numbers: the same as set 3c
-    patterns 7 5 9 1 1 1  the pattern numbers of drives 1, 2, ..; with this line a run file stands behind the table
+    patterns 7 5 9        the pattern numbers of drives 1, 2, ..; with this line a run file stands behind the table
     stop 2 1 1            a stop: drive, round, and the sends that it still makes in that round; by rising drive
 
 and, in a text whose file is meant to be refused, as a test of the refusal, `refused 3` with the number.
 
 Masks are hexadecimal, bit 0 (value 1) is drive 1; all other numbers are decimal. Pattern numbers are 0 to 4294967295.
-# starts a comment. The lines stand in any order; sets and stops keep theirs."""
+Each drive that talks, which is each of the chosen core, needs one; - stands for a drive without one, and may be left
+out behind the last number. # starts a comment. The lines stand in any order; sets and stops keep theirs."""
 
 LARGEST_PATTERN = 256 ** PATTERN_WIDTH - 1
 
@@ -37,11 +40,13 @@ class Wrong(Exception):
 
 
 class Text(NamedTuple):
-    """What a text says, the line of each part, and the number it is meant to be refused with."""
+    """What a text says, the line of each part, the number it is meant to be refused with, and how many places its line
+    `patterns` has, numbers and -."""
 
     contents: Contents
     lines: dict[Place, int]
     refused: Optional[int]
+    places: int
 
 
 # Numbers
@@ -97,10 +102,12 @@ def _members(text: Contents, values: list[str]) -> Place:
 
 
 def _patterns(text: Contents, values: list[str]) -> Place:
+    # a line with a mistake is a line
+    text.patterns = {}
     if len(values) > 255:
         raise Wrong("more than 255 pattern numbers, which PW cannot number")
-    text.patterns = [whole_number(value, f"the pattern number of drive {drive}", 0, LARGEST_PATTERN)
-                     for drive, value in enumerate(values, start=1)]
+    text.patterns = {drive: whole_number(value, f"the pattern number of drive {drive}", 0, LARGEST_PATTERN)
+                     for drive, value in enumerate(values, start=1) if value != "-"}
     return Place("patterns")
 
 
@@ -144,6 +151,7 @@ ONCE = ("refused", "drives", "patterns")
 def read_text(text: str) -> tuple[Text, list[tuple[int, str]]]:
     """What a text says, and the mistakes in its lines: line, from 1, and message."""
     contents, lines, refused, wrong = Contents(), {}, None, []
+    places = 0
     seen: dict[str, int] = {}
     rows = text.split("\n")
     for row, line in enumerate(rows, start=1):
@@ -155,6 +163,8 @@ def read_text(text: str) -> tuple[Text, list[tuple[int, str]]]:
                 refused = _refused(values)
             elif word in LINES:
                 lines[LINES[word](contents, values)] = row
+                if word == "patterns":
+                    places = len(values)
             elif word:
                 raise Wrong(f"unknown word {word[:40]!r}; the words are {', '.join([*LINES, 'refused'])}")
         except Wrong as error:
@@ -162,22 +172,33 @@ def read_text(text: str) -> tuple[Text, list[tuple[int, str]]]:
     last = len(rows) - 1 if len(rows) > 1 and not rows[-1] else len(rows)
     if "drives" not in seen:
         wrong.append((last, "no line drives"))
-    if contents.stops and "patterns" not in seen:
-        contents.patterns = []
-        lines[Place("patterns")] = lines[Place("stop")]
+    # all pattern numbers stand in one line
+    lines |= {Place("patterns", index): seen["patterns"] for index in range(1, places + 1)}
     lines.setdefault(Place("drives"), seen.get("drives", last))
     if refused is not None:
         lines[Place("refused")] = seen["refused"]
-    return Text(contents, lines, refused), wrong
+    return Text(contents, lines, refused, places), wrong
+
+
+def place_mistakes(text: Text) -> Iterator[tuple[int, str]]:
+    """A - behind the last number and above the number of drives: the file would not have it."""
+    n = text.contents.drives
+    if n is None or not 1 <= n <= MAX_DRIVES:
+        return
+    last = max([n, *(text.contents.patterns or ())])
+    if text.places > last:
+        yield text.lines[Place("patterns")], f"a - for drive {last + 1}, and there are drives 1 to {n}"
 
 
 def text_mistakes(source: str) -> tuple[Optional[bytes], list[tuple[int, str]]]:
-    """The bytes that a text makes, or none, and its mistakes: line and message, by line."""
+    """The bytes that a text makes, or none, and its mistakes: line and message, by line. A file that is meant to be
+    refused has the numbers of listeners that its text has: they may be what is refused."""
     text, wrong = read_text(source)
     found = [(text.lines[place], message) for place, message in mistakes.found_in(text.contents, whole=not wrong)]
+    wrong += place_mistakes(text)
     if wrong:
         return None, by_line(wrong + found)
-    data = model.file_bytes(text.contents)
+    data = model.file_bytes(text.contents if text.refused is not None else model.of_core(text.contents))
     number = model.refusal_of(text.contents.kind, data)
     if number == (text.refused or 0):
         return data, []
@@ -205,5 +226,6 @@ def _canonical_lines(contents: Contents, refused: int) -> Iterator[str]:
     yield f"drives {contents.drives}"
     yield from (f"set {mask:x}" for mask in contents.sets)
     if contents.patterns is not None:
-        yield " ".join(["patterns", *map(str, contents.patterns)])
+        numbers = (contents.patterns.get(drive, "-") for drive in range(1, max(contents.patterns, default=0) + 1))
+        yield " ".join(["patterns", *map(str, numbers)])
         yield from ("stop %d %d %d" % stop for stop in contents.stops)

@@ -68,6 +68,10 @@ class Reader:
         taken, self.rest = self.rest[:length], self.rest[length:]
         return taken
 
+    def stands(self, *marks: bytes) -> bool:
+        """Whether the next mark, which is not taken, is one of these; a cut one is none."""
+        return self.rest[:2] in marks
+
     def mark(self, *due: bytes) -> bytes:
         """The next mark, or 2 if it is none of those due here."""
         mark = self.take(2)

@@ -1,6 +1,6 @@
 """Run files and the simulated exchange.
 
-A scenario is the pattern number each drive proposes and the crashes. The
+A scenario is the pattern number each core drive proposes and the crashes. The
 simulation makes the calls of a run in one fixed order: in each round each
 sender's send and its messages, sender after sender, then the closes.
 """
@@ -27,7 +27,8 @@ class Crash:
 
 @dataclass(frozen=True)
 class Scenario:
-    """What a run file says."""
+    """What a run file says. Each drive has a place in `proposals`; a listener
+    proposes nothing, and its place has 0."""
 
     proposals: list[int]
     crashes: list[Crash]
@@ -69,7 +70,7 @@ def read_run(data: bytes, n: int, sets: Sequence[int]) -> Scenario:
     """The scenario in a run file for this table; first the table's refusals."""
     core = chosen_core(n, sets)
     reader = Reader(data)
-    proposals = [_read_proposal(reader, drive) for drive in range(1, n + 1)]
+    proposals = _read_proposals(reader, n, core)
     crashes = _read_crashes(reader, n, core)
     if number(reader.take(1)) != len(crashes):
         raise Refusal(6)
@@ -78,13 +79,24 @@ def read_run(data: bytes, n: int, sets: Sequence[int]) -> Scenario:
     return Scenario(proposals, crashes)
 
 
-def _read_proposal(reader: Reader, due: int) -> int:
-    """The number of the next drive's PR or PW."""
-    width = PROPOSAL_WIDTHS[reader.mark(*PROPOSAL_WIDTHS)]
-    rest = reader.take(1 + width)
-    if rest[0] != due:
-        raise Refusal(8)
-    return number(rest[1:])
+def _read_proposals(reader: Reader, n: int, core: int) -> list[int]:
+    """The numbers of the core drives, whose PR or PW are owed; a listener's is
+    checked for its place among them and dropped. They end where none is owed
+    and something else stands, or behind drive n's: CR or EN is due there."""
+    proposals = [0] * n
+    last, owed = 0, core
+    while owed or (last < n and reader.stands(*PROPOSAL_WIDTHS)):
+        width = PROPOSAL_WIDTHS[reader.mark(*PROPOSAL_WIDTHS)]
+        rest = reader.take(1 + width)
+        drive = rest[0]
+        check_drive(n, drive)
+        if drive <= last or any(lower < drive for lower in drives(owed)):
+            raise Refusal(8)
+        if core & bit(drive):
+            proposals[drive - 1] = number(rest[1:])
+            owed &= ~bit(drive)
+        last = drive
+    return proposals
 
 
 def _read_crashes(reader: Reader, n: int, core: int) -> list[Crash]:
@@ -110,7 +122,8 @@ def stops_by_drive(stopped: int, rounds: Sequence[int], sends: Sequence[int]) ->
 def simulate(n: int, sets: Sequence[int], proposals: Sequence[int],
              stops: Sequence[Crash]) -> Outcome:
     """The outcome of a run; the table's refusals, then 8, 9, 10 for each stop
-    in order, then 11. `proposals` holds one number for each drive."""
+    in order, then 11. `proposals` has a place for each drive; what stands at a
+    listener's does not matter, since at its opening it knows no number."""
     core = chosen_core(n, sets)
     last = 0
     for crash in stops:
@@ -126,7 +139,7 @@ def simulate(n: int, sets: Sequence[int], proposals: Sequence[int],
 
 def _open_all(n: int, sets: Sequence[int], proposals: Sequence[int]) -> dict[int, Exchange]:
     if len(proposals) != n:
-        raise ValueError("a run has one proposal for each drive")
+        raise ValueError("a run has a place for each drive's number")
     return {drive: opening(n, sets, drive, proposals[drive - 1])
             for drive in range(1, n + 1)}
 

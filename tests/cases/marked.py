@@ -1,5 +1,5 @@
 """The marked cases A to J, through the two scripts, and their files
-in examples/, with one of numbers that need four bytes."""
+in examples/, with one of numbers that need four bytes and one of the core drives' records alone."""
 
 import subprocess
 from itertools import product
@@ -70,9 +70,10 @@ LISTING_H = ("drives 64\nset ffffffffffffffff\n" +
              "chosen 1\nk 2 yes\nk 3 yes\nk 4 yes\n")
 
 
-def stopped(*crashes: Crash, wide: int = 0) -> bytes:
-    """Case A's table with case B's pattern numbers, of which the drives of `wide` have a PW."""
-    return table(6, A_SETS) + run(PATTERNS, list(crashes), wide)
+def stopped(*crashes: Crash, wide: int = 0, left_out: int = 0) -> bytes:
+    """Case A's table with case B's pattern numbers, of which the drives of `wide` have a PW and those of `left_out`
+    no record."""
+    return table(6, A_SETS) + run(PATTERNS, list(crashes), wide, left_out)
 
 
 # Letter, program, input, listing. In F drive 2 sends in round 1, so that its 5
@@ -91,14 +92,21 @@ MARKED = (
     ("j", "run", table(1, [1]) + run([4], []), "drive 1 decides 4 round 1\ncore 1 stops 0\n"),
 )
 
-# The files in examples/: those of the marked cases, and one of case B with numbers that are read
-# otherwise if their upper bytes get lost.
+# The files in examples/: those of the marked cases, and of case B one with records of the core
+# drives alone, and one with numbers that are read otherwise if their upper bytes get lost.
 STORED = MARKED + (
+    ("core", "run", table(6, A_SETS) + run(PATTERNS[:3], [Crash(2, 1, 1)], full(3)), LISTING_B),
     ("wide", "run", table(6, A_SETS) + run([65543, 131077, 2 ** 32 - 1, 1, 1, 1], [Crash(2, 1, 1)], full(6)),
      LISTING_B.replace("decides 5 ", "decides 65543 ")),
 )
 
 NEIGHBOURS = (
+    ("b with the core's PR", "run", stopped(Crash(2, 1, 1), left_out=0b111000), LISTING_B),
+    ("b with the core's PR and drive 5's PW", "run",
+     stopped(Crash(2, 1, 1), wide=0b010000, left_out=0b101000), LISTING_B),
+    ("b without drive 2's", "run", stopped(Crash(2, 1, 1), left_out=0b000010), "refused 8\n"),
+    ("b without drive 3's", "run", stopped(Crash(2, 1, 1), left_out=0b000100), "refused 8\n"),
+    ("b without drive 3's, the core's alone", "run", stopped(Crash(2, 1, 1), left_out=0b111100), "refused 2\n"),
     ("b with PW", "run", stopped(Crash(2, 1, 1), wide=full(6)), LISTING_B),
     ("b with PW and PR", "run", stopped(Crash(2, 1, 1), wide=0b100110), LISTING_B),
     ("g with PW", "run", stopped(Crash(1, 1, 0), Crash(2, 1, 0), Crash(3, 1, 0), wide=full(6)), "refused 11\n"),
@@ -138,13 +146,20 @@ def marked_cases() -> Iterator[Case]:
         yield f"case g, rounds {rounds}", regdulyn.run_program(data), b"refused 11\n"
 
 
+def kept(data: bytes) -> int:
+    """The chosen core of a file's table."""
+    n, sets, _ = regdulyn.read_table_with_rest(data)
+    return regdulyn.chosen_core(n, sets)
+
+
 def example_cases() -> Iterator[Case]:
-    """Each file gives its case's listing, and so does what its text makes: the same file with a PW for each PR.
-    Other files in examples/ are not looked at."""
+    """Each file gives its case's listing, and so does what its text makes: the same file with a PW for each PR and,
+    where it is not refused, none for a listener. Other files in examples/ are not looked at."""
     programs = {"table": regdulyn.table_program, "run": regdulyn.run_program}
     for name, program, data, listing in STORED:
         path = EXAMPLES / f"{name}.{program}"
-        stored, made = path.read_bytes() if path.is_file() else None, widened(data)
+        stored = path.read_bytes() if path.is_file() else None
+        made = widened(data, kept(data) if program == "run" and not listing.startswith("refused") else -1)
         yield f"example {name}", stored, data
         yield f"example {name}, listing", programs[program](data), listing.encode()
         yield (f"example {name}, made", script(ROOT / "regdulyn", b"", "make", f"{path}.txt"),

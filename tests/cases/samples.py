@@ -1,9 +1,10 @@
 """The samples with stated answers, held to the reference."""
 
+from itertools import chain
 from typing import Iterator
 
 import regdulyn
-from inputs import samples
+from inputs import proposals, samples
 from inputs.calls import Script
 from inputs.records import table
 
@@ -16,7 +17,7 @@ def call_samples() -> Iterator[Case]:
 
 
 def run_samples() -> Iterator[Case]:
-    for n, sets, data, due in samples.refused_runs():
+    for n, sets, data, due in chain(samples.refused_runs(), proposals.samples()):
         name = f"n {n} sets {len(sets)} run file {data.hex()}"
         yield name, refusal(regdulyn.read_run, data, n, sets), due
         shown = regdulyn.run_program(table(n, sets) + data)

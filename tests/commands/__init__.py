@@ -36,7 +36,7 @@ EXAMPLES = [example(f"{name}.{program}") for name, program, _, _ in STORED]
 
 def refused_files(a: bytes) -> list[tuple[str, bytes]]:
     """A file for each refusal that a file can meet, by number; no kind where there is none."""
-    run = model.file_bytes(model.Contents(6, [1, 2, 0x3C], [1] * 6, []))[:-3]
+    run = model.file_bytes(model.Contents(6, [1, 2, 0x3C], {drive: 1 for drive in range(1, 7)}, []))[:-3]
     return [("table", a[:-1]), ("table", b"XX"), ("table", b"FR\0"), ("table", a.replace(b"<", b"\x7c")),
             ("table", model.table_bytes(model.Contents(1, [1] * 129))), ("table", a[:-1] + b"\2"), ("table", a + b"\n"),
             ("run", run + b"CR\x09\1\0EN\1"), ("run", run + b"CR\2\4\0EN\1"), ("run", run + b"CR\2\1\6EN\1"),

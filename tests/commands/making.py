@@ -3,10 +3,14 @@
 from pathlib import Path
 from typing import Iterator
 
+import failures
 import texts
-from inputs.records import proposal, table
+from inputs.frames import full
+from inputs.records import Crash, proposal, run, table
 
 from . import Case, example, model, refused_files, regdulyn
+
+A_TEXT = "drives 6\nset 1\nset 2\nset 3c\n"
 
 MISTAKES = [
     ("", ["1: no line drives"]),
@@ -39,11 +43,43 @@ MISTAKES = [
     ("drives 22\n" + "".join(f"set {3 << 2 * pair:x}\n" for pair in range(11)),
      ["12: with this set the table has more than 1024 cores"]),
     ("drives 6\nset 1\nset 2\nset 3c\npatterns 1 2\nstop 2 4 6\nstop 2 1 0\nstop 4 1 1\nstop 9 1 1\n",
-     ["5: 2 pattern numbers for 6 drives", "6: round 4, and there are rounds 1 to 3, the chosen core's size",
+     ["5: no pattern number for drive 3 of the chosen core",
+      "6: round 4, and there are rounds 1 to 3, the chosen core's size",
       "6: 6 sends, and drive 2 makes at most 5", "7: drive 2 after drive 2, and stops stand by rising drive",
       "8: 1 send, and drive 4 listens and makes none", "9: drive 9, and there are drives 1 to 6"]),
     ("drives 2\nset 1\npatterns 1 2\nstop 1 1 0\n", ["4: with this stop every survivor set has a drive that stops"]),
-    ("drives 2\nset 1\nstop 2 1 0\n", ["3: no line patterns for 2 drives"]),
+    ("drives 2\nset 1\nstop 2 1 0\n", ["3: no line patterns with a number for drive 1 of the chosen core"]),
+    (A_TEXT + "stop 2 1 1\nstop 4 1 0\n", ["5: no line patterns with a number for drives 1 2 3 of the chosen core"]),
+    ("refused 8\n" + A_TEXT + "stop 2 1 1\n",
+     ["1: refused 8, and the file is refused with 2: " + failures.OF_FILES[2],
+      "6: no line patterns with a number for drives 1 2 3 of the chosen core"]),
+    (A_TEXT + "patterns\n", ["5: no pattern number for drives 1 2 3 of the chosen core"]),
+    (A_TEXT + "patterns - - -\n", ["5: no pattern number for drives 1 2 3 of the chosen core"]),
+    (A_TEXT + "stop 2 1 1\npatterns\n", ["6: no pattern number for drives 1 2 3 of the chosen core"]),
+    (A_TEXT + "patterns 7 5 x\nstop 2 1 1\n",
+     ["5: the pattern number of drive 3 is 'x', which is no decimal number"]),
+    (A_TEXT + "patterns - 5 - 1 1 1\n", ["5: no pattern number for drive 1 of the chosen core",
+                                         "5: no pattern number for drive 3 of the chosen core"]),
+    (A_TEXT + "patterns 7 5 9 - - - - -\n", ["5: a - for drive 7, and there are drives 1 to 6"]),
+    ("patterns 7 5 9 1 1 1 -\n" + A_TEXT, ["1: a - for drive 7, and there are drives 1 to 6"]),
+    (A_TEXT + "patterns" + " -" * 7, ["5: a - for drive 7, and there are drives 1 to 6",
+                                      "5: no pattern number for drives 1 2 3 of the chosen core"]),
+    (A_TEXT + "patterns 7 5 9 1 1 1 - 1 -\n", ["5: a - for drive 9, and there are drives 1 to 6",
+                                               "5: a pattern number for drive 8, and there are drives 1 to 6"]),
+    ("refused 2\n" + A_TEXT + "patterns 7 5 - - - - -\n",
+     ["6: a - for drive 7, and there are drives 1 to 6", "6: no pattern number for drive 3 of the chosen core"]),
+    ("drives 65\nset 1\npatterns" + " -" * 66, ["1: 65 drives, and there are 1 to 64"]),
+    (A_TEXT + "patterns 7 5 9 1 1 1 1\n", ["5: a pattern number for drive 7, and there are drives 1 to 6"]),
+    (A_TEXT + "patterns 7 5 - - - - - - 2\n",
+     ["5: no pattern number for drive 3 of the chosen core",
+      "5: a pattern number for drive 9, and there are drives 1 to 6"]),
+    (A_TEXT + "patterns 7 5 --\n", ["5: the pattern number of drive 3 is '--', which is no decimal number"]),
+    (A_TEXT + "patterns" + " 1" * 256, ["5: more than 255 pattern numbers, which PW cannot number"]),
+    ("refused 2\n" + A_TEXT + "patterns 7 5 9 1\n", ["1: refused 2, and the file is not refused"]),
+    ("refused 2\n" + A_TEXT + "patterns 7 - - 1\n",
+     ["1: refused 2, and the file is refused with 8: " + failures.OF_FILES[8],
+      "6: no pattern number for drives 2 3 of the chosen core"]),
+    ("drives 5\nset 2\nset 8\npatterns 1 2 3\n", ["4: no pattern number for drive 4 of the chosen core"]),
     ("refused 4\ndrives 65\nset 1\n",
      ["1: refused 4, and the file is refused with 3: the number of drives is not 1 to 64",
       "2: 65 drives, and there are 1 to 64"]),
@@ -52,7 +88,7 @@ MISTAKES = [
     ("refused 31\ndrives 6\nset 1\n", ["1: no file is refused with 31"]),
     ("drives 6\nset zz\nset 40\nstop 7 1 1\n",
      ["2: the mask is 'zz', which is no hexadecimal number", "3: drive 7 above the number of drives, 6",
-      "4: no line patterns for 6 drives", "4: drive 7, and there are drives 1 to 6"]),
+      "4: no line patterns with numbers", "4: drive 7, and there are drives 1 to 6"]),
 ]
 
 
@@ -86,6 +122,7 @@ def makes(_work: Path) -> Iterator[Case]:
         text = f"drives 1\nset 1\npatterns {number}\n"
         yield f"make, pattern number {number}", regdulyn("make", "-", given=text.encode()), (
             0, table(1, [1]) + proposal(1, number, True) + b"EN\0", "")
+    yield from of_listeners()
     for number, (kind, data) in enumerate(refused_files(a), start=1):
         try:
             contents, _ = model.file_contents(data)
@@ -94,3 +131,27 @@ def makes(_work: Path) -> Iterator[Case]:
         text = texts.canonical_text(contents, number)
         yield f"make, refused {number}", (text.split("\n")[0], texts.text_mistakes(text)), (
             f"refused {number}", (data, []))
+
+
+def of_listeners() -> Iterator[Case]:
+    """A listener's number is left out, or written - or left off by the text: the same file. Where the file is meant
+    to be refused its number stands there."""
+    stopped = [Crash(2, 1, 1)]
+    new = table(6, [1, 2, 0x3C]) + run([7, 5, 9], stopped, full(6))
+    for numbers in ("7 5 9 1 1 1", "7 5 9", "7 5 9 - - -", "7 5 9 - 8", "07 5 9 - - 4294967295"):
+        text = f"{A_TEXT}patterns {numbers}\nstop 2 1 1\n"
+        yield f"make, patterns {numbers[:24]}", regdulyn("make", "-", given=text.encode()), (0, new, "")
+    other = table(5, [2, 8]) + run([0, 6, 0, 4], [], full(4), 0b101)
+    for numbers in ("- 6 - 4", "1 6 2 4 3", "- 6 2 4"):
+        text = f"drives 5\nset 2\nset 8\npatterns {numbers}\n"
+        yield f"make, patterns {numbers} of two", texts.text_mistakes(text), (other, [])
+    for number, line, records in (
+            (8, "7 - - 1", [(1, 7), (4, 1)]), (8, "7 5 - 1 1 1", [(1, 7), (2, 5), (4, 1), (5, 1), (6, 1)]),
+            (2, "7 5", [(1, 7), (2, 5)]), (2, "", []), (8, "- - - 1", [(4, 1)]),
+            (8, "7 5 9 - - - 1", [(1, 7), (2, 5), (3, 9), (7, 1)]),
+            (2, "7 5 9 - - 2 1", [(1, 7), (2, 5), (3, 9), (6, 2), (7, 1)])):
+        text = f"refused {number}\n{A_TEXT}patterns {line}\n"
+        made = table(6, [1, 2, 0x3C]) + b"".join(proposal(*record, True) for record in records) + b"EN\0"
+        yield f"make, refused {number}, patterns {line}", texts.text_mistakes(text), (made, [])
+    yield "make, refused 2, stops alone", texts.text_mistakes(f"refused 2\n{A_TEXT}stop 2 1 1\n"), (
+        table(6, [1, 2, 0x3C]) + b"CR\2\1\1EN\1", [])

@@ -9,7 +9,7 @@ import failures
 import generate
 import mistakes
 import texts
-from inputs.records import widened
+from inputs.records import MARKS, proposal, table, widened
 from inputs.scenarios import any_pattern
 
 from . import EXAMPLES, SAID, Case, model, regdulyn
@@ -17,6 +17,7 @@ from . import EXAMPLES, SAID, Case, model, regdulyn
 GENERATED = 500
 
 ONE = b"FR\1SV\1" + bytes(7) + b"EN\1"
+SIX = b"FR\6SV\1" + bytes(7) + b"EN\1"
 UNREADABLE = [
     ("empty", b"", 0, "FR is due, and the file ends", 1),
     ("half a mark", b"F", 0, "FR is due, and there is F", 1),
@@ -27,9 +28,11 @@ UNREADABLE = [
     ("count", ONE[:-1] + b"\2", 13, "EN counts 2, and there are 1 SV", 6),
     ("rest", ONE + b"\n", 16, "the table has ended, and what follows starts no run file: hex 0a", 7),
     ("no run", ONE + b"KW", 16, "the table has ended, and what follows starts no run file: KW", 7),
-    ("PR order", ONE + b"PR\2\0\0EN\0", 16, "PR of drive 2, and drive 1 is the next", 8),
-    ("PW order", ONE + b"PW\2\0\0\0\0EN\0", 16, "PW of drive 2, and drive 1 is the next", 8),
-    ("PW and PR order", ONE + b"PR\1\0\0PW\1\0\0\0\0EN\0", 21, "PW of drive 1, and drive 2 is the next", 2),
+    ("PR of no drive", ONE + b"PR\0\0\0EN\0", 16, "PR of drive 0, and a drive above 0 is due", 8),
+    ("PR order", SIX + b"PR\1\0\0PR\1\0\0EN\0", 21, "PR of drive 1, and a drive above 1 is due", 8),
+    ("PW order", SIX + b"PW\1\0\0\0\0PW\4\0\0\0\0PW\2\0\0\0\0EN\0", 30,
+     "PW of drive 2, and a drive above 4 is due", 8),
+    ("PW and PR order", ONE + b"PR\1\0\0PW\1\0\0\0\0EN\0", 21, "PW of drive 1, and a drive above 1 is due", 2),
     ("PW cut", ONE + b"PW\1\0\0", 16, "PW is cut: 5 bytes are due behind it, and there are 3", 1),
     ("SV in a run", ONE + b"PW\1\0\0\0\0SV", 23, "PR or PW or CR or EN is due, and there is SV", 2),
     ("PW behind CR", ONE + b"PW\1\0\0\0\0CR\1\1\0PW\2", 28, "CR or EN is due, and there is PW", 2),
@@ -49,9 +52,13 @@ def shows(_work: Path) -> Iterator[Case]:
         text = "".join(line for line in lines if not line.startswith("#"))
         status, printed, said = regdulyn("show", str(made))
         yield f"show {made.name}", (status, printed.decode()), (int(text.startswith("refused")), text)
-        again = widened(made.read_bytes())
+        data = made.read_bytes()
+        again = widened(data, kept_in(data))
         yield f"show {made.name}, made again", regdulyn("make", "-", given=printed), (0, again, "")
-        yield f"show {made.name}, shown again", regdulyn("show", "-", given=again)[1], printed
+        shown = regdulyn("show", "-", given=again)[1]
+        yield f"show {made.name}, shown again", shown == printed, again == widened(data)
+        yield f"show {made.name}, canonical", regdulyn("make", "-", given=shown), (0, again, "")
+    yield from shown_numbers()
     wrong = model.table_bytes(model.Contents(6, [1, 0x7C, 0]))
     yield "show, refused", regdulyn("show", "-", given=wrong), (
         1, b"refused 4\ndrives 6\nset 1\nset 7c\nset 0\n",
@@ -59,11 +66,54 @@ def shows(_work: Path) -> Iterator[Case]:
         "regdulyn: refused 4: a set is empty, or has a drive above the number of drives\n")
 
 
+def kept_in(data: bytes) -> int:
+    """The drives whose pattern numbers are made again: of a file that is refused all, else the chosen core."""
+    kind = model.kind_of(data)
+    if kind == "table" or model.refusal_of(kind, data):
+        return -1
+    n, sets, _ = model.regdulyn.read_table_with_rest(data)
+    return model.regdulyn.chosen_core(n, sets)
+
+
+def shown_numbers() -> Iterator[Case]:
+    """`patterns` has what stands in the file, - for a drive without a number in front of one that has it. What is
+    wrong is said with the byte of the record that it is about, or that stands where one is missing."""
+    a, text = table(6, [1, 2, 0x3C]), "drives 6\nset 1\nset 2\nset 3c\npatterns"
+    core = b"".join(proposal(drive, 10 - drive) for drive in (1, 2, 3))
+    for records, line in ((core, " 9 8 7"), (core + proposal(5, 1), " 9 8 7 - 1"),
+                          (core + proposal(4, 65536) + proposal(6, 0), " 9 8 7 65536 - 0")):
+        yield f"show, patterns{line}", regdulyn("show", "-", given=a + records + b"EN\0"), (
+            0, f"{text}{line}\n".encode(), "")
+    old = core + b"".join(proposal(drive, 1) for drive in (4, 5, 6))
+    missing = "no pattern number for {} of the chosen core"
+    seventh = "a pattern number for drive 7, and there are drives 1 to 6"
+    for records, line, number, wrong in (
+            (core[:10], " 9 8", 2, [(46, missing.format("drive 3"))]),
+            (core[:10] + proposal(4, 1), " 9 8 - 1", 8, [(46, missing.format("drive 3"))]),
+            (proposal(1, 9, True) + proposal(2, 8, True), " 9 8", 2, [(50, missing.format("drive 3"))]),
+            (b"", "", 2, [(36, missing.format("drives 1 2 3"))]),
+            (core[5:], " - 8 7", 8, [(36, missing.format("drive 1"))]),
+            (core[5:10], " - 8", 8, [(36, missing.format("drive 1")), (41, missing.format("drive 3"))]),
+            (core[:5] + core[10:], " 9 - 7", 8, [(41, missing.format("drive 2"))]),
+            (core[:5] + proposal(4, 1), " 9 - - 1", 8, [(41, missing.format("drives 2 3"))]),
+            (core[:10] + proposal(7, 1), " 9 8 - - - - 1", 8, [(46, missing.format("drive 3")), (46, seventh)]),
+            (core + proposal(7, 1), " 9 8 7 - - - 1", 8, [(51, seventh)]),
+            (core + proposal(6, 0) + proposal(7, 1), " 9 8 7 - - 0 1", 2, [(56, seventh)]),
+            (old + proposal(7, 1), " 9 8 7 1 1 1 1", 2, [(66, seventh)]),
+            (old + proposal(7, 1) + proposal(8, 1), " 9 8 7 1 1 1 1 1", 2, [(66, seventh)])):
+        said = "".join(f"standard input: byte {offset}: {what}\n" for offset, what in wrong)
+        for stops, stop in ((b"EN\0", ""), (b"CR\2\1\1EN\1", "stop 2 1 1\n")):
+            name = f"show, refused {number}, patterns{line}{' and a stop' if stop else ''}"
+            yield name, regdulyn("show", "-", given=a + records + stops), (
+                1, f"refused {number}\n{text}{line}\n{stop}".encode(),
+                f"{said}regdulyn: {failures.refused(number)}\n")
+
+
 def round_trips(_work: Path) -> Iterator[Case]:
     """Of generated files, damaged ones too: a file is shown or unreadable, the text makes the file, with a PW for each
-    PR, and is canonical, and there is something wrong exactly if the library refuses it. What is made says the same,
-    and is refused and listed as the file is."""
-    shown = unreadable = 0
+    PR and, where it is not refused, none for a listener; and there is something wrong exactly if the library refuses
+    it. What is made is refused and listed as the file is, and its text is canonical."""
+    shown = unreadable = shorter = 0
     for index, data in enumerate(chain(islice(generate.table_inputs(3, GENERATED), GENERATED),
                                        islice(generate.run_inputs(3, GENERATED), GENERATED), random_files())):
         number = model.refusal_of(model.kind_of(data), data)
@@ -77,16 +127,21 @@ def round_trips(_work: Path) -> Iterator[Case]:
                 yield f"unreadable {index}", (data, number, error.offset), None
             continue
         shown += 1
-        text, made = texts.canonical_text(contents, number), widened(data)
-        wrong = list(mistakes.found_in(contents))
+        text, made = texts.canonical_text(contents, number), widened(data, kept_in(data))
+        wrong, again = list(mistakes.found_in(contents)), model.file_contents(made)[0]
+        shorter += made != widened(data)
         good = (texts.text_mistakes(text) == (made, []) and texts.read_text(text)[0].contents == contents
-                and bool(wrong) == (number != 0) and all(place in offsets for place, _ in wrong)
-                and contents.kind == model.kind_of(data) and model.file_contents(made)[0] == contents)
+                and bool(wrong) == (number != 0)
+                and all(data[offsets[place]:offsets[place] + 2] in MARKS for place, _ in wrong)
+                and contents.kind == model.kind_of(data) == again.kind and model.refusal_of(again.kind, made) == number
+                and (again == contents) == (made == widened(data))
+                and texts.text_mistakes(texts.canonical_text(again, number)) == (made, []))
         if index % 10 == 0:
             good = good and model.listing(contents.kind, made) == model.listing(contents.kind, data)
         if not good:
             yield f"round trip {index}", (data, number, text, wrong), None
-    yield "files of both sorts", (shown > GENERATED, unreadable > GENERATED // 10), (True, True)
+    few = GENERATED // 10
+    yield "files of all sorts", (shown > GENERATED, unreadable > few, shorter > few), (True, True, True)
 
 
 def random_files() -> Iterator[bytes]:
@@ -97,7 +152,9 @@ def random_files() -> Iterator[bytes]:
         sets = [random.getrandbits(random.choice((n, n, n, n + 1)) or 1) & (2 ** 64 - 1)
                 for _ in range(random.randrange(5))]
         count = random.choice((n, n, 0, n % 255 + 1))
-        patterns = random.choice((None, [any_pattern(random) for _ in range(count)]))
+        given = random.choice((1, 1, 0.7))
+        patterns = random.choice((None, {drive: any_pattern(random) for drive in range(1, count + 1)
+                                         if random.random() < given}))
         stops = [model.Stop(*(random.randrange(random.choice((3, 7, 256))) for _ in range(3)))
                  for _ in range(random.randrange(3) if patterns is not None else 0)]
         yield model.file_bytes(model.Contents(n, sets, patterns, stops))
@@ -126,17 +183,25 @@ drives that listen: 1 3 5 6 7
 """
     run = """
 run:
-  drive 1: pattern number 1, stops in round 1 after 0 sends
+  drive 1: listens, stops in round 1 after 0 sends
   drive 2: pattern number 2, stays up
-  drive 3: pattern number 3, stays up
+  drive 3: listens, stays up
   drive 4: pattern number 4, stays up
-  drive 5: pattern number 5, stays up
-  drive 6: pattern number 6, stays up
-  drive 7: pattern number 7, stops in round 2 after 0 sends
+  drive 5: listens, stays up
+  drive 6: listens, stays up
+  drive 7: listens, stops in round 2 after 0 sends
 survivor sets in which no drive stops: set 6, set 8
 """
     data = texts.text_mistakes(text)[0]
     yield "explain, run", regdulyn("--unproved", "explain", "-", given=data), (0, (expected + run).encode(), SAID)
+    old = data.replace(b"PW\4", proposal(3, 65535) + b"PW\4").replace(b"CR\1", proposal(7, 8) + b"CR\1")
+    said = run.replace("drive 3: listens", "drive 3: listens (pattern number 65535 is dropped)").replace(
+        "drive 7: listens", "drive 7: listens (pattern number 8 is dropped)")
+    yield "explain, old run", regdulyn("--unproved", "explain", "-", given=old), (0, (expected + said).encode(), SAID)
+    status, printed, wrong = regdulyn("--unproved", "explain", "-", given=data.replace(proposal(2, 2, True), b""))
+    yield "explain, no number", (status, printed.decode(), wrong.splitlines()[0]), (
+        1, (expected + run).replace("drive 2: pattern number 2", "drive 2: no pattern number"),
+        f"standard input: byte {data.index(b'PW')}: no pattern number for drive 2 of the chosen core")
     table = data[:data.index(b"PW")]
     yield "explain, table", regdulyn("explain", "-", given=table), (0, expected.encode(), "")
     wide = texts.text_mistakes("drives 1\nset 1\npatterns 4294967295\n")[0]

@@ -4,8 +4,8 @@ from random import Random
 from typing import Callable
 
 from .frames import full
-from .records import (MARKS, UNKNOWN_MARKS, Records, crash, end, frame, proposal,
-                      survivor)
+from .records import (MARKS, PROPOSAL_MARKS, UNKNOWN_MARKS, WIDTHS, Records, crash, end, frame,
+                      proposal, survivor)
 
 
 def set_byte(rng: Random, data: bytes) -> bytes:
@@ -78,10 +78,16 @@ RECORD_DAMAGE = (change_mark, move_record, drop_record, repeat_record, insert_re
                  change_count)
 
 
+def whole_places(records: Records, kinds: tuple[bytes, ...]) -> list[int]:
+    """Where records of the kinds stand, without those that an earlier fault has made too short."""
+    return [place for place, record in enumerate(records)
+            if record[:2] in kinds and len(record) >= 2 + WIDTHS[record[:2]]]
+
+
 def replace_at(records: Records, kinds: tuple[bytes, ...], rng: Random,
                make: Callable[[bytes], bytes]) -> Records:
     """One record of the kinds replaced by what `make` gives for it."""
-    found = [place for place, record in enumerate(records) if record[:2] in kinds]
+    found = whole_places(records, kinds)
     if not found:
         return records
     place = rng.choice(found)
@@ -129,13 +135,44 @@ def damaged(rng: Random, records: Records, kinds: tuple) -> bytes:
 
 # Run files
 
-PROPOSALS = (b"PR", b"PW")
-
-
 def wrong_proposal(rng: Random, records: Records) -> Records:
-    return replace_at(records, PROPOSALS, rng, lambda record:
-                      record[:2] + bytes([rng.choice((0, 1, 64, 65, 255, record[2] ^ 1))]) +
-                      record[3:])
+    """A PR or PW of another drive."""
+    def change(record: bytes) -> bytes:
+        drives = (0, 1, 64, 65, 255, record[2] ^ 1, record[2] + 1, record[2] - 1)
+        return record[:2] + bytes([rng.choice(drives) % 256]) + record[3:]
+    return replace_at(records, PROPOSAL_MARKS, rng, change)
+
+
+def without_proposal(rng: Random, records: Records) -> Records:
+    """A PR or PW left out, at times with all that are behind it."""
+    found = whole_places(records, PROPOSAL_MARKS)
+    if not found:
+        return records
+    gone = found[rng.randrange(len(found)):]
+    gone = gone if rng.random() < 0.3 else gone[:1]
+    return [record for place, record in enumerate(records) if place not in gone]
+
+
+def swapped_proposals(rng: Random, records: Records) -> Records:
+    """Two PR or PW in each other's places, often neighbours."""
+    found = whole_places(records, PROPOSAL_MARKS)
+    if len(found) < 2:
+        return records
+    place = rng.randrange(len(found) - 1)
+    one, other = found[place], rng.choice((found[place + 1], rng.choice(found)))
+    records = list(records)
+    records[one], records[other] = records[other], records[one]
+    return records
+
+
+def doubled_proposal(rng: Random, records: Records) -> Records:
+    """A PR or PW twice, the second one of either kind."""
+    found = whole_places(records, PROPOSAL_MARKS)
+    if not found:
+        return records
+    place = rng.choice(found)
+    second = proposal(records[place][2], rng.randrange(1 << 16), rng.random() < 0.5)
+    return records[:place + 1] + [second] + records[place + 1:]
 
 
 def other_width(rng: Random, records: Records) -> Records:
@@ -144,7 +181,7 @@ def other_width(rng: Random, records: Records) -> Records:
         mark = b"PW" if record[:2] == b"PR" else b"PR"
         number = rng.choice((record[3:], (record[3:] + b"\0\0")[:4 if mark == b"PW" else 2]))
         return mark + record[2:3] + number
-    return replace_at(records, PROPOSALS, rng, change)
+    return replace_at(records, PROPOSAL_MARKS, rng, change)
 
 
 def wrong_crash(rng: Random, records: Records) -> Records:
@@ -163,13 +200,16 @@ def more_crashes(rng: Random, records: Records) -> Records:
 
 
 def proposal_behind(rng: Random, records: Records) -> Records:
-    """A PR or PW after drive n's, whole or cut."""
-    last = max((place for place, r in enumerate(records) if r[:2] in PROPOSALS), default=-1)
-    extra = proposal(rng.choice((1, last + 2)) % 256, 5, rng.random() < 0.5)
+    """A PR or PW after the last one, of a drive around it or any other, whole or cut."""
+    last = max(whole_places(records, PROPOSAL_MARKS), default=-1)
+    drive = records[last][2] if last >= 0 else 0
+    drives = (1, drive, drive + 1, drive + 1, drive + 2, 64, 65)
+    extra = proposal(rng.choice(drives) % 256, 5, rng.random() < 0.5)
     if rng.random() < 0.3:
         return records[:last + 1] + [extra[:rng.randint(1, len(extra) - 1)]]
     return records[:last + 1] + [extra] + records[last + 1:]
 
 
 RUN_DAMAGE = RECORD_DAMAGE + (wrong_proposal, other_width, wrong_crash, wrong_crash, more_crashes,
-                              more_crashes, proposal_behind)
+                              more_crashes, proposal_behind, without_proposal, without_proposal,
+                              swapped_proposals, doubled_proposal)

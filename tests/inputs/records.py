@@ -52,25 +52,41 @@ def table(n: int, sets: list[int]) -> bytes:
     return b"".join(table_records(n, sets))
 
 
-def run_records(proposals: list[int], crashes: list[Crash], wide: int = 0) -> Records:
-    """`wide` is the set of the drives that have a PW whatever their number."""
-    return [*(proposal(d, p, wide >> d - 1 & 1 == 1) for d, p in enumerate(proposals, start=1)),
+def run_records(proposals: list[int], crashes: list[Crash], wide: int = 0,
+                left_out: int = 0) -> Records:
+    """`wide` is the set of the drives that have a PW whatever their number, and `left_out` that
+    of the drives without a record."""
+    return [*(proposal(d, p, wide >> d - 1 & 1 == 1) for d, p in enumerate(proposals, start=1)
+              if not left_out >> d - 1 & 1),
             *(crash(c.drive, c.round, c.sends) for c in crashes),
             end(len(crashes))]
 
 
-def run(proposals: list[int], crashes: list[Crash], wide: int = 0) -> bytes:
-    return b"".join(run_records(proposals, crashes, wide))
+def run(proposals: list[int], crashes: list[Crash], wide: int = 0, left_out: int = 0) -> bytes:
+    return b"".join(run_records(proposals, crashes, wide, left_out))
 
 
+PROPOSAL_MARKS = (b"PR", b"PW")
 WIDTHS = {b"FR": 1, b"SV": 8, b"PR": 3, b"PW": 5, b"CR": 3, b"EN": 1}
 
 
-def widened(data: bytes) -> bytes:
-    """A file of whole records with a PW in place of each PR."""
-    made, at = b"", 0
+def file_records(data: bytes) -> Records:
+    """The records of a file that has nothing but whole ones."""
+    found, at = [], 0
     while at < len(data):
         end_of = at + 2 + WIDTHS[data[at:at + 2]]
-        record, at = data[at:end_of], end_of
-        made += b"PW" + record[2:] + b"\0\0" if record[:2] == b"PR" else record
+        found.append(data[at:end_of])
+        at = end_of
+    return found
+
+
+def widened(data: bytes, kept: int = -1) -> bytes:
+    """A file of whole records with a PW in place of each PR, and none for a drive that is not
+    among those kept."""
+    made = b""
+    for record in file_records(data):
+        if record[:2] not in PROPOSAL_MARKS:
+            made += record
+        elif kept >> record[2] - 1 & 1:
+            made += b"PW" + (record[2:] + b"\0\0")[:5]
     return made

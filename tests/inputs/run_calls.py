@@ -9,12 +9,14 @@ from typing import Callable, Iterable, Iterator
 
 from regdulyn import Crash
 
+from . import proposals
 from .calls import Script
 from .damage import RUN_DAMAGE, damaged
 from .frames import MAX_DRIVES, full, places
 from .records import end, run, run_records
 from .samples import A_SETS, PATTERNS, SAID, refused_runs
-from .scenarios import EDGES, Scenario, accepted_run, some_wide, spoil_crash, touch_every_set
+from .scenarios import (EDGES, Scenario, accepted_run, some_left_out, some_wide, spoil_crash,
+                        touch_every_set)
 from .set_calls import limit_tables, refused_table
 
 COSTLY = 2000
@@ -84,20 +86,47 @@ def touched_sets(script: Script, call: Call) -> None:
 
 def file_samples(script: Script) -> None:
     """The samples; two stops, rising, of one drive, and falling; a run file cut at every
-    place, with other counts and more behind it; the same with PW and PR in turn."""
+    place, with other counts and more behind it; the same with PW and PR in turn, and with
+    records of the core drives alone."""
     for n, sets, data, *_ in (*refused_runs(), *SAID):
         script.simulate_file(n, sets, data)
     for drives in product((1, 2, 4, 6), repeat=2):
         play_file(script, 6, A_SETS, PATTERNS, [Crash(drive, 1, 0) for drive in drives])
     stops = [Crash(2, 1, 1), Crash(4, 2, 0)]
     whole, mixed = run(PATTERNS, stops), run(PATTERNS, stops, 0b010101)
-    for data in (whole, mixed):
+    cored = run(PATTERNS, stops, 0b010, left_out=0b111000)
+    for data in (whole, mixed, cored):
         for length in range(len(data) + 1):
             script.simulate_file(6, A_SETS, data[:length])
     touched = run(PATTERNS, [Crash(drive, 1, 0) for drive in (1, 2, 3)])
-    for data in (whole, mixed, touched):
+    for data in (whole, mixed, cored, touched):
         for count, more in product((0, 1, 2, 3, 4, 255), (b"", b"\0", b"PR", b"PW", data)):
             script.simulate_file(6, A_SETS, data[:-3] + end(count) + more)
+
+
+def proposal_samples(script: Script) -> None:
+    """The samples by whose PR and PW there are."""
+    for n, sets, data, _ in proposals.samples():
+        script.simulate_file(n, sets, data)
+
+
+def drive_lists(script: Script) -> None:
+    """PR and PW of every short list of drives on the frames of up to three."""
+    for frame, _, _, data in proposals.drive_lists(tails=(end(0),)):
+        script.simulate_file(frame.n, frame.sets, data)
+
+
+def large_files(script: Script) -> None:
+    """Records of some of 64 drives."""
+    for frame, records in proposals.large():
+        script.simulate_file(frame.n, frame.sets, b"".join(records))
+
+
+def numbers_of_listeners(script: Script) -> None:
+    """Any number at a listener's place, each time with the same reply."""
+    for stops in ([], [Crash(2, 1, 1)], [Crash(2, 1, 0)], [Crash(1, 2, 3), Crash(4, 2, 0)]):
+        for own in ([1, 1, 1], [0, 0, 0], [2 ** 32 - 1] * 3, [4, 65536, 6], [7, 5, 9]):
+            script.simulate(6, A_SETS, PATTERNS[:3] + own, stops)
 
 
 def edge_numbers(script: Script, call: Call) -> None:
@@ -112,8 +141,8 @@ def edge_numbers(script: Script, call: Call) -> None:
 
 
 SCENARIOS = (stops_on_tables, stops_on_a, stops_on_others, two_stops, touched_sets, edge_numbers)
-LIMITS = (file_samples, *(partial(made, call=call) for call in (play_file, Script.simulate)
-                          for made in SCENARIOS))
+LIMITS = (file_samples, proposal_samples, drive_lists, large_files, numbers_of_listeners,
+          *(partial(made, call=call) for call in (play_file, Script.simulate) for made in SCENARIOS))
 
 
 # Random ones
@@ -141,7 +170,8 @@ def odd_stops(rng: Random, n: int, sets: list[int], crashes: list[Crash],
 def odd_file(rng: Random, script: Script) -> None:
     """A run file, at times damaged, at times with another table."""
     n, sets, proposals, crashes, core = accepted_run(rng)
-    records = run_records(proposals, odd_stops(rng, n, sets, crashes, core), some_wide(rng, n))
+    records = run_records(proposals, odd_stops(rng, n, sets, crashes, core), some_wide(rng, n),
+                          some_left_out(rng, n, core))
     data = damaged(rng, records, RUN_DAMAGE) if rng.random() < 0.3 else b"".join(records)
     if rng.random() < 0.15:
         n, sets = refused_table(rng)

@@ -9,12 +9,14 @@ from typing import Iterable, Iterator, NamedTuple, Optional
 
 from regdulyn import Crash, Exchange
 
+from . import proposals
 from .calls import FILLING, Script
 from .records import crash, end, proposal, table
 
-# Case A's table and case B's pattern numbers.
+# Case A's table and case B's pattern numbers, and what is read of those: a listener's is dropped.
 A_SETS = [1, 2, 0x3C]
 PATTERNS = [7, 5, 9, 1, 1, 1]
+OF_CORE = [7, 5, 9, 0, 0, 0]
 
 
 # States in the frame of case A, with core 7 and the pattern numbers of its drives
@@ -335,7 +337,7 @@ ON_TABLES: list[RunSample] = [
 
 # A run file for case A's table, which has the chosen core 7, and its refusal.
 ON_A = [
-    # The mark cut; unknown, or in the wrong place; the rest cut, though the drive is not the next.
+    # The mark cut; unknown, or in the wrong place; the rest cut, though the drive is above one owed.
     (b"", 1), (b"P", 1), (b"XX", 2), (b"CR", 2), (end(0), 2), (proposal(1, 7) + end(0), 2),
     (b"PR\2\7", 1),
     # 8: no drive, one left out, one twice.
@@ -375,20 +377,23 @@ BEHIND = [
 
 # The run files of the marked cases B, D, E, F and J, and what they say.
 SAID: list[tuple[int, list[int], bytes, list[int], list[Crash]]] = [
-    (6, A_SETS, PROPOSALS + crash(2, 1, 1) + end(1), PATTERNS, [Crash(2, 1, 1)]),
-    (6, A_SETS, PROPOSALS + crash(2, 1, 0) + end(1), PATTERNS, [Crash(2, 1, 0)]),
-    (6, A_SETS, PROPOSALS + crash(2, 1, 3) + end(1), PATTERNS, [Crash(2, 1, 3)]),
-    (6, A_SETS, PROPOSALS + crash(1, 1, 0) + crash(2, 2, 0) + end(2), PATTERNS,
+    (6, A_SETS, PROPOSALS + crash(2, 1, 1) + end(1), OF_CORE, [Crash(2, 1, 1)]),
+    (6, A_SETS, PROPOSALS + crash(2, 1, 0) + end(1), OF_CORE, [Crash(2, 1, 0)]),
+    (6, A_SETS, PROPOSALS + crash(2, 1, 3) + end(1), OF_CORE, [Crash(2, 1, 3)]),
+    (6, A_SETS, PROPOSALS + crash(1, 1, 0) + crash(2, 2, 0) + end(2), OF_CORE,
      [Crash(1, 1, 0), Crash(2, 2, 0)]),
     (1, [1], proposal(1, 4) + end(0), [4], []),
     # The same numbers by PW, by PW and PR; numbers that need four bytes, lowest byte first.
     (6, A_SETS, b"PW\1\7\0\0\0PW\2\5\0\0\0PW\3\x09\0\0\0PW\4\1\0\0\0PW\5\1\0\0\0PW\6\1\0\0\0" +
-     crash(2, 1, 1) + end(1), PATTERNS, [Crash(2, 1, 1)]),
+     crash(2, 1, 1) + end(1), OF_CORE, [Crash(2, 1, 1)]),
     (6, A_SETS, b"PW\1\7\0\0\0PR\2\5\0PR\3\x09\0PW\4\1\0\0\0PR\5\1\0PW\6\1\0\0\0" + end(0),
-     PATTERNS, []),
+     OF_CORE, []),
     (1, [1], b"PW\1\1\2\3\4" + end(0), [0x04030201], []),
     (1, [1], b"PW\1\xff\xff\xff\xff" + end(0), [2 ** 32 - 1], []),
     (2, [1, 2], b"PR\1\xff\xffPW\2\0\0\1\0" + end(0), [65535, 65536], []),
+    # Case B with the records of the core drives alone.
+    (6, A_SETS, PROPOSALS[:15] + crash(2, 1, 1) + end(1), OF_CORE, [Crash(2, 1, 1)]),
+    *((n, sets, data, numbers, []) for n, sets, data, numbers in proposals.SAID),
 ]
 
 
@@ -400,5 +405,5 @@ def refused_runs() -> Iterator[RunSample]:
 
 def run_samples() -> Iterator[bytes]:
     """The tables and run files of all samples, for the run program."""
-    for n, sets, data, *_ in (*refused_runs(), *SAID):
+    for n, sets, data, *_ in (*refused_runs(), *proposals.samples(), *SAID):
         yield table(n, sets) + data

@@ -1,4 +1,5 @@
-"""Scenarios: a table, the numbers proposed and the crashes.
+"""Scenarios: a table, the numbers proposed and the crashes. Every drive has a number, of which a
+listener's counts for nothing.
 
 Those of `accepted_run` leave a survivor set untouched; `touch_every_set` and
 `spoil_crash` are refused.
@@ -44,6 +45,12 @@ def patterns(rng: Random, n: int) -> list[int]:
 def some_wide(rng: Random, n: int) -> int:
     """The drives of a run file that have a PW whatever their number: none, all, or some."""
     return rng.choice((0, full(n), rng.randint(0, full(n))))
+
+
+def some_left_out(rng: Random, n: int, core: int) -> int:
+    """The listeners of a run file that have no record: none, all, or some."""
+    listeners = full(n) & ~core
+    return rng.choice((0, listeners, listeners & rng.randint(0, full(n))))
 
 
 def few_sends(rng: Random, n: int) -> int:

@@ -36,8 +36,8 @@ class Course:
         frame = list(range(1, contents.drives + 1))
         self.listeners = [d for d in frame if d not in self.core]
         stopped = [drive for drive, decision in listing.decisions.items() if decision is None]
-        if (list(listing.decisions) != frame or stopped != list(self.stops) or len(contents.patterns) != len(frame)
-                or self.core[-1] > len(frame)):
+        if (list(listing.decisions) != frame or stopped != list(self.stops) or self.core[-1] > len(frame)
+                or not set(self.core) <= set(contents.patterns) <= set(frame)):
             raise Unfit("the listing is not of this file")
         earlier = {r: run_listing(ask(self._before(r))).decisions
                    for r in {stop.round for stop in contents.stops} if r > 1}

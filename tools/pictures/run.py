@@ -71,8 +71,8 @@ class RunPicture:
     def _place_columns(self) -> None:
         font = self.scale.font
         self.at_proposal = MARGIN + text_width("drive 64 ", font, True)
-        self.grid = 16 + max([self.at_proposal + text_width(f"proposes {p}", font) for p in self.contents.patterns]
-                             + [MARGIN + text_width(title, 12) for _, title in self.heads])
+        proposals = [self.at_proposal + text_width(self.proposal(drive), font) for drive in self.course.core]
+        self.grid = 16 + max(proposals + [MARGIN + text_width(title, 12) for _, title in self.heads])
         self.starts: dict[int, float] = {}
         self.crosses: dict[int, float] = {}
         self.closes: dict[int, float] = {}
@@ -90,6 +90,10 @@ class RunPicture:
                 x = max(x, self.starts[r] + text_width(f"round {r}", font, True) + 14)
             self.closes[r] = x
         self.results = x + 18
+
+    def proposal(self, drive: int) -> str:
+        """What a drive of the core proposes."""
+        return f"proposes {self.contents.patterns[drive]}"
 
     def listed(self, drive: int) -> bool:
         """Whether the listing has the drive's decision."""
@@ -136,8 +140,8 @@ class RunPicture:
                 d.box(MARGIN - 8, y - self.scale.row / 2, end - MARGIN + 8, self.scale.row, BAND)
             base = y + font * 0.36
             d.text(MARGIN, base, f"drive {drive}", font, bold=core)
-            d.text(self.at_proposal, base, f"proposes {self.contents.patterns[drive - 1]}", font,
-                   fill="#000000" if core else SOFT)
+            if core:
+                d.text(self.at_proposal, base, self.proposal(drive), font)
             d.text(self.results, base, self._result(drive), font)
         for y, title in self.heads:
             d.text(MARGIN, y + 2, title, 12, fill=SOFT)
@@ -246,7 +250,7 @@ class Legend:
             notes.append("In each round every core drive on its line sends; only the last messages of drives that "
                          "stop are drawn.")
         if p.course.listeners:
-            notes.append("Only the numbers that core drives propose can be decided: a listener never tells its own.")
+            notes.append("Only core drives propose a number: a listener decides one of theirs.")
         notes.append("The core, the decisions and who stopped are taken from the listing; proposals, rounds and sends "
                      "of stops from the file." + (" What a drive had decided before it stopped is taken from the "
                                                   "listing of the same file with only the stops of earlier "

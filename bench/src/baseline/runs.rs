@@ -18,8 +18,9 @@ struct Scenario {
 fn read(bytes: &[u8]) -> Answer<Scenario> {
     let (table, mut rest) = read_with_rest(bytes)?;
     let (n, core) = (table.n, table.cores[0]);
-    let mut numbers = Vec::with_capacity(64);
-    for due in 1..=n {
+    // a listener's number is read and never used
+    let (mut numbers, mut last, mut owed) = (vec![0; n as usize], 0, core);
+    while owed != 0 || last < n && (rest.starts_with(b"PW") || rest.starts_with(b"PR")) {
         let (kind, fields) = mark(rest)?;
         let size = match &kind {
             b"PW" => 5,
@@ -30,11 +31,12 @@ fn read(bytes: &[u8]) -> Answer<Scenario> {
             return Err(1);
         }
         let (record, behind) = fields.split_at(size);
-        if record[0] != due {
+        let drive = record[0];
+        if drive > n || drive <= last || owed & ((1 << (drive - 1)) - 1) != 0 {
             return Err(8);
         }
-        numbers.push(number(&record[1..]));
-        rest = behind;
+        numbers[drive as usize - 1] = number(&record[1..]);
+        (last, owed, rest) = (drive, owed & !(1 << (drive - 1)), behind);
     }
     let (mut crashes, mut crashed, mut last, mut count) = ([None; 64], 0u64, 0, 0);
     loop {
