@@ -34,7 +34,7 @@ use Rattle.promises.specs.Listeners.{takenBefore, listBefore}
 
 module _ (n core : ℕ) (frame : n ≤ 64) (within : core < 2 ^ n) where
   -- as many drives were read before as now, and core drives have the same numbers; the core drives above are owed
-  pub record Alike (given : List ℕ) (l : ProposalList) : Type 0 where
+  pub record Matching (given : List ℕ) (l : ProposalList) : Type 0 where
     pub few : length given ≤ n
     pub last : l .last ≡ length given
     pub room : length (l .numbers) ≡ n
@@ -42,7 +42,7 @@ module _ (n core : ℕ) (frame : n ≤ 64) (within : core < 2 ^ n) where
     pub owed : (d : ℕ) → has d (l .owed) ≡ (has d core && ltb (length given) d)
     pub same : (d : ℕ) → has d core ≡ true → d ≤ length given → getD (l .numbers) (d - 1) 0 ≡ getD given (d - 1) 0
 
-  pub alike-start : Alike [] (noProposal n core)
+  pub alike-start : Matching [] (noProposal n core)
   alike-start = record {
     few = omega arith;
     last = refl;
@@ -52,7 +52,7 @@ module _ (n core : ℕ) (frame : n ≤ 64) (within : core < 2 ^ n) where
     same = λ d h high. absurd (omega (arith, has-bounds n d core within h));
   }
 
-  module _ {given : List ℕ} {l : ProposalList} (a : Alike given l) where
+  module _ {given : List ℕ} {l : ProposalList} (a : Matching given l) where
     -- behind drive n none is owed
     none-left : n ≤ length given → l .owed ≡ 0
     none-left h =
@@ -65,7 +65,7 @@ module _ (n core : ℕ) (frame : n ≤ 64) (within : core < 2 ^ n) where
       in-place v =
           rw (le-leb 1 (suc (length given)) (omega arith), le-leb (suc (length given)) n h, lt-ltb (l .last) (suc (length given)) (omega (arith, a .last)), le-ltb (lowest (l .owed)) (suc (length given)) (lowest-from (l .owed) (suc (length given)) (a .word) (omega arith) (λ e t. ltb-true (length given) e (and-right (has e core) _ (sym (a .owed e) ∙ t)))))
 
-      alike-more : (v : ℕ) → Alike (given ++ (v ∷ [])) (withProposal l (suc (length given)) v)
+      alike-more : (v : ℕ) → Matching (given ++ (v ∷ [])) (withProposal l (suc (length given)) v)
       unfolding withProposal
       alike-more v =
           let more : length (given ++ (v ∷ [])) ≡ suc (length given) = length-append given (v ∷ []) ∙ omega arith in
@@ -106,11 +106,11 @@ module _ (n core : ℕ) (frame : n ≤ 64) (within : core < 2 ^ n) where
     pub now-read : ReadList ProposalList
     pub reads : readFrom (proposalList n) bytes l s ≡ result now-read
     pub behind : now-read .rest ≡ p .rest
-    pub alike : Alike (p .list) (now-read .list)
+    pub alike : Matching (p .list) (now-read .list)
     pub whole : n ≤ length (p .list)
 
   -- where drive n was read, both end
-  still-ended : (bytes : ℕ) (given : List ℕ) (l : ProposalList) (s : List ℕ) {p : ReadList (List ℕ)} → Alike given l → leb n (length given) ≡ true → readFrom (listBefore n) bytes given s ≡ result p → Still bytes l s p
+  still-ended : (bytes : ℕ) (given : List ℕ) (l : ProposalList) (s : List ℕ) {p : ReadList (List ℕ)} → Matching given l → leb n (length given) ≡ true → readFrom (listBefore n) bytes given s ≡ result p → Still bytes l s p
   unfolding proposalsEnd
   still-ended bytes given l s a t e =
       subst (Still bytes l s) (same-result (sym (read-complete (listBefore n) bytes given s t) ∙ e)) (record {
@@ -122,14 +122,14 @@ module _ (n core : ℕ) (frame : n ≤ 64) (within : core < 2 ^ n) where
       })
 
   -- one record that was taken is taken
-  module _ {given : List ℕ} {l : ProposalList} (a : Alike given l) (going : leb n (length given) ≡ false) (s : List ℕ) where
+  module _ {given : List ℕ} {l : ProposalList} (a : Matching given l) (going : leb n (length given) ≡ false) (s : List ℕ) where
     abbrev next : ProposalList
     next = withProposal l (suc (length given)) (numberAt s)
 
     record Step (t : List ℕ) : Type 0 where
       goes-on : proposalsEnd n (l .last) (l .owed) s ≡ false
       steps : stepOf (proposalList n) l s ≡ result (some next)
-      alike : Alike t next
+      alike : Matching t next
 
     step-still : {t : List ℕ} → stepOf (listBefore n) given s ≡ result (some t) → Step t
     unfolding stepOf takenBefore takenProposal proposalsEnd isDue isKind mark markText ascii fromBytes
@@ -142,7 +142,7 @@ module _ (n core : ℕ) (frame : n ≤ 64) (within : core < 2 ^ n) where
         record {
           goes-on = and-fails-right (eqb (l .owed) 0) (or-neither (lt-leb n (l .last) (omega (arith, a .last))) (ap not (ap (isDue AtProposal) (there .is) ∙ there .is-due)));
           steps = rw (other-next AtProposal 0 s (one .0) refl (one .2), eqb-true (driveAt s) (suc (length given)) (not-false (eqb (driveAt s) (suc (length given))) (drive .0)), in-place a few (numberAt s));
-          alike = subst (λ (x : List ℕ). Alike x next) (same-result (drive .1)) (alike-more a few (numberAt s));
+          alike = subst (λ (x : List ℕ). Matching x next) (same-result (drive .1)) (alike-more a few (numberAt s));
         }
 
     -- EN was not due
@@ -150,7 +150,7 @@ module _ (n core : ℕ) (frame : n ≤ 64) (within : core < 2 ^ n) where
     unfolding isDue isKind mark markText ascii fromBytes
     no-end e = clash (step-end (listBefore n) given s e .is-due) refl
 
-  pub still-read : (bytes : ℕ) (given : List ℕ) (l : ProposalList) (s : List ℕ) {p : ReadList (List ℕ)} → Alike given l → readFrom (listBefore n) bytes given s ≡ result p → Still bytes l s p
+  pub still-read : (bytes : ℕ) (given : List ℕ) (l : ProposalList) (s : List ℕ) {p : ReadList (List ℕ)} → Matching given l → readFrom (listBefore n) bytes given s ≡ result p → Still bytes l s p
   unfolding readFrom
   still-read zero given l s a e = by-test (leb n (length given)) (λ t. still-ended zero given l s a t e) (λ t. absurd (refused-no-result (sym (cond-false _ _ t) ∙ e)))
   still-read (suc bytes) given l s {p} a e =
@@ -159,7 +159,7 @@ module _ (n core : ℕ) (frame : n ≤ 64) (within : core < 2 ^ n) where
       go t (w .0) (w .1) (w .2) (λ x m b. still-read bytes x m (drop (widthAt s) s) b))
     where
       go : leb n (length given) ≡ false → (o : Option (List ℕ)) → stepOf (listBefore n) given s ≡ result o → following (listBefore n) (readFrom (listBefore n) bytes) given s o ≡ result p
-          → ((x : List ℕ) (m : ProposalList) → Alike x m → readFrom (listBefore n) bytes x (drop (widthAt s) s) ≡ result p → Still bytes m (drop (widthAt s) s) p) → Still (suc bytes) l s p
+          → ((x : List ℕ) (m : ProposalList) → Matching x m → readFrom (listBefore n) bytes x (drop (widthAt s) s) ≡ result p → Still bytes m (drop (widthAt s) s) p) → Still (suc bytes) l s p
       go t none step f later = absurd (no-end a t s step)
       go t (some x) step f later =
           let i = step-still a t s step in

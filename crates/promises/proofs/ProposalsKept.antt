@@ -3,15 +3,16 @@
 use mathlib.Core.Path.{_≡_, refl, sym, ap, _∙_, subst}
 use mathlib.Core.Bool.{true, not, _&&_}
 use mathlib.Core.List.{List, [], _∷_}
+use mathlib.Core.Logic.{⊎-elim}
 use Prim.Native.Nat.{ℕ, _-_, _≤_}
 use native.Mathlib.Omega.{arith}
 use lib.Dec.{eqb, leb, ltb}
 use lib.ListN.{length, getD}
 use borrow.Author.Tests.{ltb-true, lt-ltb, not-false}
-use Rattle.drive_sets.specs.Bools.Laws.{by-test, and-intro, and-left, and-right, cond-true, cond-false}
+use Rattle.drive_sets.specs.Bools.Laws.{clash, by-test, and-intro, and-left, and-right, cond-true, cond-false}
 use Rattle.drive_sets.specs.declared.Refusal.the-variants.{DriveNumber}
-use Rattle.drive_sets.specs.Lists.{all}
-use Rattle.drive_sets.specs.Lists.Laws.{all-elem, all-intro}
+use Rattle.drive_sets.specs.Lists.{all, elem}
+use Rattle.drive_sets.specs.Lists.Laws.{elem-head, elem-tail, elem-cases, elem-none, all-elem, all-intro}
 use Rattle.drive_sets.specs.Masks.{single, minus, lowest}
 use Rattle.drive_sets.specs.Masks.OneDrive.{remove-keeps}
 use Rattle.drive_sets.specs.Refusals.{result}
@@ -27,30 +28,30 @@ use Rattle.promises.proofs.ProposalsWritten.{says, saysAll}
 
 -- ---- later records keep what was read
 
-pub record Kept (l t : ProposalList) : Type 0 where
+pub record Extends (l t : ProposalList) : Type 0 where
   pub rises : l .last ≤ t .last
   pub stays : (d : ℕ) → 1 ≤ d → d ≤ l .last → getD (t .numbers) (d - 1) 0 ≡ getD (l .numbers) (d - 1) 0
 
-pub kept-all : {l : ProposalList} → Kept l l
+pub kept-all : {l : ProposalList} → Extends l l
 kept-all = record { rises = omega arith; stays = λ d low high. refl }
 
-kept-then : {l t u : ProposalList} → Kept l t → Kept t u → Kept l u
+kept-then : {l t u : ProposalList} → Extends l t → Extends t u → Extends l u
 kept-then j k = record {
   rises = omega (arith, j .rises, k .rises);
   stays = λ d low high. k .stays d low (omega (arith, j .rises)) ∙ j .stays d low high;
 }
 
-kept-one : (n : ℕ) (l : ProposalList) (d v : ℕ) → isNext n (l .last) d ≡ true → Kept l (withProposal l d v)
+kept-one : (n : ℕ) (l : ProposalList) (d v : ℕ) → isNext n (l .last) d ≡ true → Extends l (withProposal l d v)
 unfolding withProposal
 kept-one n l d v next =
     let b = next-bounds n (l .last) d next in
     record { rises = omega (arith, b .2); stays = λ e low high. noted-other l d v e low (omega (arith, b .2)) }
 
 -- so does reading on
-pub read-kept : (n : ℕ) (l : ProposalList) (s : List ℕ) {p : ReadList ProposalList} → readList (proposalList n) l s ≡ result p → Kept l (p .list)
+pub read-kept : (n : ℕ) (l : ProposalList) (s : List ℕ) {p : ReadList ProposalList} → readList (proposalList n) l s ≡ result p → Extends l (p .list)
 unfolding readList
 read-kept n l s e =
-    read-keeps (proposalList n) (λ t b. Kept l t) (λ t b u k going q. let w = was-taken n t b q in kept-then k (subst (Kept t) (w .is) (kept-one n t (driveAt b) (numberAt b) (w .next)))) (length s) l s kept-all e .1
+    read-keeps (proposalList n) (λ t b. Extends l t) (λ t b u k going q. let w = was-taken n t b q in kept-then k (subst (Extends t) (w .is) (kept-one n t (driveAt b) (numberAt b) (w .next)))) (length s) l s kept-all e .1
 
 -- ---- records one after another
 
@@ -74,9 +75,9 @@ module _ (n : ℕ) (frame : n ≤ 64) where
 
   -- each is above those before it, and its number stays to the end
   pub said-own : (ps : List ProposalRecord) (l : ProposalList) {t : ProposalList} → length (l .numbers) ≡ n → saysAll n l ps ≡ result t
-      → {u : ProposalList} → Kept t u → Own (l .owed) (u .numbers) ps × Kept l u × (all (ltb (l .last)) (recordDrives ps) ≡ true)
+      → {u : ProposalList} → Extends t u → Own (l .owed) (u .numbers) ps × Extends l u × (all (ltb (l .last)) (recordDrives ps) ≡ true)
   unfolding saysAll all withProposal
-  said-own [] l room e {u} k = (tt, subst (λ (x : ProposalList). Kept x u) (sym (same-result e)) k, refl)
+  said-own [] l room e {u} k = (tt, subst (λ (x : ProposalList). Extends x u) (sym (same-result e)) k, refl)
   said-own (p ∷ ps) l room e {u} k =
       let w = first-result (says n l p) (λ x. saysAll n x ps) e in
       let i = says-taken l p (w .1) in
@@ -89,4 +90,20 @@ module _ (n : ℕ) (frame : n ≤ 64) where
         ),
         kept-then (kept-one n l (p .drive) (p .number) (i .0)) (later .1),
         and-intro (lt-ltb (l .last) (p .drive) (b .2)) (all-intro (ltb (l .last)) (recordDrives ps) (λ d h. lt-ltb (l .last) d (omega (arith, b .2, ltb-true (p .drive) d (all-elem (ltb (p .drive)) (recordDrives ps) d (later .2) h))))),
+      )
+
+  -- the last drive is that of a record, and no record's is above it
+  pub said-last : (ps : List ProposalRecord) (l : ProposalList) {t : ProposalList} → saysAll n l ps ≡ result t
+      → (elem (t .last) (l .last ∷ recordDrives ps) ≡ true) × (l .last ≤ t .last) × ((d : ℕ) → elem d (recordDrives ps) ≡ true → d ≤ t .last)
+  unfolding saysAll withProposal
+  said-last [] l e =
+      let same = ap (λ (x : ProposalList). x .last) (same-result e) in
+      (subst (λ (d : ℕ). elem d (l .last ∷ []) ≡ true) same (elem-head (l .last) []), omega (arith, same), λ d h. absurd (clash h (elem-none d)))
+  said-last (p ∷ ps) l {t} e =
+      let w = first-result (says n l p) (λ x. saysAll n x ps) e in
+      let i = says-taken l p (w .1) in
+      let later = said-last ps (withProposal l (p .drive) (p .number)) (ap (λ (x : ProposalList). saysAll n x ps) (i .1) ∙ w .2) in (
+        elem-tail (t .last) (l .last) (recordDrives (p ∷ ps)) (later .0),
+        omega (arith, later .1, next-bounds n (l .last) (p .drive) (i .0) .2),
+        λ d h. ⊎-elim (λ q. omega (arith, later .1)) (later .2 d) (elem-cases d (p .drive) (recordDrives ps) h),
       )

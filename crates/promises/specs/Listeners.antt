@@ -72,6 +72,13 @@ unfoldable pub MissingRecords : Type 0
 MissingRecords = (n : ℕ) (sets : List ℕ) → Accepted n sets → (c : ℕ) → has c (chosen (normal sets)) ≡ true
     → (ps : List ProposalRecord) → RecordsFit ps → InPlace n (chosen (normal sets)) c ps → Missing n sets c ps
 
+-- where drive n has had none, a record of no drive of the frame or not above all before it meets 8, whatever stands
+-- behind it
+unfoldable pub OutOfOrder : Type 0
+OutOfOrder = (n : ℕ) (sets : List ℕ) → Accepted n sets → (c : ℕ) (ps : List ProposalRecord) → RecordsFit ps → InPlace n (chosen (normal sets)) c ps → elem n (recordDrives ps) ≡ false
+    → (p : ProposalRecord) → RecordsFit (p ∷ []) → (isDrive n (p .drive) && all (λ d. ltb d (p .drive)) (recordDrives ps)) ≡ false
+    → (rest : List ℕ) → readRunFile n sets (proposalBytes ps ++ (proposalBytes (p ∷ []) ++ rest)) ≡ refused (number DriveNumber)
+
 -- ---- old files: as they were read before, with a record for each drive 1 to n in order
 
 -- 8, a drive that is not the next

@@ -124,9 +124,9 @@ module _ {s : List ℕ} {n core : ℕ} {numbers : List Pattern} {last owed at : 
         (reading-stop (proposalList n) _ s (given n numbers last owed) at (r .reading) (ends-here b more going) (number q) (said (Stop q) e))
 
     module _ {d : Drive} {v : Pattern} {width : ℕ} (e : step ≡ Number d v width) where
-      pub drive-bounds : (1 ≤ d .0) × (d .0 ≤ n) × (last < d .0)
+      pub proposal-bounds : (1 ≤ d .0) × (d .0 ≤ n) × (last < d .0)
       unfolding withProposal
-      drive-bounds =
+      proposal-bounds =
           let w = was-taken n (given n numbers last owed) (drop at s) (step-taken (proposalList n) _ s (given n numbers last owed) at (r .reading) (ends-here b more going) (said (Number d v width) e)) in
           next-bounds n last (d .0) (subst (λ (x : ℕ). isNext n last x ≡ true) (ap (λ (l : ProposalList). l .last) (w .is)) (w .next))
 
@@ -134,7 +134,7 @@ module _ {s : List ℕ} {n core : ℕ} {numbers : List Pattern} {last owed at : 
           → (left : ℕ) → left ≡ minus owed (single (d .0)) → Proposing s n core noted (d .0) left (at + width)
       unfolding withProposal
       proposing-turn few long noted f left g = record {
-        upTo = drive-bounds .1;
+        upTo = proposal-bounds .1;
         room = ap length f ∙ (kept-length (has (d .0) owed) numbers (d .0 - 1) v ∙ r .room);
         reading =
             subst (λ (w : ℕ). Reading (proposalList n) (readAll n core s) s (given n noted (d .0) left) (at + w)) (sym (long ∙ ap widthAt (rest-is s at)))
@@ -143,7 +143,7 @@ module _ {s : List ℕ} {n core : ℕ} {numbers : List Pattern} {last owed at : 
       }
         where
           kept : (t : Bool) → cond t (set (take n (values numbers)) (d .0 - 1) (v .0)) (take n (values numbers)) ≡ take n (values (cond t (set numbers (d .0 - 1) v) numbers))
-          kept true = sym (ap (take n) (values-set numbers (d .0 - 1) v) ∙ take-set-lt n (values numbers) (d .0 - 1) (v .0) (omega (arith, drive-bounds .0, drive-bounds .1)))
+          kept true = sym (ap (take n) (values-set numbers (d .0 - 1) v) ∙ take-set-lt n (values numbers) (d .0 - 1) (v .0) (omega (arith, proposal-bounds .0, proposal-bounds .1)))
           kept false = refl
 
           same : withProposal (given n numbers last owed) (d .0) (v .0) ≡ given n noted (d .0) left

@@ -27,6 +27,7 @@ pub record ReadRun : Type 0 where
   pub file : RunFile
   pub rest : List ℕ
 
+-- of these numbers and the CR records behind them
 abbrev pub said : List ℕ → ReadList CrashList → ReadRun
 said numbers c = record { file = record { numbers = numbers; crashes = c .list .crashes }; rest = c .rest }
 

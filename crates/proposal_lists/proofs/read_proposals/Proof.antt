@@ -5,7 +5,7 @@ use native.Mathlib.Omega.{arith}
 use Prim.Native.Nat.{_-_}
 use borrow.Author.Tests.{lt-ltb, le-ltb}
 use Rattle.proposal_lists.specs.Reading.{proposalsOutcome}
-use Rattle.proposal_lists.proofs.ProposalSteps.{Proposing, proposing-start, proposing-end, proposing-stop, drive-bounds, proposing-turn}
+use Rattle.proposal_lists.proofs.ProposalSteps.{Proposing, proposing-start, proposing-end, proposing-stop, proposal-bounds, proposing-turn}
 use Rattle.proposal_lists.proofs.Returns.{proposals-refused, proposals-accepted, refused-within}
 use borrow.Author.Needs.{needs}
 use Rattle.proposal_lists.proofs.read_proposals.Statement.{statement}
@@ -33,6 +33,6 @@ read-proposals-spec =
     (λ c. search needs) (λ c. omega (arith, c .before .before .before .loop .inv .reading .within)) (λ c. search needs) (λ c κs. search needs) (λ c. search needs) (λ c κs. search needs)
     (λ c. let r = c .refused2 .ensures in (rw (r, le-ltb _ _ (c .before .before .before .before .before .before .before .before .before .before .if1 .left)) (proposing-stop (c .before .before .before .before .before .before .before .before .before .loop .inv) _ (c .before .before .before .before .before .before .before .ended .ensures) (c .before .before .before .before .before .before .if2 .left) (c .before .before .before .before .next-step .ensures .0) (c .before .before .next .given .1)), (refused-within r _, proposals-refused r)))
     (λ c. search needs)
-    (λ c κs. omega (arith, drive-bounds (c .before .before .before .before .before .before .before .before .loop .inv) _ (c .before .before .before .before .before .before .ended .ensures) (c .before .before .before .before .before .if2 .left) (c .before .before .before .next-step .ensures .0) (c .before .next2 .given .1) .1, c .before .before .before .before .before .before .before .before .before .if1 .left))
+    (λ c κs. omega (arith, proposal-bounds (c .before .before .before .before .before .before .before .before .loop .inv) _ (c .before .before .before .before .before .before .ended .ensures) (c .before .before .before .before .before .if2 .left) (c .before .before .before .next-step .ensures .0) (c .before .next2 .given .1) .1, c .before .before .before .before .before .before .before .before .before .if1 .left))
     (λ c κs. search needs) (λ c. omega (arith, loop-again c .reading .within))
-    (λ c. omega (arith, drive-bounds (c .before .before .before .before .before .before .before .before .before .before .loop .inv) _ (c .before .before .before .before .before .before .before .before .ended .ensures) (c .before .before .before .before .before .before .before .if2 .left) (c .before .before .before .before .before .next-step .ensures .0) (c .before .before .before .next2 .given .1))) loop-again)
+    (λ c. omega (arith, proposal-bounds (c .before .before .before .before .before .before .before .before .before .before .loop .inv) _ (c .before .before .before .before .before .before .before .before .ended .ensures) (c .before .before .before .before .before .before .before .if2 .left) (c .before .before .before .before .before .next-step .ensures .0) (c .before .before .before .next2 .given .1))) loop-again)

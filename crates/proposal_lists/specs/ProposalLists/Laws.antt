@@ -26,12 +26,12 @@ use Rattle.proposal_lists.specs.ProposalLists.{ProposalList, driveAt, nu
 
 -- ---- a record that is taken
 
-pub record Taken (n : ℕ) (l : ProposalList) (s : List ℕ) (t : ProposalList) : Type 0 where
+pub record Placed (n : ℕ) (l : ProposalList) (s : List ℕ) (t : ProposalList) : Type 0 where
   pub next : isNext n (l .last) (driveAt s) ≡ true
   pub none-passed : driveAt s ≤ lowest (l .owed)
   pub is : withProposal l (driveAt s) (numberAt s) ≡ t
 
-pub was-taken : (n : ℕ) (l : ProposalList) (s : List ℕ) {t : ProposalList} → takenProposal n l s ≡ result t → Taken n l s t
+pub was-taken : (n : ℕ) (l : ProposalList) (s : List ℕ) {t : ProposalList} → takenProposal n l s ≡ result t → Placed n l s t
 unfolding takenProposal
 was-taken n l s e =
     let first = passed (not (isNext n (l .last) (driveAt s))) DriveNumber _ e in
