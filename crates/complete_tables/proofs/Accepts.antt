@@ -20,15 +20,28 @@ module _ {A B : Type 0} where
   then-refused (refused r) f e = cc
   then-refused (result a) f e = absurd (let z : _≡_ {A = ℕ} 0 1 = cc in omega arith)
 
-module _ (n : ℕ) (sets : List ℕ) (t : TableWithCores) (e : completeOutcome t ≡ completeTable n sets) where
-  answer-is : (a : Answer) → t .answer ≡ a → outcomeOf a (record { n = t .table .n; sets = setsOf (t .table); cores = take (t .found) (t .cores) }) ≡ completeTable n sets
+-- an answer with a table made complete, of whatever table is due
+module _ (n : ℕ) (due : Outcome (List ℕ)) (t : TableWithCores) (e : completeOutcome t ≡ andThen due (λ table. result (withCores n table))) where
+  answer-is : (a : Answer) → t .answer ≡ a → outcomeOf a (record { n = t .table .n; sets = setsOf (t .table); cores = take (t .found) (t .cores) }) ≡ andThen due (λ table. result (withCores n table))
   unfolding completeOutcome
   answer-is a f =
       ap (λ (b : Answer). outcomeOf b (record { n = t .table .n; sets = setsOf (t .table); cores = take (t .found) (t .cores) })) (sym f) ∙ e
 
+  pub due-refused : (q : Refusal) → t .answer ≡ answers.Refused q → due ≡ refused (number q)
+  due-refused q f = then-refused due (withCores n) (sym (answer-is (answers.Refused q) f))
+
+  pub due-given : t .answer ≡ answers.Accepted → (due ≡ result (setsOf (t .table))) × (take (t .found) (t .cores) ≡ cores (setsOf (t .table)))
+  unfolding withCores
+  due-given f =
+      let w = first-result due (λ table. result (withCores n table)) (sym (answer-is answers.Accepted f)) in
+      let q = same-result (w .2) in
+      let same = ap (λ (c : Complete). c .sets) q in
+      (w .1 ∙ ap (λ (l : List ℕ). result l) same, sym (ap (λ (c : Complete). c .cores) q) ∙ ap cores same)
+
+module _ (n : ℕ) (sets : List ℕ) (t : TableWithCores) (e : completeOutcome t ≡ completeTable n sets) where
   pub accept-refused : (q : Refusal) → t .answer ≡ answers.Refused q → normalTable n sets ≡ refused (number q)
   unfolding completeTable
-  accept-refused q f = then-refused (normalTable n sets) (withCores n) (sym (answer-is (answers.Refused q) f))
+  accept-refused = due-refused n (normalTable n sets) t e
 
   -- an accepted table: the normal table, and its cores
   pub record Taken : Type 0 where
@@ -37,17 +50,11 @@ module _ (n : ℕ) (sets : List ℕ) (t : TableWithCores) (e : completeOutcome t
     pub whole : Accepted n (setsOf (t .table))
 
   pub accept-taken : t .answer ≡ answers.Accepted → Taken
-  unfolding completeTable withCores
+  unfolding completeTable
   accept-taken f =
-      let w = first-result (normalTable n sets) (λ table. result (withCores n table)) (sym (answer-is answers.Accepted f)) in
-      let a = table-accepted n sets (w .0) (w .1) in
-      let q = same-result (w .2) in
-      let same = ap (λ (c : Complete). c .sets) q in
-      record {
-        table = w .1 ∙ ap (λ (l : List ℕ). result l) same;
-        list = sym (ap (λ (c : Complete). c .cores) q) ∙ ap cores same;
-        whole = subst (Accepted n) (sym (a .1) ∙ same) (accepted-normal n sets (a .0));
-      }
+      let w = due-given n (normalTable n sets) t e f in
+      let a = table-accepted n sets (setsOf (t .table)) (w .0) in
+      record { table = w .0; list = w .1; whole = subst (Accepted n) (sym (a .1)) (accepted-normal n sets (a .0)) }
 
   -- any call that asks for the table is refused where it is
   pub asks-refused : {B : Type 0} (f : List ℕ → Outcome B) (q : Refusal) → t .answer ≡ answers.Refused q → refused (number q) ≡ andThen (normalTable n sets) f

@@ -11,6 +11,7 @@ use borrow.Author.Tests.{lt-ltb, le-ltb}
 use Rattle.drive_sets.specs.declared.Refusal.the-variants.{TooManyCores}
 use Rattle.drive_sets.specs.declared.Refusal.{Refusal}
 use Rattle.drive_sets.specs.declared.Answer.{Answer}
+use Rattle.drive_sets.specs.declared.Answer.the-variants as answers
 use Rattle.drive_sets.specs.Refusals.{Outcome, refused, result, andThen, number, outcomeOf}
 use Rattle.drive_sets.specs.Refusals.Laws.{refused-no-result, same-result, then-refuse, then-assoc}
 use Rattle.normal_forms.specs.declared.NormalForm.{NormalForm}
@@ -27,9 +28,12 @@ use Rattle.normal_forms.specs.NormalForms.{normalList, formOutcome}
 use Rattle.survivor_tables.specs.Order.Sort.{length-sort}
 use Rattle.normal_forms.specs.NormalForms.Laws.{normalList-result}
 use Rattle.survivor_tables.specs.Order.Normal.{length-normal}
+use Rattle.survivor_tables.specs.declared.frames.MaskKind.{MaskKind}
+use Rattle.survivor_tables.specs.declared.frames.MaskKind.the-variants.{SurvivorSet}
 use Rattle.survivor_tables.specs.declared.frames.Table.{Table}
 use Rattle.drive_sets.specs.Limits.{maxSets, maxCores}
-use Rattle.survivor_tables.specs.Tables.{isEmpty, cores, withinCoreLimit, checkedSets, normalTable}
+use Rattle.survivor_tables.specs.Tables.{isEmpty, cores, withinCoreLimit, checkedMasks, checkedSets, normalTable}
+use Rattle.survivor_tables.specs.Tables.Laws.{masks-checked}
 use Rattle.complete_tables.specs.Complete.{setsOf, withCores, completeNormal, completeSets, completeTable}
 
 -- ---- the normal table
@@ -84,13 +88,18 @@ complete-normal n sets =
     sym (then-refuse (ltb maxCores (length (cores (normal sets)))) TooManyCores (normal sets) (λ table. result (withCores n table)))
 
 -- the answer of the check, then the rest
-module _ (n : ℕ) (sets : List ℕ) (answer : Answer) (e : outcomeOf answer sets ≡ checkedSets n sets) where
-  pub check-said : (a : Answer) → answer ≡ a → outcomeOf a sets ≡ checkedSets n sets
-  check-said a f = ap (λ (b : Answer). outcomeOf b sets) (sym f) ∙ e
+module _ (kind : MaskKind) (n : ℕ) (masks : List ℕ) (answer : Answer) (e : outcomeOf answer masks ≡ checkedMasks kind n masks) where
+  pub check-said : (a : Answer) → answer ≡ a → outcomeOf a masks ≡ checkedMasks kind n masks
+  check-said a f = ap (λ (b : Answer). outcomeOf b masks) (sym f) ∙ e
 
+  -- at most 128 pass
+  pub said-most : answer ≡ answers.Accepted → length masks ≤ maxSets
+  said-most f = masks-checked kind n masks (sym (check-said answers.Accepted f)) .0 .most
+
+module _ (n : ℕ) (sets : List ℕ) (answer : Answer) (e : outcomeOf answer sets ≡ checkedSets n sets) where
   pub complete-said : (a : Answer) → answer ≡ a → andThen (outcomeOf a sets) (completeSets n) ≡ completeTable n sets
   unfolding completeTable completeSets normalTable
-  complete-said a f = ap (λ (o : Outcome (List ℕ)). andThen o (completeSets n)) (check-said a f) ∙ sym (then-assoc (checkedSets n sets) withinCoreLimit (λ table. result (withCores n table)))
+  complete-said a f = ap (λ (o : Outcome (List ℕ)). andThen o (completeSets n)) (check-said SurvivorSet n sets answer e a f) ∙ sym (then-assoc (checkedSets n sets) withinCoreLimit (λ table. result (withCores n table)))
 
 -- a table's sets, as a part of its array from the start on
 pub first-taken : (t : Table) → take (t .count - 0) (t .sets) ≡ setsOf t

@@ -4,18 +4,18 @@ ghost use Prim.Native.Nat.{_≤_};
 ghost use lib.ListN.{length};
 ghost use Rattle.complete_tables.specs.Complete.{completeNormal, completeSets, completeTable, completeOutcome, CompleteWithin, setsOf};
 ghost use Rattle.drive_sets.specs.Limits.{maxSets};
-ghost use Rattle.survivor_tables.specs.Tables.{isSet, checkedSets};
-ghost use Rattle.drive_sets.specs.Lists.{all};
-ghost use Rattle.drive_sets.specs.Refusals.{refused, number, outcomeOf};
+ghost use Rattle.survivor_tables.specs.Tables.{eachMask, checkedMasks};
+ghost use Rattle.drive_sets.specs.Refusals.{refused, result, number, outcomeOf};
 use drive_sets::Answer;
 use drive_sets::Refusal;
 use normal_forms::NormalForm;
 use set_orders::sorting::Order;
 use survivor_tables::MAX_CORES;
 use survivor_tables::MAX_SETS;
+use survivor_tables::frames::MaskKind;
 use survivor_tables::frames::Table;
+use survivor_tables::frames::check_mask;
 use survivor_tables::frames::is_frame;
-use survivor_tables::frames::is_set;
 
 // A normal table with its cores, the first `found` of the array, where it is accepted.
 pub struct TableWithCores {
@@ -85,37 +85,35 @@ fn complete_sets(n: u8, sets: &[u64]) -> TableWithCores
     }
 }
 
-// Each is a set of the frame.
-pub fn all_sets(n: u8, sets: &[u64]) -> bool
-    ensures { λ r. ⌜ r ≡ all (isSet n) (now (sets .entry)) ⌝ }
+// What the masks meet, mask by mask.
+fn check_each(kind: MaskKind, n: u8, masks: &[u64]) -> Answer
+    ensures { λ r. ⌜ outcomeOf r (now (masks .entry)) ≡ eachMask kind n (now (masks .entry)) (result (now (masks .entry))) ⌝ }
 {
     let mut i = 0;
-    while i < sets.len() {
-        if !is_set(n, sets[i]) {
-            return false;
+    while i < masks.len() {
+        let checked = check_mask(kind, n, masks[i]);
+        match checked {
+            Answer::Refused(r) => return Answer::Refused(r),
+            Answer::Accepted => i += 1,
         }
-        i += 1;
     }
-    true
+    Answer::Accepted
 }
 
-// What n and sets meet before the cores are looked for: 3, 2, 5, then 4 set by set.
-pub fn check_sets(n: u8, sets: &[u64]) -> Answer
-    ensures { λ r. ⌜ outcomeOf r (now (sets .entry)) ≡ checkedSets n (now (sets .entry)) ⌝ }
+// What n and survivor sets or fault groups meet before the cores are looked for: 3, 2, 5, then mask by mask.
+pub fn check_masks(kind: MaskKind, n: u8, masks: &[u64]) -> Answer
+    ensures { λ r. ⌜ outcomeOf r (now (masks .entry)) ≡ checkedMasks kind n (now (masks .entry)) ⌝ }
 {
     if !is_frame(n) {
         return Answer::Refused(Refusal::FrameSize);
     }
-    if sets.len() == 0 {
+    if masks.len() == 0 {
         return Answer::Refused(Refusal::WrongMark);
     }
-    if MAX_SETS < sets.len() {
+    if MAX_SETS < masks.len() {
         return Answer::Refused(Refusal::TooManySets);
     }
-    if !all_sets(n, sets) {
-        return Answer::Refused(Refusal::BadSet);
-    }
-    Answer::Accepted
+    check_each(kind, n, masks)
 }
 
 // The normal table of n drives and some sets, with its cores: 3, 2, 5, 4, 13.
@@ -123,7 +121,7 @@ pub fn accept(n: u8, sets: &[u64]) -> TableWithCores
     ensures { λ r. ⌜ completeOutcome r ≡ completeTable n (now (sets .entry)) ⌝ }
     ensures within { λ r. ⌜ CompleteWithin r ⌝ }
 {
-    let checked = check_sets(n, sets);
+    let checked = check_masks(MaskKind::SurvivorSet, n, sets);
     match checked {
         Answer::Refused(r) => refused(r),
         Answer::Accepted => complete_sets(n, sets),

@@ -16,7 +16,7 @@ use Rattle.drive_sets.specs.Masks.Laws.{has-none}
 use Rattle.drive_sets.specs.Masks.OneDrive.{insert-cases, insert-lt}
 use Rattle.drive_sets.specs.Refusals.{Outcome, refused, result, number}
 use Rattle.drive_sets.specs.Refusals.Laws.{same-result, first-result}
-use Rattle.records.specs.declared.Due.the-variants.{AtCrashOrEnd}
+use Rattle.records.specs.declared.Due.the-variants.{AtRecordOrEnd}
 use Rattle.records.specs.declared.Kind.the-variants as kinds
 use Rattle.records.specs.declared.Next.{Next}
 use Rattle.records.specs.declared.Next.the-variants as nexts
@@ -42,11 +42,11 @@ own-crash : (n core : ℕ) → OwnKind (crashList n core) kinds.Crash
 unfolding isDue
 own-crash n core l k d t = other-kind kinds.Crash k d t
 
-pub crash-long : (count : ℕ) (s : List ℕ) {next : Next} → next ≡ nextOf AtCrashOrEnd count s → next ≡ nexts.One → 5 ≤ length s
+pub crash-long : (count : ℕ) (s : List ℕ) {next : Next} → next ≡ nextOf (AtRecordOrEnd kinds.Crash) count s → next ≡ nexts.One → 5 ≤ length s
 unfolding bodyWidth
 crash-long count s h e =
     let is = sym h ∙ e in
-    omega (arith, one-whole AtCrashOrEnd count s is, own-width (crashList 0 0) kinds.Crash (own-crash 0 0) noCrash count s is)
+    omega (arith, one-whole (AtRecordOrEnd kinds.Crash) count s is, own-width (crashList 0 0) kinds.Crash (own-crash 0 0) noCrash count s is)
 
 -- its fields are its bytes
 pub crash-fields : (s : List ℕ) → 5 ≤ length s → crashFields s ≡ record { drive = getD s 2 0; round = getD s 3 0; sends = getD s 4 0 }

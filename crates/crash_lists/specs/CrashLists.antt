@@ -5,7 +5,8 @@ use mathlib.Core.List.{List, [], _∷_, _++_}
 use Prim.Native.Nat.{ℕ}
 use lib.ListN.{length}
 use Rattle.drive_sets.specs.Refusals.{Outcome, result, andThen}
-use Rattle.records.specs.declared.Due.the-variants.{AtCrashOrEnd}
+use Rattle.records.specs.declared.Due.the-variants.{AtRecordOrEnd}
+use Rattle.records.specs.declared.Kind.the-variants.{Crash}
 use Rattle.records.specs.Fields.{fieldAt}
 use Rattle.records.specs.RecordLists.{ListFormat}
 use Rattle.runs.specs.CrashRecords.{CrashRecord, checkedCrash}
@@ -30,4 +31,4 @@ takenCrash n core l s =
 
 -- the records behind the last PR or PW
 abbrev pub crashList : ℕ → ℕ → ListFormat CrashList
-crashList n core = record { due = λ l. AtCrashOrEnd; count = λ l. length (l .crashes); complete = λ l s. false; taken = takenCrash n core }
+crashList n core = record { due = λ l. AtRecordOrEnd Crash; count = λ l. length (l .crashes); complete = λ l s. false; taken = takenCrash n core }

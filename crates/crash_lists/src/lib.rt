@@ -21,6 +21,7 @@ use drive_sets::Round;
 use records::CRASH_WIDTH;
 use records::Due;
 use records::END_WIDTH;
+use records::Kind;
 use records::Next;
 
 // The crashes read, the drive of the last, and how many bytes they took with EN, where all are accepted.
@@ -42,7 +43,7 @@ enum Step {
 fn next_step(s: &[u8], n: u8, core: u64, last: Drive, count: usize) -> Step
     ensures { λ r. ⌜ ((l : CrashList) → l .last ≡ last .0 → length (l .crashes) ≡ count → stepOutcome l r ≡ stepOf (crashList n core) l (now (s .entry))) ⌝ }
 {
-    let next = records::next_record(s, Due::AtCrashOrEnd, count);
+    let next = records::next_record(s, Due::AtRecordOrEnd(Kind::Crash), count);
     match next {
         Next::Stop(r) => Step::Stop(r),
         Next::End => Step::End,

@@ -58,6 +58,8 @@ pub enum Refusal {
     TooManyGroups,
     // From n and k.
     FewDrives,
+    // From a fault group.
+    AllDrives,
 }
 
 // What a call answers, where its result stands beside the answer.
@@ -103,6 +105,7 @@ impl Refusal {
             Refusal::Threshold => 31,
             Refusal::TooManyGroups => 32,
             Refusal::FewDrives => 33,
+            Refusal::AllDrives => 34,
         }
     }
 }

@@ -17,3 +17,4 @@ pub mod RunText
 pub mod OldRecords
 pub mod Listeners
 pub mod NewRunFiles
+pub mod FaultLists

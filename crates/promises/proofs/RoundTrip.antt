@@ -2,7 +2,7 @@
 -- there, and reading a normal table's bytes gives the table.
 use mathlib.Core.Path.{_≡_, refl, sym, ap, _∙_, subst}
 use mathlib.Core.Bool.{not}
-use mathlib.Core.List.{List, [], _++_, append-nil}
+use mathlib.Core.List.{List, _++_}
 use Prim.Native.Nat.{ℕ, _+_, _≤_}
 use native.Mathlib.Omega.{arith}
 use lib.Dec.{leb}
@@ -20,9 +20,9 @@ use Rattle.survivor_tables.specs.Order.{normal}
 use Rattle.survivor_tables.specs.Order.Normal.{normal-idempotent}
 use Rattle.survivor_tables.specs.Tables.{normalTable, Accepted}
 use Rattle.survivor_tables.specs.Tables.Laws.{table-accepted, accepted-table, accepted-normal}
-use Rattle.table_files.specs.Files.{ReadTable, readTable, tableBytes}
+use Rattle.table_files.specs.Files.{ReadTable, tableBytes}
 use Rattle.table_writing.specs.Writing.{writeTable}
-use Rattle.table_files.specs.Files.Laws.{read-written, table-whole}
+use Rattle.table_files.specs.Files.Laws.{read-written, whole-written}
 use Rattle.complete_tables.specs.Complete.{Complete, withCores}
 use Rattle.table_files.specs.WithCores.{readWithCores, readComplete, readWholeComplete}
 use Rattle.promises.specs.RoundTrip.{ReadsBack, WrittenReadsBack, ReadsAgain, ReadIsWritten}
@@ -31,11 +31,11 @@ use Rattle.promises.proofs.Tables.{TableOf, read-table}
 -- ---- what was written
 
 -- the bytes that are due stand in the buffer from the starting place on, and behind them what stood there before
-record Stands (due : Outcome (List ℕ)) (start size : ℕ) (old new : List ℕ) : Type 0 where
-  bytes : List ℕ
-  are-due : due ≡ result bytes
-  many : length bytes ≡ size
-  from-start : drop start new ≡ bytes ++ drop (start + size) old
+pub record Stands (due : Outcome (List ℕ)) (start size : ℕ) (old new : List ℕ) : Type 0 where
+  pub bytes : List ℕ
+  pub are-due : due ≡ result bytes
+  pub many : length bytes ≡ size
+  pub from-start : drop start new ≡ bytes ++ drop (start + size) old
 
 written-from : (bytes old : List ℕ) (start : ℕ) → start + length bytes ≤ length old
     → drop start (writtenAt start bytes old) ≡ bytes ++ drop (start + length bytes) old
@@ -44,7 +44,7 @@ written-from bytes old start room =
     drop-at (take start old) _ start (length-take-le start old (omega arith))
     ∙ (written-fits bytes (drop start old) (omega (arith, length-drop start old)) ∙ ap (λ (l : List ℕ). bytes ++ l) (drop-drop (length bytes) start old))
 
-stands : (due : Outcome (List ℕ)) (start : ℕ) (old new : List ℕ) (r : Writing) (size : ℕ)
+pub stands : (due : Outcome (List ℕ)) (start : ℕ) (old new : List ℕ) (r : Writing) (size : ℕ)
     → WrittenIfRoom due start old new r → writingOutcome r ≡ result size → Stands due start size old new
 unfolding fitting
 stands due start old new r size w e =
@@ -75,9 +75,7 @@ table-back n sets rest a = ap (λ (o : Outcome ReadTable). andThen o readWithCor
 whole-back : (n : ℕ) (sets : List ℕ) → Accepted n sets
     → readWholeComplete (tableBytes n (normal sets)) ≡ result (withCores n (normal sets))
 unfolding readWholeComplete
-whole-back n sets a =
-    let e = subst (λ (s : List ℕ). readTable s ≡ result (record { n = n; sets = normal sets; rest = [] })) (append-nil _) (read-written n sets [] a) in
-    ap (λ (o : Outcome ReadTable). andThen o (λ u. result (withCores (u .n) (u .sets)))) (table-whole _ _ e refl)
+whole-back n sets a = ap (λ (o : Outcome ReadTable). andThen o (λ u. result (withCores (u .n) (u .sets)))) (whole-written n sets a)
 
 -- what the writer writes is the normal table of accepted sets
 table-due : (n : ℕ) (sets : List ℕ) {bytes : List ℕ} → writeTable n sets ≡ result bytes → Accepted n sets × (bytes ≡ tableBytes n (normal sets))

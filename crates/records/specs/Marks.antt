@@ -11,9 +11,9 @@ use lib.ListN.{length, take}
 use Rattle.drive_sets.specs.declared.Refusal.the-variants.{EndsTooSoon, WrongMark}
 use Rattle.drive_sets.specs.Limits.{patternWidth, narrowWidth}
 use Rattle.records.specs.declared.Kind.{Kind}
-use Rattle.records.specs.declared.Kind.the-variants.{Frame, Survivor, Proposal, Crash, End, Known, Decide, WideProposal, WideKnown, WideDecide, Unknown}
+use Rattle.records.specs.declared.Kind.the-variants.{Frame, Survivor, Fault, Proposal, Crash, End, Known, Decide, WideProposal, WideKnown, WideDecide, Unknown}
 use Rattle.records.specs.declared.Due.{Due}
-use Rattle.records.specs.declared.Due.the-variants.{AtFrame, AtFirstSet, AtSetOrEnd, AtProposal, AtCrashOrEnd, AtMessage}
+use Rattle.records.specs.declared.Due.the-variants.{AtRecord, AtRecordOrEnd, AtProposal, AtMessage}
 use Rattle.records.specs.declared.Head.{Head}
 use Rattle.records.specs.declared.Head.the-variants.{Record, Refused}
 use Rattle.records.specs.Fields.{fromBytes, toBytes}
@@ -28,6 +28,7 @@ ascii (text._∷_ c s) = code c ∷ ascii s
 unfoldable pub markText : Kind → String
 markText Frame = "FR"
 markText Survivor = "SV"
+markText Fault = "FL"
 markText Proposal = "PR"
 markText Crash = "CR"
 markText End = "EN"
@@ -54,6 +55,7 @@ widthIn wide = patternWidth
 unfoldable pub numberWidth : Kind → ℕ
 numberWidth Frame = 0
 numberWidth Survivor = 0
+numberWidth Fault = 0
 numberWidth Proposal = narrowWidth
 numberWidth Crash = 0
 numberWidth End = 0
@@ -68,6 +70,7 @@ numberWidth Unknown = 0
 unfoldable pub bodyWidth : Kind → ℕ
 bodyWidth Frame = 1
 bodyWidth Survivor = 8
+bodyWidth Fault = 8
 bodyWidth Proposal = 1 + narrowWidth
 bodyWidth Crash = 3
 bodyWidth End = 1
@@ -83,6 +86,7 @@ unfoldable pub kindOf : ℕ → Kind
 kindOf m =
     cond (eqb m (mark Frame)) Frame
     (cond (eqb m (mark Survivor)) Survivor
+    (cond (eqb m (mark Fault)) Fault
     (cond (eqb m (mark Proposal)) Proposal
     (cond (eqb m (mark Crash)) Crash
     (cond (eqb m (mark End)) End
@@ -90,7 +94,7 @@ kindOf m =
     (cond (eqb m (mark Decide)) Decide
     (cond (eqb m (mark WideProposal)) WideProposal
     (cond (eqb m (mark WideKnown)) WideKnown
-    (cond (eqb m (mark WideDecide)) WideDecide Unknown)))))))))
+    (cond (eqb m (mark WideDecide)) WideDecide Unknown))))))))))
 
 -- a kind is known by its mark
 unfoldable pub isKind : Kind → Kind → Bool
@@ -98,11 +102,9 @@ isKind j k = eqb (mark k) (mark j)
 
 -- a record of this kind may stand here
 unfoldable pub isDue : Due → Kind → Bool
-isDue AtFrame k = isKind Frame k
-isDue AtFirstSet k = isKind Survivor k
-isDue AtSetOrEnd k = isKind Survivor k || isKind End k
+isDue (AtRecord one) k = isKind one k
+isDue (AtRecordOrEnd one) k = isKind one k || isKind End k
 isDue AtProposal k = isKind Proposal k || isKind WideProposal k
-isDue AtCrashOrEnd k = isKind Crash k || isKind End k
 isDue AtMessage k = (isKind Known k || isKind Decide k) || (isKind WideKnown k || isKind WideDecide k)
 
 -- the kind of the record at the start of the bytes, and how many of them it has: of a KN or KW up to its mask

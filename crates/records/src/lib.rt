@@ -17,6 +17,7 @@ use drive_sets::Refusal;
 pub enum Kind {
     Frame,
     Survivor,
+    Fault,
     Proposal,
     Crash,
     End,
@@ -31,11 +32,9 @@ pub enum Kind {
 
 // The place of a record: which kinds are due there.
 pub enum Due {
-    AtFrame,
-    AtFirstSet,
-    AtSetOrEnd,
+    AtRecord(Kind),
+    AtRecordOrEnd(Kind),
     AtProposal,
-    AtCrashOrEnd,
     AtMessage,
 }
 
@@ -57,6 +56,8 @@ pub const FRAME: u64 = 0x5246;
 
 pub const SURVIVOR: u64 = 0x5653;
 
+pub const FAULT: u64 = 0x4c46;
+
 pub const PROPOSAL: u64 = 0x5250;
 
 pub const CRASH: u64 = 0x5243;
@@ -76,7 +77,7 @@ pub const WIDE_DECIDE: u64 = 0x5744;
 // How many bytes a record of a list has, with its mark.
 pub const FRAME_WIDTH: usize = 3;
 
-pub const SURVIVOR_WIDTH: usize = 10;
+pub const MASK_RECORD_WIDTH: usize = 10;
 
 pub const CRASH_WIDTH: usize = 5;
 
@@ -149,6 +150,7 @@ pub(crate) fn kind_of(m: u64) -> Kind
     match m {
         FRAME => Kind::Frame,
         SURVIVOR => Kind::Survivor,
+        FAULT => Kind::Fault,
         PROPOSAL => Kind::Proposal,
         CRASH => Kind::Crash,
         END => Kind::End,
@@ -168,6 +170,7 @@ pub fn number_width(k: Kind) -> usize
     match k {
         Kind::Frame => 0,
         Kind::Survivor => 0,
+        Kind::Fault => 0,
         Kind::Proposal => NARROW_PATTERN_BYTES,
         Kind::Crash => 0,
         Kind::End => 0,
@@ -208,6 +211,7 @@ pub fn body_width(k: Kind) -> usize
     match k {
         Kind::Frame => 1,
         Kind::Survivor => 8,
+        Kind::Fault => 8,
         Kind::Proposal => PROPOSAL_BODY,
         Kind::Crash => 3,
         Kind::End => 1,
@@ -221,12 +225,13 @@ pub fn body_width(k: Kind) -> usize
 }
 
 // The mark of a kind of record; 0 where it is unknown.
-fn mark_of(k: Kind) -> u64
+pub fn mark_of(k: Kind) -> u64
     ensures { λ r. ⌜ r ≡ mark k ⌝ }
 {
     match k {
         Kind::Frame => FRAME,
         Kind::Survivor => SURVIVOR,
+        Kind::Fault => FAULT,
         Kind::Proposal => PROPOSAL,
         Kind::Crash => CRASH,
         Kind::End => END,
@@ -259,11 +264,9 @@ pub(crate) fn is_due(due: Due, k: Kind) -> bool
 {
     let m = mark_of(k);
     match due {
-        Due::AtFrame => m == FRAME,
-        Due::AtFirstSet => m == SURVIVOR,
-        Due::AtSetOrEnd => is_either(m, SURVIVOR, END),
+        Due::AtRecord(one) => m == mark_of(one),
+        Due::AtRecordOrEnd(one) => is_either(m, mark_of(one), END),
         Due::AtProposal => is_either(m, PROPOSAL, WIDE_PROPOSAL),
-        Due::AtCrashOrEnd => is_either(m, CRASH, END),
         Due::AtMessage => is_either(m, KNOWN, DECIDE) || is_either(m, WIDE_KNOWN, WIDE_DECIDE),
     }
 }

@@ -8,10 +8,12 @@ use Prim.Native.Nat.{ℕ, _≤_}
 use lib.Dec.{eqb, leb, ltb}
 use lib.ListN.{length, getD}
 use Rattle.drive_sets.specs.declared.Position.{Position}
-use Rattle.drive_sets.specs.declared.Refusal.the-variants.{WrongMark, FrameSize, BadSet, TooManySets, TooManyCores}
+use Rattle.drive_sets.specs.declared.Refusal.the-variants.{WrongMark, FrameSize, BadSet, TooManySets, TooManyCores, AllDrives}
 use Rattle.drive_sets.specs.Lists.{all, elem}
 use Rattle.drive_sets.specs.Masks.{full, subset}
 use Rattle.drive_sets.specs.Refusals.{Outcome, result, refuseIf, andThen}
+use Rattle.survivor_tables.specs.declared.frames.MaskKind.{MaskKind}
+use Rattle.survivor_tables.specs.declared.frames.MaskKind.the-variants.{SurvivorSet, FaultGroup}
 use Rattle.survivor_tables.specs.Hitting.{firstMissed, minimals}
 use Rattle.survivor_tables.specs.Order.{byMask, bySize, sort, normal}
 use Rattle.drive_sets.specs.Limits.{maxDrives, maxSets, maxCores}
@@ -49,20 +51,36 @@ dual groups = sort byMask (minimals groups)
 unfoldable pub withinCoreLimit : List ℕ → Outcome (List ℕ)
 withinCoreLimit sets = refuseIf (ltb maxCores (length (cores (normal sets)))) TooManyCores (result (normal sets))
 
+-- ---- a list of masks: survivor sets, or fault groups, each a set of drives that can fail together
+
+-- what one mask meets, and else the mask: a survivor set that is empty or has a bit above n meets 4; a fault group may
+-- be empty, one with a bit above n meets 4, and one of all n drives 34
+unfoldable pub checkedMask : MaskKind → ℕ → ℕ → Outcome ℕ
+checkedMask SurvivorSet n m = refuseIf (not (isSet n m)) BadSet (result m)
+checkedMask FaultGroup n m = refuseIf (not (subset m (full n))) BadSet (refuseIf (eqb m (full n)) AllDrives (result m))
+
+-- the first refusal that one of the masks meets, mask by mask, and else what comes next
+module _ {A : Type 0} where
+  unfoldable pub eachMask : MaskKind → ℕ → List ℕ → Outcome A → Outcome A
+  eachMask kind n [] next = next
+  eachMask kind n (m ∷ masks) next = andThen (checkedMask kind n m) (λ good. eachMask kind n masks next)
+
+-- what n and masks meet before the cores are looked for: 3, 2, 5, then mask by mask; the masks where they meet nothing
+unfoldable pub checkedMasks : MaskKind → ℕ → List ℕ → Outcome (List ℕ)
+checkedMasks kind n masks =
+    refuseIf (not (isFrame n)) FrameSize
+    (refuseIf (isEmpty masks) WrongMark
+    (refuseIf (ltb maxSets (length masks)) TooManySets
+    (eachMask kind n masks (result masks))))
+
 -- ---- the calls given n and sets: 3, 2, 5, then 4 set by set, then 13
 
--- what n and sets meet before the cores are looked for; the sets where they meet nothing
-unfoldable pub checkedSets : ℕ → List ℕ → Outcome (List ℕ)
-checkedSets n sets =
-    refuseIf (not (isFrame n)) FrameSize
-    (refuseIf (isEmpty sets) WrongMark
-    (refuseIf (ltb maxSets (length sets)) TooManySets
-    (refuseIf (not (all (isSet n) sets)) BadSet
-    (result sets))))
+abbrev pub checkedSets : ℕ → List ℕ → Outcome (List ℕ)
+checkedSets = checkedMasks SurvivorSet
 
 -- the normal table
 unfoldable pub normalTable : ℕ → List ℕ → Outcome (List ℕ)
-unfolding checkedSets
+unfolding checkedMask eachMask checkedMasks
 normalTable n sets = andThen (checkedSets n sets) withinCoreLimit
 
 -- n and sets that meet no refusal

@@ -11,7 +11,9 @@ use Rattle.drive_sets.specs.Refusals.{Outcome, refused, result, andThen, number
 use Rattle.drive_sets.specs.Refusals.Laws.{refused-no-result, first-result, same-result, then-same, then-assoc, then-then}
 use Rattle.complete_tables.specs.declared.TableWithCores.{TableWithCores}
 use Rattle.table_files.specs.declared.reading.TableRead.{TableRead}
+use Rattle.survivor_tables.specs.declared.frames.MaskKind.the-variants.{SurvivorSet}
 use Rattle.survivor_tables.specs.Tables.{cores, withinCoreLimit, normalTable}
+use Rattle.survivor_tables.specs.Tables.Laws.{checked-masks}
 use Rattle.table_files.specs.Files.{ReadTable, accepted, readListed, readTable}
 use Rattle.table_files.specs.Files.Laws.{listed-checked}
 use Rattle.complete_tables.specs.Complete.{setsOf, Complete, withCores, completeSets, completeTable, completeOutcome}
@@ -27,30 +29,30 @@ accepted-completed t = then-then (withinCoreLimit (t .sets)) (λ table. record {
 abbrev behind : Outcome Complete → List ℕ → Outcome ReadComplete
 behind o rest = andThen o (λ table. result (record { table = table; rest = rest }))
 
-read-behind : (s : List ℕ) → readComplete s ≡ andThen (readListed s) (λ t. behind (completed t) (t .rest))
+read-behind : (s : List ℕ) → readComplete s ≡ andThen (readListed SurvivorSet s) (λ t. behind (completed t) (t .rest))
 unfolding readWithCores readComplete readTable accepted completeSets
 read-behind s =
-    then-assoc (readListed s) accepted readWithCores
-    ∙ then-same (readListed s) (λ t e.
+    then-assoc (readListed SurvivorSet s) accepted readWithCores
+    ∙ then-same (readListed SurvivorSet s) (λ t e.
     then-then (withinCoreLimit (t .sets)) (λ table. record { n = t .n; sets = table; rest = t .rest }) readWithCores
     ∙ sym (then-then (withinCoreLimit (t .sets)) (λ table. withCores (t .n) table) (λ table. result (record { table = table; rest = t .rest }))))
 
 -- ---- what is listed is accepted by the call given n and sets, but for its cores
 
-pub listed-complete : (listed : TableRead) (s : List ℕ) → readOutcome listed s ≡ readListed s → listed .answer ≡ Accepted
-    → completeTable (listed .table .n) (setsOf (listed .table)) ≡ andThen (readListed s) completed
+pub listed-complete : (listed : TableRead) (s : List ℕ) → readOutcome listed s ≡ readListed SurvivorSet s → listed .answer ≡ Accepted
+    → completeTable (listed .table .n) (setsOf (listed .table)) ≡ andThen (readListed SurvivorSet s) completed
 unfolding readOutcome completeTable normalTable completeSets
 listed-complete listed s e h =
-    ap (λ (o : Outcome (List ℕ)). andThen (andThen o withinCoreLimit) (λ table. result (withCores (listed .table .n) table))) (listed-checked s is)
+    ap (λ (o : Outcome (List ℕ)). andThen (andThen o withinCoreLimit) (λ table. result (withCores (listed .table .n) table))) (checked-masks SurvivorSet (listed .table .n) (setsOf (listed .table)) (listed-checked SurvivorSet s is))
     ∙ sym (ap (λ (o : Outcome ReadTable). andThen o completed) is)
   where
-    is : readListed s ≡ result (record { n = listed .table .n; sets = setsOf (listed .table); rest = drop (listed .used) s })
+    is : readListed SurvivorSet s ≡ result (record { n = listed .table .n; sets = setsOf (listed .table); rest = drop (listed .used) s })
     is = sym e ∙ ap (λ (a : Answer). outcomeOf a (record { n = listed .table .n; sets = setsOf (listed .table); rest = drop (listed .used) s })) h
 
 -- ---- what the reader's answer says, and the caller's slice
 
-pub table-completed : (s : List ℕ) → tableRead (readComplete s) ≡ andThen (readListed s) completed
-table-completed s = ap tableRead (read-behind s) ∙ go (readListed s)
+pub table-completed : (s : List ℕ) → tableRead (readComplete s) ≡ andThen (readListed SurvivorSet s) completed
+table-completed s = ap tableRead (read-behind s) ∙ go (readListed SurvivorSet s)
   where
     one : (o : Outcome Complete) (rest : List ℕ) → tableRead (behind o rest) ≡ o
     one (refused r) rest = refl
@@ -74,7 +76,7 @@ module _ (t : TableWithCores) where
       go (result w) f = absurd (refused-no-result f)
 
   -- else it is what stands behind the bytes used
-  pub slice-behind : (listed : TableRead) (s : List ℕ) → readOutcome listed s ≡ readListed s → completeOutcome t ≡ tableRead (readComplete s) → t .answer ≡ Accepted
+  pub slice-behind : (listed : TableRead) (s : List ℕ) → readOutcome listed s ≡ readListed SurvivorSet s → completeOutcome t ≡ tableRead (readComplete s) → t .answer ≡ Accepted
       → (old : List ℕ) → drop (listed .used) s ≡ restAfter (readComplete s) old
   unfolding readOutcome completeOutcome
   slice-behind listed s e f h old = by-answer (listed .answer) refl
@@ -82,7 +84,7 @@ module _ (t : TableWithCores) where
       told : Answer → Outcome ReadTable
       told a = outcomeOf a (record { n = listed .table .n; sets = setsOf (listed .table); rest = drop (listed .used) s })
 
-      given : result held ≡ andThen (readListed s) completed
+      given : result held ≡ andThen (readListed SurvivorSet s) completed
       given = ap (λ (a : Answer). outcomeOf a held) (sym h) ∙ (f ∙ table-completed s)
 
       complete : (o : Outcome Complete) (rest : List ℕ) → result held ≡ o → rest ≡ restAfter (behind o rest) old
@@ -92,7 +94,7 @@ module _ (t : TableWithCores) where
       by-answer : (a : Answer) → listed .answer ≡ a → drop (listed .used) s ≡ restAfter (readComplete s) old
       by-answer (Refused r) g = absurd (refused-no-result (sym (given ∙ ap (λ (o : Outcome ReadTable). andThen o completed) (sym e ∙ ap told g))))
       by-answer Accepted g =
-          let is : readListed s ≡ told Accepted = sym e ∙ ap told g in
+          let is : readListed SurvivorSet s ≡ told Accepted = sym e ∙ ap told g in
           complete _ (drop (listed .used) s) (given ∙ ap (λ (o : Outcome ReadTable). andThen o completed) is)
           ∙ ap (λ (o : Outcome ReadComplete). restAfter o old) (sym (read-behind s ∙ ap (λ (o : Outcome ReadTable). andThen o (λ u. behind (completed u) (u .rest))) is))
 

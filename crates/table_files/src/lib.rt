@@ -1,3 +1,3 @@
-// Survivor tables as bytes, and their reader.
+// Lists of masks as bytes, and their reader; tables read with their cores.
 pub mod files;
-mod reading;
+pub mod reading;

@@ -1,46 +1,59 @@
-// The table reader: FR with n, 1 to 128 SV with a mask, EN with their count. Refusals are found from left to right.
+// The reader of lists of masks: FR with n, 1 to 128 SV or FL with a mask, EN with their count. Refusals are found from
+// left to right.
 ghost use mathlib.Core.Path.{_≡_};
 ghost use mathlib.Core.List.{List, []};
 ghost use Prim.Native.Nat.{ℕ, _≤_};
 ghost use lib.ListN.{length, drop};
 ghost use Rattle.drive_sets.specs.Refusals.{result, andThen};
 ghost use Rattle.records.specs.RecordLists.{stepOf, readList};
-ghost use Rattle.table_files.specs.Files.{dueAfter, setList, listedTable, readListed};
+ghost use Rattle.table_files.specs.Files.{recordOf, dueAfter, maskList, listedTable, readListed};
 ghost use Rattle.table_files.specs.Reading.{stepOutcome, readOutcome, ReadWithin};
 use drive_sets::Answer;
 use drive_sets::Refusal;
 use records::Due;
 use records::END_WIDTH;
 use records::Head;
+use records::Kind;
+use records::MASK_RECORD_WIDTH;
 use records::Next;
-use records::SURVIVOR_WIDTH;
 use survivor_tables::MAX_SETS;
+use survivor_tables::frames::MaskKind;
 use survivor_tables::frames::Table;
+use survivor_tables::frames::check_mask;
 use survivor_tables::frames::is_frame;
-use survivor_tables::frames::is_set;
 
-// What reading gives: the table and how many bytes it took, where it is accepted.
-pub(crate) struct TableRead {
+// What reading gives: n with the masks and how many bytes they took, where they are accepted.
+pub struct TableRead {
     pub answer: Answer,
     pub table: Table,
     pub used: usize,
 }
 
-// What stands where a set or the end is due.
+// What stands where a mask or the end is due.
 enum Step {
     Set(u64),
     End,
     Stop(Refusal),
 }
 
-// After FR a set is due, and after a set another one or the end.
-fn due_after(count: usize) -> Due
-    ensures { λ r. ⌜ r ≡ dueAfter count ⌝ }
+// The records that the masks stand in: SV or FL.
+pub fn record_of(kind: MaskKind) -> Kind
+    ensures { λ r. ⌜ r ≡ recordOf kind ⌝ }
+{
+    match kind {
+        MaskKind::SurvivorSet => Kind::Survivor,
+        MaskKind::FaultGroup => Kind::Fault,
+    }
+}
+
+// After FR one of them is due, and after one another or the end.
+fn due_after(kind: MaskKind, count: usize) -> Due
+    ensures { λ r. ⌜ r ≡ dueAfter kind count ⌝ }
 {
     if count == 0 {
-        Due::AtFirstSet
+        Due::AtRecord(record_of(kind))
     } else {
-        Due::AtSetOrEnd
+        Due::AtRecordOrEnd(record_of(kind))
     }
 }
 
@@ -59,11 +72,11 @@ fn refused(r: Refusal) -> TableRead
     }
 }
 
-// The record at the start of the bytes, where `count` sets are listed before it.
-fn next_step(s: &[u8], n: u8, count: usize) -> Step
-    ensures { λ r. ⌜ ((listed : List ℕ) → length listed ≡ count → stepOutcome listed r ≡ stepOf (setList n) listed (now (s .entry))) ⌝ }
+// The record at the start of the bytes, where `count` masks are listed before it.
+fn next_step(s: &[u8], kind: MaskKind, n: u8, count: usize) -> Step
+    ensures { λ r. ⌜ ((listed : List ℕ) → length listed ≡ count → stepOutcome listed r ≡ stepOf (maskList kind n) listed (now (s .entry))) ⌝ }
 {
-    let next = records::next_record(s, due_after(count), count);
+    let next = records::next_record(s, due_after(kind, count), count);
     match next {
         Next::Stop(r) => Step::Stop(r),
         Next::End => Step::End,
@@ -71,27 +84,27 @@ fn next_step(s: &[u8], n: u8, count: usize) -> Step
             if MAX_SETS <= count {
                 return Step::Stop(Refusal::TooManySets);
             }
-            let set = records::field(s, 2, 8);
-            if is_set(n, set) {
-                Step::Set(set)
-            } else {
-                Step::Stop(Refusal::BadSet)
+            let mask = records::field(s, 2, 8);
+            let checked = check_mask(kind, n, mask);
+            match checked {
+                Answer::Refused(r) => Step::Stop(r),
+                Answer::Accepted => Step::Set(mask),
             }
         }
     }
 }
 
 // The records after the three bytes of FR.
-fn read_sets(s: &[u8], n: u8) -> TableRead
+fn read_masks(s: &[u8], kind: MaskKind, n: u8) -> TableRead
     requires { ⌜ 3 ≤ length (now s) ⌝ }
-    ensures { λ r. ⌜ readOutcome r (now (s .entry)) ≡ andThen (readList (setList n) [] (drop 3 (now (s .entry)))) (λ l. result (listedTable n l)) ⌝ }
+    ensures { λ r. ⌜ readOutcome r (now (s .entry)) ≡ andThen (readList (maskList kind n) [] (drop 3 (now (s .entry)))) (λ l. result (listedTable n l)) ⌝ }
     ensures within { λ r. ⌜ ReadWithin r (now (s .entry)) ⌝ }
 {
     let mut sets = [0u64; MAX_SETS];
     let mut count = 0;
     let mut at = 3;
     loop {
-        let next = next_step(&s[at..], n, count);
+        let next = next_step(&s[at..], kind, n, count);
         match next {
             Step::Stop(r) => return refused(r),
             Step::End => {
@@ -101,21 +114,21 @@ fn read_sets(s: &[u8], n: u8) -> TableRead
                     used: at + END_WIDTH,
                 };
             }
-            Step::Set(set) => {
-                sets[count] = set;
+            Step::Set(mask) => {
+                sets[count] = mask;
                 count += 1;
-                at += SURVIVOR_WIDTH;
+                at += MASK_RECORD_WIDTH;
             }
         }
     }
 }
 
-// A table as it is listed.
-pub(crate) fn read_listed(s: &[u8]) -> TableRead
-    ensures { λ r. ⌜ readOutcome r (now (s .entry)) ≡ readListed (now (s .entry)) ⌝ }
+// The masks as they are listed.
+pub fn read_listed(s: &[u8], kind: MaskKind) -> TableRead
+    ensures { λ r. ⌜ readOutcome r (now (s .entry)) ≡ readListed kind (now (s .entry)) ⌝ }
     ensures within { λ r. ⌜ ReadWithin r (now (s .entry)) ⌝ }
 {
-    let head = records::read_head(s, Due::AtFrame);
+    let head = records::read_head(s, Due::AtRecord(Kind::Frame));
     match head {
         Head::Refused(r) => refused(r),
         Head::Record(_) => {
@@ -123,7 +136,7 @@ pub(crate) fn read_listed(s: &[u8]) -> TableRead
             if !is_frame(n) {
                 return refused(Refusal::FrameSize);
             }
-            read_sets(s, n)
+            read_masks(s, kind, n)
         }
     }
 }

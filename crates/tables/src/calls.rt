@@ -1,10 +1,10 @@
 // The calls given n and sets or groups: the chosen core, the first set that some drives miss, and Back.
 ghost use mathlib.Core.Path.{_≡_};
+ghost use Rattle.drive_sets.specs.Lists.{all};
 ghost use Rattle.drive_sets.specs.Refusals.{refused, number};
-ghost use Rattle.survivor_tables.specs.Tables.{chosenCore, missedSet, survivorSets};
+ghost use Rattle.survivor_tables.specs.Tables.{isSet, chosenCore, missedSet, survivorSets};
 ghost use Rattle.tables.specs.Answers.{chosenOutcome, missedOutcome, listOutcome, ListWithin};
 use complete_tables::accept;
-use complete_tables::all_sets;
 use drive_sets::Answer;
 use drive_sets::Position;
 use drive_sets::Refusal;
@@ -76,6 +76,20 @@ pub fn no_list(r: Refusal) -> SetList
         count: 0,
         sets: [0u64; MAX_SETS],
     }
+}
+
+// Each is a set of the frame.
+fn all_sets(n: u8, sets: &[u64]) -> bool
+    ensures { λ r. ⌜ r ≡ all (isSet n) (now (sets .entry)) ⌝ }
+{
+    let mut i = 0;
+    while i < sets.len() {
+        if !is_set(n, sets[i]) {
+            return false;
+        }
+        i += 1;
+    }
+    true
 }
 
 // Back: the smallest groups that meet each of the groups. 3, 13, 4, 5.

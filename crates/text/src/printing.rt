@@ -1,8 +1,13 @@
 // A text handed over in a lent buffer.
 ghost use mathlib.Core.Path.{_≡_};
-ghost use Prim.Native.Nat.{_≤_, min};
+ghost use mathlib.Core.List.{List};
+ghost use Prim.Native.Nat.{ℕ, _≤_, min};
 ghost use lib.ListN.{length, take};
-ghost use Rattle.text.specs.Printing.{Printed, bytesIn};
+ghost use Rattle.drive_sets.specs.Filled.{Filled};
+ghost use Rattle.drive_sets.specs.Refusals.{Outcome};
+ghost use Rattle.lent_bytes.specs.LentBuffers.{WrittenIfRoom};
+ghost use Rattle.text.specs.Printing.{Printed, bytesIn, printed};
+use crate::lines::put_refused;
 use drive_sets::Refusal;
 use lent_bytes::Writing;
 
@@ -37,5 +42,15 @@ pub fn written(w: Writing, buf: &[u8]) -> usize
             }
             size
         }
+    }
+}
+
+// A file that was written over the first bytes of a buffer with room for it, or the line of its refusal in its place.
+pub fn put_written(buf: &mut [u8], w: Writing) -> usize
+    ensures { λ r. ⌜ ((o : Outcome (List ℕ)) (old : List ℕ) → length (printed o) ≤ length old → length (now (buf .entry)) ≡ length old → WrittenIfRoom o 0 old (now (buf .entry)) w → Filled old (now (buf .exit)) 0 r (printed o)) ⌝ }
+{
+    match w {
+        Writing::Wrote(size) => size,
+        Writing::Refused(r) => put_refused(buf, 0, r),
     }
 }

@@ -4,9 +4,9 @@ use Prim.Native.Nat.{ℕ}
 use lib.Dec.{ltb}
 use lib.ListN.{length, getD}
 use Rattle.drive_sets.specs.declared.Refusal.the-variants.{EndsTooSoon, TrailingBytes}
-use Rattle.drive_sets.specs.Refusals.{Outcome, refused, result, refuseIf, andThen}
+use Rattle.drive_sets.specs.Refusals.{Outcome, refuseIf, andThen}
 use Rattle.table_writing.specs.Writing.{writeTable}
-use Rattle.text.specs.Text.{refusalLine}
+use Rattle.text.specs.Printing.{printed}
 use Rattle.threshold.specs.Threshold.{thresholdList}
 
 -- the table of n and t as the writer writes it
@@ -19,10 +19,6 @@ asked input =
     refuseIf (ltb (length input) 2) EndsTooSoon
     (refuseIf (ltb 2 (length input)) TrailingBytes
     (thresholdFile (getD input 0 0) (getD input 1 0)))
-
-abbrev pub printed : Outcome (List ℕ) → List ℕ
-printed (refused r) = refusalLine r
-printed (result file) = file
 
 -- what the threshold program prints for the bytes on its input
 unfoldable pub thresholdProgram : List ℕ → List ℕ

@@ -10,9 +10,9 @@ ghost use Rattle.threshold_files.specs.ThresholdFiles.{thresholdFile, as
 use drive_sets::Answer;
 use drive_sets::Refusal;
 use lent_bytes::Writing;
-use text::lines::put_refused;
 use text::printing::MAX_TEXT;
 use text::printing::print;
+use text::printing::put_written;
 
 // The file of the table from n and t over the first bytes of the buffer. 3, 31, 32, 13, 14.
 fn write_file(n: u8, t: u8, buf: &mut [u8]) -> Writing
@@ -47,10 +47,7 @@ fn put_file(buf: &mut [u8], input: &[u8]) -> usize
     ensures { λ r. ⌜ Filled (now (buf .entry)) (now (buf .exit)) 0 r (thresholdProgram (now (input .entry))) ⌝ }
 {
     let w = write_asked(input, buf);
-    match w {
-        Writing::Wrote(size) => size,
-        Writing::Refused(r) => put_refused(buf, 0, r),
-    }
+    put_written(buf, w)
 }
 
 // What the threshold program prints for the bytes on its input: the file of a table, or a refusal's line.

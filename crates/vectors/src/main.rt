@@ -1,8 +1,8 @@
-// Runs stored inputs through the calls of the three programs and prints all that they give, one after the other. The
+// Runs stored inputs through the calls of the four programs and prints all that they give, one after the other. The
 // stored output is what the second program prints for the same inputs; `tests/make_vectors` makes both.
 //
-// An input is: one byte, 0 for the table program, 1 for the run program and 2 for the threshold program; its length,
-// 2 bytes, lowest first; its bytes.
+// An input is: one byte, 0 for the table program, 1 for the run program, 2 for the threshold program and 3 for the
+// convert program; its length, 2 bytes, lowest first; its bytes.
 ghost use Prim.Native.Nat.{_≤_};
 use lent_bytes::Writing;
 use libc::STDIN_FILENO;
@@ -26,7 +26,10 @@ fn list(s: &[u8], text: &mut [u8]) -> Writing {
     if kind == 1 {
         return run_listing::programs::run_listing(input, text, 0);
     }
-    threshold_files::threshold_file(input, text, 0)
+    if kind == 2 {
+        return threshold_files::threshold_file(input, text, 0);
+    }
+    convert_files::convert_file(input, text, 0)
 }
 
 // Prints what the input at the start gives.

@@ -9,6 +9,7 @@ ghost use Rattle.verdicts.specs.Held.{judgementOf, heldIn};
 ghost use Rattle.drive_sets.specs.Limits.{maxSets};
 use drive_sets::Answer;
 use drive_sets::Refusal;
+use survivor_tables::frames::MaskKind;
 use verdict_search::Verdict;
 use verdict_search::find_verdict;
 use verdict_search::is_block_count;
@@ -73,7 +74,7 @@ pub fn verdict_on(k: u8, n: u8, table: &[u64]) -> Judgement
     if !is_block_count(k) {
         return refused(Refusal::BlockCount);
     }
-    let checked = complete_tables::check_sets(n, table);
+    let checked = complete_tables::check_masks(MaskKind::SurvivorSet, n, table);
     match checked {
         Answer::Refused(r) => refused(r),
         Answer::Accepted => on_normal(k, n, table),

@@ -4,7 +4,7 @@ use mathlib.Core.Bool.{Bool, true, false, cond}
 use Prim.Native.Nat.{ℕ}
 use lib.Dec.{leb}
 use Rattle.drive_sets.specs.declared.Refusal.{Refusal}
-use Rattle.drive_sets.specs.declared.Refusal.the-variants.{EndsTooSoon, WrongMark, FrameSize, BadSet, TooManySets, CountDiffers, TrailingBytes, DriveNumber, CrashRound, CrashSends, NoneUntouched, BlockCount, TooManyCores, NoRoom, KnownMask, AlreadyAccepted, OutsideCore, Halted, SenderMissing, PatternDiffers, OtherRound, ListenerSends, BrokenState, Threshold, TooManyGroups, FewDrives}
+use Rattle.drive_sets.specs.declared.Refusal.the-variants.{EndsTooSoon, WrongMark, FrameSize, BadSet, TooManySets, CountDiffers, TrailingBytes, DriveNumber, CrashRound, CrashSends, NoneUntouched, BlockCount, TooManyCores, NoRoom, KnownMask, AlreadyAccepted, OutsideCore, Halted, SenderMissing, PatternDiffers, OtherRound, ListenerSends, BrokenState, Threshold, TooManyGroups, FewDrives, AllDrives}
 use Rattle.drive_sets.specs.Refusals.{Outcome, refused, result, andThen, number}
 
 pub number-from-one : (r : Refusal) → leb 1 (number r) ≡ true
@@ -34,6 +34,7 @@ number-from-one BrokenState = refl
 number-from-one Threshold = refl
 number-from-one TooManyGroups = refl
 number-from-one FewDrives = refl
+number-from-one AllDrives = refl
 
 module _ {A : Type 0} where
   unfoldable pub fromOne : Outcome A → Bool

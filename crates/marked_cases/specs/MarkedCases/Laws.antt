@@ -4,9 +4,9 @@ use mathlib.Core.Option.{orElse}
 use lib.Count.{trailingZeros}
 use Rattle.drive_sets.specs.Lists.{elem, firstFailing, firstSome}
 use Rattle.drive_sets.specs.Masks.{outside, lowest, ofDrives}
-use Rattle.survivor_tables.specs.Tables.{checkedSets, chosenCore}
+use Rattle.survivor_tables.specs.Tables.{checkedMask, eachMask, checkedMasks, chosenCore}
 use Rattle.records.specs.RecordLists.{nextOf, stepOf, readFrom, readList}
-use Rattle.table_files.specs.Files.{dueAfter, takenSet, readListed, accepted, readTable, readWhole}
+use Rattle.table_files.specs.Files.{recordOf, dueAfter, takenMask, readListed, accepted, readTable, readWhole}
 use Rattle.verdict_search.specs.Verdicts.{firstWith, disjoint, blocksOf, verdictOn}
 use Rattle.verdicts.specs.Calls.{judged, verdictGiven}
 use Rattle.splits.specs.Splits.{withMove, moved, moves, fillEmpty}
@@ -29,5 +29,5 @@ use Rattle.run_listing.specs.RunListing.{endingText, driveLine, endingLines, co
 use Rattle.marked_cases.specs.MarkedCases.{AllGiven, sv, fileA, fileC, fileH, fileI, prs, cr, onA, fileJ, runJ, marked}
 
 pub marked-cases : AllGiven marked
-unfolding marked sv fileA fileC fileH fileI prs cr onA fileJ runJ evaluated orElse elem firstSome outside trailingZeros lowest ofDrives firstFailing checkedSets chosenCore dueAfter takenSet nextOf stepOf readFrom readList readListed accepted readTable readWhole firstWith disjoint blocksOf withMove moved moves fillEmpty verdictOn judged verdictGiven start smallestOf sends reaches adds known announces announced heard unchanged stable ifStable decides halts closes closed step after frame coreOf goneBy hasCrash listOf cut reach crashed isNext isRound mostSends checkedCrash crashIn scenario coreCrashes endingAfter endingFrom endingOf endings withProposal takenProposal proposalsEnd readProposals crashFields takenCrash readRecords untouchedLeft wholeRun readBehind readRunFile checkedCrashes simulated digit inBase digits joined field fields named line lines refusalLine noPart verdictPart verdictLine verdictLines listing tableProgram endingText driveLine endingLines coreLine simulatedWith simulatedFile runProgram
+unfolding marked sv fileA fileC fileH fileI prs cr onA fileJ runJ evaluated orElse elem firstSome outside trailingZeros lowest ofDrives firstFailing checkedMask eachMask checkedMasks chosenCore recordOf dueAfter takenMask nextOf stepOf readFrom readList readListed accepted readTable readWhole firstWith disjoint blocksOf withMove moved moves fillEmpty verdictOn judged verdictGiven start smallestOf sends reaches adds known announces announced heard unchanged stable ifStable decides halts closes closed step after frame coreOf goneBy hasCrash listOf cut reach crashed isNext isRound mostSends checkedCrash crashIn scenario coreCrashes endingAfter endingFrom endingOf endings withProposal takenProposal proposalsEnd readProposals crashFields takenCrash readRecords untouchedLeft wholeRun readBehind readRunFile checkedCrashes simulated digit inBase digits joined field fields named line lines refusalLine noPart verdictPart verdictLine verdictLines listing tableProgram endingText driveLine endingLines coreLine simulatedWith simulatedFile runProgram
 marked-cases = (refl, (refl, (refl, (refl, (refl, (refl, (refl, (refl, (refl, (refl, (refl, tt)))))))))))

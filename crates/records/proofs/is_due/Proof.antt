@@ -15,9 +15,10 @@ unfolding isDue isKind mark markText ascii fromBytes
 is-due-spec =
     tie.close
     (tie.spec
-    (λ c κs. search needs) (λ c. search needs) (λ c. search needs) (λ c. search needs) (λ c κs. search needs) (λ c. search needs) (λ c κs. search needs)
-    (λ c. search needs) (λ c κs. search needs) (λ c. search needs) (λ c κs. search needs) (λ c κs. search needs)
-    (λ c. rw (c .before .before .mark-of .ensures, c .enum-told .given .1)) (λ c. rw (c .before .before .mark-of .ensures, c .enum-told2 .given .1))
-    (λ c. rw (c .is-either .ensures, c .before .before .before .mark-of .ensures, c .before .enum-told3 .given .1)) (λ c. rw (c .is-either2 .ensures, c .before .before .before .mark-of .ensures, c .before .enum-told4 .given .1)) (λ c. rw (c .is-either3 .ensures, c .before .before .before .mark-of .ensures, c .before .enum-told5 .given .1))
-    (λ c. let m = c .before .before .before .before .mark-of .result in or-first _ (eqb m (mark WideKnown) || eqb m (mark WideDecide)) (c .if1 .taken) ∙ rw (c .before .is-either4 .ensures, c .before .before .before .before .mark-of .ensures, c .before .before .enum-told6 .given .1))
-    (λ c. or-second (c .before .before .is-either4 .result) _ (c .before .if1 .left) ∙ rw (c .is-either5 .ensures, c .before .before .is-either4 .ensures, c .before .before .before .before .before .mark-of .ensures, c .before .before .before .enum-told6 .given .1)))
+    (λ c κs. search needs) (λ c. search needs) (λ c κs. search needs) (λ c. search needs) (λ c κs. search needs) (λ c κs. search needs) (λ c. search needs)
+    (λ c κs. search needs) (λ c. search needs) (λ c κs. search needs) (λ c κs. search needs)
+    (λ c. rw (c .mark-of2 .ensures, c .before .before .before .before .mark-of .ensures, c .before .before .due .given .1))
+    (λ c. rw (c .is-either .ensures, c .before .mark-of3 .ensures, c .before .before .before .before .before .mark-of .ensures, c .before .before .before .due2 .given .1))
+    (λ c. rw (c .is-either2 .ensures, c .before .before .before .mark-of .ensures, c .before .enum-told .given .1))
+    (λ c. let m = c .before .before .before .before .mark-of .result in or-first _ (eqb m (mark WideKnown) || eqb m (mark WideDecide)) (c .if1 .taken) ∙ rw (c .before .is-either3 .ensures, c .before .before .before .before .mark-of .ensures, c .before .before .enum-told2 .given .1))
+    (λ c. or-second (c .before .before .is-either3 .result) _ (c .before .if1 .left) ∙ rw (c .is-either4 .ensures, c .before .before .is-either3 .ensures, c .before .before .before .before .before .mark-of .ensures, c .before .before .before .enum-told2 .given .1)))

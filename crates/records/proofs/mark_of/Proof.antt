@@ -12,8 +12,8 @@ mark-of-spec =
     tie.close
     (tie.spec
     (λ c. search needs) (λ c. search needs) (λ c. search needs) (λ c. search needs) (λ c. search needs) (λ c. search needs) (λ c. search needs)
-    (λ c. search needs) (λ c. search needs) (λ c. search needs) (λ c. search needs) (λ c. sym (ap mark (c .enum-told .given .1)))
+    (λ c. search needs) (λ c. search needs) (λ c. search needs) (λ c. search needs) (λ c. search needs) (λ c. sym (ap mark (c .enum-told .given .1)))
     (λ c. sym (ap mark (c .enum-told2 .given .1))) (λ c. sym (ap mark (c .enum-told3 .given .1))) (λ c. sym (ap mark (c .enum-told4 .given .1)))
     (λ c. sym (ap mark (c .enum-told5 .given .1))) (λ c. sym (ap mark (c .enum-told6 .given .1))) (λ c. sym (ap mark (c .enum-told7 .given .1)))
     (λ c. sym (ap mark (c .enum-told8 .given .1))) (λ c. sym (ap mark (c .enum-told9 .given .1))) (λ c. sym (ap mark (c .enum-told10 .given .1)))
-    (λ c. sym (ap mark (c .enum-told11 .given .1))))
+    (λ c. sym (ap mark (c .enum-told11 .given .1))) (λ c. sym (ap mark (c .enum-told12 .given .1))))

@@ -14,7 +14,7 @@ use Rattle.drive_sets.specs.declared.Refusal.{Refusal}
 use Rattle.drive_sets.specs.Limits.{patternWidth, patternLimit}
 use Rattle.records.specs.declared.Due.{Due}
 use Rattle.records.specs.declared.Kind.{Kind}
-use Rattle.records.specs.declared.Kind.the-variants.{Frame, Survivor, Proposal, Crash, End, Known, Decide, WideProposal, WideKnown, WideDecide, Unknown}
+use Rattle.records.specs.declared.Kind.the-variants.{Frame, Survivor, Fault, Proposal, Crash, End, Known, Decide, WideProposal, WideKnown, WideDecide, Unknown}
 use Rattle.records.specs.declared.Head.the-variants.{Record, Refused}
 use Rattle.records.specs.Fields.{Bytes, fromBytes, fieldAt, toBytes}
 use Rattle.records.specs.Fields.Laws.{length-toBytes, field-back, field-lt}
@@ -24,6 +24,7 @@ pub kind-mark : (k : Kind) → kindOf (mark k) ≡ k
 unfolding kindOf mark markText ascii fromBytes
 kind-mark Frame = refl
 kind-mark Survivor = refl
+kind-mark Fault = refl
 kind-mark Proposal = refl
 kind-mark Crash = refl
 kind-mark End = refl
@@ -38,6 +39,7 @@ pub mark-lt : (k : Kind) → mark k < 256 ^ 2
 unfolding mark markText ascii fromBytes
 mark-lt Frame = omega arith
 mark-lt Survivor = omega arith
+mark-lt Fault = omega arith
 mark-lt Proposal = omega arith
 mark-lt Crash = omega arith
 mark-lt End = omega arith
@@ -52,6 +54,7 @@ pub number-most : (k : Kind) → numberWidth k ≤ patternWidth
 unfolding numberWidth
 number-most Frame = omega arith
 number-most Survivor = omega arith
+number-most Fault = omega arith
 number-most Proposal = omega arith
 number-most Crash = omega arith
 number-most End = omega arith
@@ -70,6 +73,7 @@ pub body-most : (k : Kind) → bodyWidth k ≤ 10
 unfolding bodyWidth
 body-most Frame = omega arith
 body-most Survivor = omega arith
+body-most Fault = omega arith
 body-most Proposal = omega arith
 body-most Crash = omega arith
 body-most End = omega arith

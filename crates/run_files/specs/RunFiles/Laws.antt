@@ -9,8 +9,8 @@ use Rattle.drive_sets.specs.Bools.Laws.{or-cases}
 use Rattle.drive_sets.specs.declared.Refusal.the-variants.{WrongMark}
 use Rattle.drive_sets.specs.Refusals.{Outcome, refused, result, andThen, number}
 use Rattle.drive_sets.specs.Refusals.Laws.{then-same, then-assoc, then-then}
-use Rattle.records.specs.declared.Due.the-variants.{AtProposal, AtCrashOrEnd}
-use Rattle.records.specs.declared.Kind.the-variants.{Proposal, WideProposal}
+use Rattle.records.specs.declared.Due.the-variants.{AtProposal, AtRecordOrEnd}
+use Rattle.records.specs.declared.Kind.the-variants.{Crash, Proposal, WideProposal}
 use Rattle.records.specs.Fields.{fromBytes}
 use Rattle.records.specs.Marks.{ascii, markText, mark, isKind, isDue, kindAt}
 use Rattle.records.specs.Marks.Laws.{kind-is}
@@ -42,5 +42,5 @@ module _ (n core : ℕ) (sets : List ℕ) where
   unfolding behindNumbers isDue isKind mark markText ascii fromBytes
   behind-wrong numbers s long there =
       ap (λ (o : Outcome (ReadList CrashList)). andThen o (λ c. wholeRun sets (said numbers c))) (read-wrong (crashList n core) noCrash s refl long
-      (⊎-elim (λ e. ap (isDue AtCrashOrEnd) (kind-is Proposal (kindAt s) e)) (λ e. ap (isDue AtCrashOrEnd) (kind-is WideProposal (kindAt s) e))
+      (⊎-elim (λ e. ap (isDue (AtRecordOrEnd Crash)) (kind-is Proposal (kindAt s) e)) (λ e. ap (isDue (AtRecordOrEnd Crash)) (kind-is WideProposal (kindAt s) e))
       (or-cases (isKind Proposal (kindAt s)) (isKind WideProposal (kindAt s)) there)))

@@ -17,7 +17,9 @@ use Rattle.records.specs.RecordLists.{ReadList}
 use Rattle.records.specs.RecordLists.Prefixes.{field-prefix, kind-prefix, widest, list-prefix}
 use Rattle.survivor_tables.specs.Tables.{withinCoreLimit, chosenCore}
 use Rattle.survivor_tables.specs.Tables.Laws.{core-given}
+use Rattle.survivor_tables.specs.declared.frames.MaskKind.the-variants.{SurvivorSet}
 use Rattle.table_files.specs.Files.{ReadTable, readListed, accepted, readTable}
+use Rattle.table_files.specs.Files.Prefixes.{empty-prefix, listed-prefix}
 use Rattle.runs.specs.CrashRecords.{CrashRecord, checkedCrash}
 use Rattle.runs.specs.CrashRecords.Laws.{next-bounds}
 use Rattle.crash_lists.specs.CrashLists.{crashFields, CrashList, noCrash, takenCrash, crashList}
@@ -28,7 +30,6 @@ use Rattle.run_files.specs.RunFiles.{RunFile, said, wholeRun, untouchedLeft, be
 use Rattle.run_files.specs.RunFiles.Laws.{behindRecords, behind-is}
 use Rattle.simulation.specs.Simulation.{Simulated, simulated}
 use Rattle.run_listing.specs.RunListing.{runText, simulatedWith, simulatedFile, runProgram}
-use Rattle.table_listing.specs.TableListing.Prefixes.{empty-prefix, listed-prefix}
 use Rattle.drive_sets.specs.Limits.{maxInput}
 
 -- ---- one record: its fields, and one fewer can follow
@@ -107,11 +108,11 @@ table-prefix n sets rest j h =
     ∙ (then-same (withinCoreLimit sets) (λ table e. ap (λ (o : Outcome RunFile). andThen o (λ f. simulated n table (f .numbers) (f .crashes))) (run-file-prefix n table rest j h))
     ∙ sym (then-then (withinCoreLimit sets) (λ table. record { n = n; sets = table; rest = rest }) simulatedTable))
 
-file-is : (s : List ℕ) → simulatedFile s ≡ andThen (readListed s) (λ t. andThen (accepted t) simulatedTable)
+file-is : (s : List ℕ) → simulatedFile s ≡ andThen (readListed SurvivorSet s) (λ t. andThen (accepted t) simulatedTable)
 unfolding simulatedFile readTable
-file-is s = then-assoc (readListed s) accepted simulatedTable
+file-is s = then-assoc (readListed SurvivorSet s) accepted simulatedTable
 
 pub run-program-prefix : (s : List ℕ) → runProgram (take maxInput s) ≡ runProgram s
 unfolding runProgram
 run-program-prefix s =
-    ap runText (file-is (take maxInput s) ∙ (listed-prefix (λ t. andThen (accepted t) simulatedTable) 1561 table-prefix s maxInput (omega arith) ∙ sym (file-is s)))
+    ap runText (file-is (take maxInput s) ∙ (listed-prefix SurvivorSet (λ t. andThen (accepted t) simulatedTable) 1561 table-prefix s maxInput (omega arith) ∙ sym (file-is s)))

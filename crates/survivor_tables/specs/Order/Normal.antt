@@ -16,7 +16,7 @@ use Rattle.drive_sets.specs.Lists.Distinct.{distinct-none, distinct-cons, disti
 use Rattle.drive_sets.specs.Masks.{subset, size, Below}
 use Rattle.drive_sets.specs.Masks.Laws.{subset-refl, subset-trans}
 use Rattle.drive_sets.specs.Masks.Sizes.{subset-size}
-use Rattle.survivor_tables.specs.Order.{byMask, dropRepeats, holdsAnother, normal}
+use Rattle.survivor_tables.specs.Order.{byMask, dropRepeats, sortedUnless, holdsAnother, normal}
 use Rattle.survivor_tables.specs.Order.Strict.{byMask-strict}
 use Rattle.survivor_tables.specs.Order.Sort.{elem-sort, length-sort, ordered-sort}
 
@@ -72,6 +72,19 @@ dropRepeats-last (s ∷ l) x =
     new : ℕ → Bool
     new t = not (elem t l)
 
+-- ---- the sets of which a test does not hold
+
+module _ (p : ℕ → Bool) where
+  pub elem-unless : (s : ℕ) (sets : List ℕ) → elem s (sortedUnless p sets) ≡ (elem s sets && not (p s))
+  elem-unless s sets =
+      elem-sort byMask s (filter (λ t. not (p t)) (dropRepeats sets))
+      ∙ (elem-filter (λ t. not (p t)) s (dropRepeats sets) ∙ ap (λ (b : Bool). b && not (p s)) (elem-dropRepeats s sets))
+
+  pub ordered-unless : (sets : List ℕ) → ordered byMask (sortedUnless p sets) ≡ true
+  ordered-unless sets =
+      ordered-sort byMask byMask-strict (filter (λ s. not (p s)) (dropRepeats sets))
+      (distinct-filter (λ s. not (p s)) (dropRepeats sets) (distinct-dropRepeats sets))
+
 -- ---- the normal form's elements
 
 pub held-another : (sets : List ℕ) (s t : ℕ) → elem t sets ≡ true → subset t s ≡ true → (t ≡ s → ⊥) → holdsAnother sets s ≡ true
@@ -90,12 +103,7 @@ another-held sets s h =
 
 pub elem-normal : (s : ℕ) (sets : List ℕ) → elem s (normal sets) ≡ (elem s sets && not (holdsAnother sets s))
 unfolding normal
-elem-normal s sets =
-    elem-sort byMask s (filter smallest (dropRepeats sets))
-    ∙ (elem-filter smallest s (dropRepeats sets) ∙ ap (λ (b : Bool). b && not (holdsAnother sets s)) (elem-dropRepeats s sets))
-  where
-    smallest : ℕ → Bool
-    smallest s = not (holdsAnother sets s)
+elem-normal s sets = elem-unless (holdsAnother sets) s sets
 
 pub normal-elem : (s : ℕ) (sets : List ℕ) → elem s (normal sets) ≡ true → elem s sets ≡ true
 normal-elem s sets h = and-left (elem s sets) (not (holdsAnother sets s)) (sym (elem-normal s sets) ∙ h)
@@ -111,9 +119,7 @@ elem-normal-intro s sets p q = elem-normal s sets ∙ and-intro p (ap not q)
 
 pub ordered-normal : (sets : List ℕ) → ordered byMask (normal sets) ≡ true
 unfolding normal
-ordered-normal sets =
-    ordered-sort byMask byMask-strict (filter (λ s. not (holdsAnother sets s)) (dropRepeats sets))
-    (distinct-filter (λ s. not (holdsAnother sets s)) (dropRepeats sets) (distinct-dropRepeats sets))
+ordered-normal sets = ordered-unless (holdsAnother sets) sets
 
 pub antichain-normal : (sets : List ℕ) → Antichain (normal sets)
 antichain-normal sets s t p q e =

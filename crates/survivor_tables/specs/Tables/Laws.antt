@@ -10,16 +10,18 @@ use native.Mathlib.Omega.{arith}
 use lib.Pow.{pow-mono}
 use lib.Dec.{eqb, leb, ltb}
 use lib.ListN.{length}
-use borrow.Author.Tests.{leb-true, le-leb, ltb-false, le-ltb, eqb-false, not-true, not-false}
-use Rattle.drive_sets.specs.declared.Refusal.the-variants.{WrongMark, FrameSize, BadSet, TooManySets, TooManyCores}
-use Rattle.drive_sets.specs.Bools.Laws.{clash, and-intro, and-left, and-right, cond-false}
+use borrow.Author.Tests.{leb-true, le-leb, ltb-false, le-ltb, eqb-false, ne-eqb, not-true, not-false}
+use Rattle.drive_sets.specs.declared.Refusal.the-variants.{WrongMark, FrameSize, BadSet, TooManySets, TooManyCores, AllDrives}
+use Rattle.drive_sets.specs.Bools.Laws.{clash, by-test, and-intro, and-left, and-right, cond-true, cond-false}
 use Rattle.drive_sets.specs.Lists.{all, elem, ordered}
-use Rattle.drive_sets.specs.Lists.Laws.{elem-some, all-elem, all-intro}
+use Rattle.drive_sets.specs.Lists.Laws.{elem-some, elem-head, elem-tail, elem-none, elem-cases, all-elem}
 use Rattle.drive_sets.specs.Lists.Places.{getD-elem}
 use Rattle.drive_sets.specs.Masks.{has, single, full, common, subset, meets, Below}
 use Rattle.drive_sets.specs.Masks.Laws.{full-lt, full-has, full-subset, has-some, has-bounds, has-meets}
-use Rattle.drive_sets.specs.Refusals.{refused, result}
+use Rattle.drive_sets.specs.Refusals.{Outcome, refused, result, refuseIf, andThen}
 use Rattle.drive_sets.specs.Refusals.Laws.{refused-no-result, passed, refused-by, same-result, first-result, first-refused}
+use Rattle.survivor_tables.specs.declared.frames.MaskKind.{MaskKind}
+use Rattle.survivor_tables.specs.declared.frames.MaskKind.the-variants.{SurvivorSet, FaultGroup}
 use Rattle.survivor_tables.specs.Hitting.{hits, Minimal}
 use Rattle.survivor_tables.specs.Hitting.Laws.{hits-meets, meets-hits, hits-same-elements, minimal-lt, minimal-same-hits}
 use Rattle.survivor_tables.specs.Hitting.Critical.{critical-all}
@@ -31,9 +33,9 @@ use Rattle.survivor_tables.specs.Hitting.Listed.{listed-minimal, minimal
 use Rattle.survivor_tables.specs.Order.Normal.{normal-elem, ordered-normal, antichain-normal, normal-idempotent, normal-some, length-normal}
 use Rattle.survivor_tables.specs.Hitting.Normal.{hits-normal}
 use Rattle.drive_sets.specs.Limits.{maxDrives, maxSets, maxCores}
-use Rattle.survivor_tables.specs.Tables.{Accepted, isFrame, isSet, isEmpty, cores, chosen, dual, withinCoreLimit, checkedSets, normalTable, survivorSets, chosenCore}
+use Rattle.survivor_tables.specs.Tables.{Accepted, isFrame, isSet, isEmpty, cores, chosen, dual, withinCoreLimit, checkedMask, eachMask, checkedMasks, checkedSets, normalTable, survivorSets, chosenCore}
 
--- ---- what it is for n and sets to meet no refusal
+-- ---- n and the number of masks
 
 pub frame-high : (n : ℕ) → isFrame n ≡ true → n ≤ maxDrives
 unfolding isFrame
@@ -49,44 +51,141 @@ unfolding isEmpty
 some-not-empty [] h = absurd (omega arith)
 some-not-empty (x ∷ l) h = refl
 
--- at most 128 sets pass
-pub checked-most : (n : ℕ) (sets : List ℕ) {l : List ℕ} → checkedSets n sets ≡ result l → length sets ≤ maxSets
-unfolding checkedSets
-checked-most n sets e =
-    let some = passed (isEmpty sets) WrongMark _ (passed (not (isFrame n)) FrameSize _ e .1) in
-    ltb-false maxSets (length sets) (passed (ltb maxSets (length sets)) TooManySets _ (some .1) .0)
+-- ---- what it is for n and masks to meet nothing before 13
+
+-- a mask that meets nothing is given as it is
+mask-same : (kind : MaskKind) (n m : ℕ) {x : ℕ} → checkedMask kind n m ≡ result x → m ≡ x
+unfolding checkedMask
+mask-same SurvivorSet n m e = same-result (passed (not (isSet n m)) BadSet (result m) e .1)
+mask-same FaultGroup n m e = let within = passed (not (subset m (full n))) BadSet _ e in same-result (passed (eqb m (full n)) AllDrives (result m) (within .1) .1)
+
+pub mask-result : (kind : MaskKind) (n m : ℕ) {x : ℕ} → checkedMask kind n m ≡ result x → checkedMask kind n x ≡ result x
+mask-result kind n m e = ap (checkedMask kind n) (sym (mask-same kind n m e)) ∙ e
+
+pub set-lt : (n s : ℕ) → isSet n s ≡ true → s < 2 ^ n
+unfolding isSet
+set-lt n s e = full-subset n s (and-right (not (eqb s 0)) (subset s (full n)) e)
+
+-- a survivor set that meets nothing is a set of the frame, and the other way round
+mask-set : (n s : ℕ) {x : ℕ} → checkedMask SurvivorSet n s ≡ result x → isSet n s ≡ true
+unfolding checkedMask
+mask-set n s e = not-false (isSet n s) (passed (not (isSet n s)) BadSet (result s) e .0)
+
+pub set-mask : (n s : ℕ) → isSet n s ≡ true → checkedMask SurvivorSet n s ≡ result s
+unfolding checkedMask
+set-mask n s e = cond-false _ _ (ap not e)
+
+-- a fault group that meets nothing lies within the frame and is not all of it, and the other way round
+pub mask-group : (n g : ℕ) {x : ℕ} → checkedMask FaultGroup n g ≡ result x → (subset g (full n) ≡ true) × (g ≡ full n → ⊥)
+unfolding checkedMask
+mask-group n g e =
+    let within = passed (not (subset g (full n))) BadSet _ e in
+    (not-false (subset g (full n)) (within .0), eqb-false g (full n) (passed (eqb g (full n)) AllDrives (result g) (within .1) .0))
+
+pub group-mask : (n g : ℕ) → subset g (full n) ≡ true → (g ≡ full n → ⊥) → checkedMask FaultGroup n g ≡ result g
+unfolding checkedMask
+group-mask n g e ne = cond-false _ _ (ap not e) ∙ cond-false _ _ (ne-eqb g (full n) ne)
+
+-- either lies within the frame
+pub mask-lt : (kind : MaskKind) (n m : ℕ) {x : ℕ} → checkedMask kind n m ≡ result x → m < 2 ^ n
+mask-lt SurvivorSet n m e = set-lt n m (mask-set n m e)
+mask-lt FaultGroup n m e = full-subset n m (mask-group n m e .0)
+
+-- each of the masks
+module _ {A : Type 0} (kind : MaskKind) (n : ℕ) (next : Outcome A) where
+  abbrev Good : List ℕ → Type 0
+  Good masks = (m : ℕ) → elem m masks ≡ true → checkedMask kind n m ≡ result m
+
+  each-good : (masks : List ℕ) → Good masks → eachMask kind n masks next ≡ next
+  unfolding eachMask
+  each-good [] good = refl
+  each-good (m ∷ masks) good = rw (good m (elem-head m masks)) (each-good masks (λ x h. good x (elem-tail x m masks h)))
+
+  each-passed : (masks : List ℕ) {a : A} → eachMask kind n masks next ≡ result a → Good masks × (next ≡ result a)
+  unfolding eachMask
+  each-passed [] e = ((λ m h. absurd (clash h (elem-none m))), e)
+  each-passed (m ∷ masks) e =
+      let first = first-result (checkedMask kind n m) (λ good. eachMask kind n masks next) e in
+      let rest = each-passed masks (first .2) in
+      ((λ x h. ⊎-elim (λ same. subst (λ (y : ℕ). checkedMask kind n y ≡ result y) (sym (same ∙ mask-same kind n m (first .1))) (mask-result kind n m (first .1))) (rest .0 x) (elem-cases x m masks h)), rest .1)
+
+-- of survivor sets, that is 4 unless each is a set of the frame
+pub each-set : {A : Type 0} (n : ℕ) (sets : List ℕ) (next : Outcome A) → eachMask SurvivorSet n sets next ≡ refuseIf (not (all (isSet n) sets)) BadSet next
+unfolding eachMask checkedMask all
+each-set n [] next = refl
+each-set n (s ∷ sets) next = by-test (isSet n s) (λ t. rw t (each-set n sets next)) (λ t. rw t)
+
+pub record Checked (kind : MaskKind) (n : ℕ) (masks : List ℕ) : Type 0 where
+  pub frame : isFrame n ≡ true
+  pub some : 1 ≤ length masks
+  pub most : length masks ≤ maxSets
+  pub good : (m : ℕ) → elem m masks ≡ true → checkedMask kind n m ≡ result m
+
+module _ (kind : MaskKind) (n : ℕ) (masks : List ℕ) where
+  pub masks-checked : {l : List ℕ} → checkedMasks kind n masks ≡ result l → Checked kind n masks × (masks ≡ l)
+  unfolding checkedMasks
+  masks-checked e =
+      let frame = passed (not (isFrame n)) FrameSize _ e in
+      let some = passed (isEmpty masks) WrongMark _ (frame .1) in
+      let most = passed (ltb maxSets (length masks)) TooManySets _ (some .1) in
+      let good = each-passed kind n (result masks) masks (most .1) in (
+        record {
+          frame = not-false (isFrame n) (frame .0);
+          some = not-empty masks (some .0);
+          most = ltb-false maxSets (length masks) (most .0);
+          good = good .0;
+        },
+        same-result (good .1),
+      )
+
+  pub checked-masks : Checked kind n masks → checkedMasks kind n masks ≡ result masks
+  unfolding checkedMasks
+  checked-masks c =
+      rw (c .frame, some-not-empty masks (c .some), le-ltb maxSets (length masks) (c .most)) (each-good kind n (result masks) masks (c .good))
+
+-- ---- what it is for n and sets to meet no refusal
+
+pub frame-low : (n : ℕ) → isFrame n ≡ true → 1 ≤ n
+unfolding isFrame
+frame-low n e = leb-true 1 n (and-left (leb 1 n) (leb n maxDrives) e)
+
+-- sets that meet nothing before 13, and have few cores
+pub checked-accepted : (n : ℕ) (sets : List ℕ) → Checked SurvivorSet n sets → length (cores (normal sets)) ≤ maxCores → Accepted n sets
+checked-accepted n sets c few = record {
+  low = frame-low n (c .frame);
+  high = frame-high n (c .frame);
+  some = c .some;
+  most = c .most;
+  good = λ s h. mask-set n s (c .good s h);
+  few-cores = few;
+}
+
+-- where the normal table is given, it is that of the sets, and they have few cores
+pub within-limit : (sets : List ℕ) {table : List ℕ} → withinCoreLimit sets ≡ result table → (length (cores (normal sets)) ≤ maxCores) × (table ≡ normal sets)
+unfolding withinCoreLimit
+within-limit sets e =
+    let few = passed (ltb maxCores (length (cores (normal sets)))) TooManyCores _ e in
+    (ltb-false maxCores (length (cores (normal sets))) (few .0), sym (same-result (few .1)))
 
 pub table-accepted : (n : ℕ) (sets table : List ℕ) → normalTable n sets ≡ result table → Accepted n sets × (table ≡ normal sets)
-unfolding normalTable checkedSets withinCoreLimit isFrame
+unfolding normalTable
 table-accepted n sets table e =
-    let checked = first-result (checkedSets n sets) withinCoreLimit e in
-    let frame = passed (not (isFrame n)) FrameSize _ (checked .1) in
-    let some = passed (isEmpty sets) WrongMark _ (frame .1) in
-    let most = passed (ltb maxSets (length sets)) TooManySets _ (some .1) in
-    let good = passed (not (all (isSet n) sets)) BadSet _ (most .1) in
-    let few = passed (ltb maxCores (length (cores (normal (checked .0))))) TooManyCores _ (checked .2) in
-    let same = same-result (good .1) in (
-      record {
-        low = leb-true 1 n (and-left (leb 1 n) (leb n maxDrives) (not-false (isFrame n) (frame .0)));
-        high = frame-high n (not-false (isFrame n) (frame .0));
-        some = not-empty sets (some .0);
-        most = ltb-false maxSets (length sets) (most .0);
-        good = λ s h. all-elem (isSet n) sets s (not-false (all (isSet n) sets) (good .0)) h;
-        few-cores = rw same (ltb-false maxCores (length (cores (normal (checked .0)))) (few .0));
-      },
-      sym (same-result (few .1)) ∙ ap normal (sym same),
-    )
+    let first = first-result (checkedSets n sets) withinCoreLimit e in
+    let checked = masks-checked SurvivorSet n sets (first .1) in
+    let few = within-limit (first .0) (first .2) in
+    let same = checked .1 in
+    (checked-accepted n sets (checked .0) (rw same (few .0)), few .1 ∙ ap normal (sym same))
 
 -- the numbers with which n and sets are refused go up to 13
 pub table-refused : (n : ℕ) (sets : List ℕ) {q : ℕ} → normalTable n sets ≡ refused q → q ≤ 13
-unfolding normalTable checkedSets withinCoreLimit
+unfolding normalTable checkedMasks withinCoreLimit
 table-refused n sets e =
     ⊎-elim
     (λ h. ⊎-elim (λ w. omega arith) (λ w.
     ⊎-elim (λ x. omega arith) (λ x.
     ⊎-elim (λ y. omega arith) (λ y.
     ⊎-elim (λ z. omega arith) (λ z. absurd (refused-no-result (sym (z .1))))
-    (refused-by (not (all (isSet n) sets)) BadSet _ (y .1)))
+    (refused-by (not (all (isSet n) sets)) BadSet _ (sym (each-set n sets (result sets)) ∙ y .1)))
     (refused-by (ltb maxSets (length sets)) TooManySets _ (x .1)))
     (refused-by (isEmpty sets) WrongMark _ (w .1)))
     (refused-by (not (isFrame n)) FrameSize _ h))
@@ -102,14 +201,12 @@ pub accepted-frame : (n : ℕ) (sets : List ℕ) → Accepted n sets → isFrame
 unfolding isFrame
 accepted-frame n sets a = and-intro (le-leb 1 n (a .low)) (le-leb n maxDrives (a .high))
 
-pub accepted-checked : (n : ℕ) (sets : List ℕ) → Accepted n sets → checkedSets n sets ≡ result sets
-unfolding checkedSets
-accepted-checked n sets a =
-    rw (accepted-frame n sets a, some-not-empty sets (a .some), le-ltb maxSets (length sets) (a .most), all-intro (isSet n) sets (a .good))
+pub accepted-checked : (n : ℕ) (sets : List ℕ) → Accepted n sets → Checked SurvivorSet n sets
+accepted-checked n sets a = record { frame = accepted-frame n sets a; some = a .some; most = a .most; good = λ s h. set-mask n s (a .good s h) }
 
 pub accepted-table : (n : ℕ) (sets : List ℕ) → Accepted n sets → normalTable n sets ≡ result (normal sets)
 unfolding normalTable
-accepted-table n sets a = rw (accepted-checked n sets a) (accepted-within-limit n sets a)
+accepted-table n sets a = rw (checked-masks SurvivorSet n sets (accepted-checked n sets a)) (accepted-within-limit n sets a)
 
 -- a chosen core that is given is that of an accepted table
 pub core-given : (n : ℕ) (sets : List ℕ) {core : ℕ} → chosenCore n sets ≡ result core → Accepted n sets × (chosen (normal sets) ≡ core)
@@ -120,10 +217,6 @@ core-given n sets e =
     (table .0, ap chosen (sym (table .1)) ∙ same-result (first .2))
 
 -- ---- sets of the frame
-
-pub set-lt : (n s : ℕ) → isSet n s ≡ true → s < 2 ^ n
-unfolding isSet
-set-lt n s e = full-subset n s (and-right (not (eqb s 0)) (subset s (full n)) e)
 
 pub set-some : (n s : ℕ) → isSet n s ≡ true → s ≡ 0 → ⊥
 unfolding isSet

@@ -10,13 +10,16 @@ use Rattle.drive_sets.specs.Bools.Laws.{by-test, cond-false}
 use Rattle.drive_sets.specs.declared.Refusal.the-variants.{FrameSize}
 use Rattle.drive_sets.specs.Refusals.{Outcome, result, andThen}
 use Rattle.drive_sets.specs.Refusals.Laws.{refused-no-result, same-result, passed, first-result}
-use Rattle.records.specs.declared.Due.the-variants.{AtFrame}
+use Rattle.records.specs.declared.Due.the-variants.{AtRecord}
+use Rattle.records.specs.declared.Kind.the-variants.{Frame}
 use Rattle.records.specs.Fields.{fieldAt, Bytes}
 use Rattle.records.specs.Marks.{widthAt, headOf}
 use Rattle.records.specs.RecordLists.{ListFormat, ReadList, stepOf, following, readFrom, readList}
 use Rattle.records.specs.RecordLists.Laws.{record-there, read-complete}
+use Rattle.survivor_tables.specs.declared.frames.MaskKind.{MaskKind}
+use Rattle.survivor_tables.specs.declared.frames.MaskKind.the-variants.{SurvivorSet}
 use Rattle.survivor_tables.specs.Tables.{isFrame, withinCoreLimit}
-use Rattle.table_files.specs.Files.{ReadTable, setList, listedTable, readListed, accepted, readTable}
+use Rattle.table_files.specs.Files.{ReadTable, maskList, listedTable, readListed, accepted, readTable}
 
 -- ---- a list of records
 
@@ -43,25 +46,25 @@ module _ {S : Type 0} (f : ListFormat S) where
       (λ t. let w = first-result (stepOf f state s) (following f (readFrom f bytes) state s) (sym (cond-false _ _ t) ∙ e) in
       step-rest state s (readFrom f bytes) (λ x. list-rest bytes x (drop (widthAt s) s)) (w .0) (w .2))
 
--- ---- a table
+-- ---- masks, and a table
 
-listed-rest : (s : List ℕ) {t : ReadTable} → readListed s ≡ result t → (k : ℕ) × (t .rest ≡ drop k s)
+listed-rest : (kind : MaskKind) (s : List ℕ) {t : ReadTable} → readListed kind s ≡ result t → (k : ℕ) × (t .rest ≡ drop k s)
 unfolding readListed readList
-listed-rest s e =
+listed-rest kind s e =
     let n = fieldAt 2 1 s in
-    let head = record-there (headOf AtFrame s) _ e in
-    let frame = passed (not (isFrame n)) FrameSize (andThen (readList (setList n) [] (drop 3 s)) (λ l. result (listedTable n l))) (head .2) in
-    let list = first-result (readList (setList n) [] (drop 3 s)) (λ l. result (listedTable n l)) (frame .1) in
-    let behind = list-rest (setList n) (length (drop 3 s)) [] (drop 3 s) (list .1) in
+    let head = record-there (headOf (AtRecord Frame) s) _ e in
+    let frame = passed (not (isFrame n)) FrameSize (andThen (readList (maskList kind n) [] (drop 3 s)) (λ l. result (listedTable n l))) (head .2) in
+    let list = first-result (readList (maskList kind n) [] (drop 3 s)) (λ l. result (listedTable n l)) (frame .1) in
+    let behind = list-rest (maskList kind n) (length (drop 3 s)) [] (drop 3 s) (list .1) in
     (3 + behind .0, ap (λ (t : ReadTable). t .rest) (sym (same-result (list .2))) ∙ (behind .1 ∙ drop-drop (behind .0) 3 s))
 
 pub table-rest : (s : List ℕ) {t : ReadTable} → readTable s ≡ result t → (k : ℕ) × (t .rest ≡ drop k s)
 unfolding readTable accepted
 table-rest s e =
-    let first = first-result (readListed s) accepted e in
+    let first = first-result (readListed SurvivorSet s) accepted e in
     let u = first .0 in
     let kept = first-result (withinCoreLimit (u .sets)) (λ table. result (record { n = u .n; sets = table; rest = u .rest })) (first .2) in
-    let listed = listed-rest s (first .1) in
+    let listed = listed-rest SurvivorSet s (first .1) in
     (listed .0, ap (λ (t : ReadTable). t .rest) (sym (same-result (kept .2))) ∙ listed .1)
 
 pub rest-bytes : (s : List ℕ) → Bytes s → {t : ReadTable} → readTable s ≡ result t → Bytes (t .rest)

@@ -29,8 +29,9 @@ use Rattle.survivor_tables.specs.Hitting.Laws.{hits-meets, meets-hits, minimal-
 use Rattle.survivor_tables.specs.Order.{byMask, bySize, normal}
 use Rattle.survivor_tables.specs.Order.Normal.{normal-fixed}
 use Rattle.survivor_tables.specs.Order.Strict.{equal, byMask-strict}
-use Rattle.survivor_tables.specs.Tables.{isFrame, isSet, cores, chosen, withinCoreLimit, checkedSets, normalTable}
-use Rattle.survivor_tables.specs.Tables.Laws.{frame-high, cores-unique, some-not-empty}
+use Rattle.survivor_tables.specs.declared.frames.MaskKind.the-variants.{SurvivorSet}
+use Rattle.survivor_tables.specs.Tables.{isFrame, isSet, cores, chosen, withinCoreLimit, normalTable}
+use Rattle.survivor_tables.specs.Tables.Laws.{frame-high, cores-unique, set-mask, Checked, checked-masks}
 use Rattle.complete_tables.specs.Complete.{withCores, completeTable}
 use Rattle.threshold.specs.Groups.{groups, groupCount}
 use Rattle.threshold.specs.Groups.Laws.{groups-sound, groups-complete, groups-ordered, some-groups, first-group, count-others}
@@ -166,17 +167,15 @@ module _ (n : ℕ) (frame : n ≤ 64) (t : ℕ) (below : t < n) where
   -- 128 sets at most: the table is accepted, where it has 1024 cores at most
   threshold-complete : length (thresholdSets n t) ≤ maxSets
       → completeTable n (thresholdSets n t) ≡ refuseIf (ltb maxCores (groupCount (t + 1) n)) TooManyCores (result (thresholdComplete n t))
-  unfolding thresholdSets completeTable normalTable checkedSets withinCoreLimit isFrame thresholdComplete withCores groupCount
+  unfolding thresholdSets completeTable normalTable withinCoreLimit isFrame thresholdComplete withCores groupCount
   threshold-complete few =
-      rw (
-        le-leb 1 n (omega (arith, below)),
-        le-leb n maxDrives frame,
-        some-not-empty (thresholdSets n t) (some-groups (n - t) n (omega arith) frame),
-        le-ltb maxSets (length (thresholdSets n t)) few,
-        all-intro (isSet n) (thresholdSets n t) threshold-set,
-        threshold-normal,
-        threshold-cores,
-      )
+      let checked : Checked SurvivorSet n (thresholdSets n t) = record {
+        frame = and-intro (le-leb 1 n (omega (arith, below))) (le-leb n maxDrives frame);
+        some = some-groups (n - t) n (omega arith) frame;
+        most = few;
+        good = λ s e. set-mask n s (threshold-set s e);
+      } in
+      rw (checked-masks SurvivorSet n (thresholdSets n t) checked, threshold-normal, threshold-cores)
       (then-refuse (ltb maxCores (length (groups (t + 1) n))) TooManyCores (thresholdSets n t) (λ table. result (withCores n table))
       ∙ ap (λ (l : List ℕ). refuseIf (ltb maxCores (length (groups (t + 1) n))) TooManyCores (result (record { n = n; sets = thresholdSets n t; cores = l }))) threshold-cores)
 

@@ -2,7 +2,7 @@
 use native.Mathlib.Omega.{arith}
 use borrow.Author.Needs.{needs}
 use Rattle.threshold_files.specs.ThresholdFiles.{asked, thresholdProgram}
-use Rattle.threshold_files.proofs.Prints.{program-length, file-put, line-put}
+use Rattle.threshold_files.proofs.Prints.{program-length}
 use Rattle.threshold_files.proofs.put_file.Statement.{statement}
 use Rattle.threshold_files.proofs.put_file.Tie as tie
 
@@ -11,7 +11,5 @@ unfolding thresholdProgram
 put-file-spec =
     tie.close
     (tie.spec
-    (λ c κs. search needs) (λ c. search needs) (λ c. search needs) (λ c κs. search needs) (λ c. search needs)
-    (λ c. let s = c .before .before .before .before .before .before .before .before .before .args .input .now in file-put (asked s) (omega (arith, program-length s, c .before .before .before .before .before .before .before .before .before .pre)) (c .before .before .before .before .before .write-asked .ensures) (c .before .w .given .1))
-    (λ c. search needs)
-    (λ c. let s = c .before .before .before .before .before .before .before .before .before .before .before .before .before .args .input .now in line-put (asked s) (omega (arith, program-length s, c .before .before .before .before .before .before .before .before .before .before .before .before .before .pre)) (c .before .before .before .before .before .before .before .before .before .write-asked .ensures) (c .before .before .before .before .before .w2 .given .1) (search needs) (c .before .before .put-refused .ensures)))
+    (λ c κs. search needs) (λ c κs. search needs) (λ c. search needs)
+    (λ c. let s = c .before .before .before .before .before .before .before .before .before .before .args .input .now in c .before .before .put-written .ensures (asked s) _ (omega (arith, program-length s, c .before .before .before .before .before .before .before .before .before .before .pre)) (search needs) (c .before .before .before .before .before .before .write-asked .ensures)))

@@ -13,7 +13,8 @@ use Rattle.drive_sets.specs.Refusals.{refused, result}
 use Rattle.drive_sets.specs.Refusals.Laws.{passed, first-result, same-result}
 use Rattle.survivor_tables.specs.Order.{normal}
 use Rattle.survivor_tables.specs.Tables.{checkedSets, normalTable, Accepted}
-use Rattle.survivor_tables.specs.Tables.Laws.{table-accepted, accepted-normal, accepted-checked, accepted-table}
+use Rattle.survivor_tables.specs.declared.frames.MaskKind.the-variants.{SurvivorSet}
+use Rattle.survivor_tables.specs.Tables.Laws.{checked-masks, table-accepted, accepted-normal, accepted-checked, accepted-table}
 use Rattle.verdict_search.specs.Verdicts.{Verdict, no, verdictOn}
 use Rattle.verdict_search.specs.Verdicts.BlockCounts.{block-count-within}
 use Rattle.verdict_search.specs.Verdicts.Intersection.{no-counts}
@@ -44,7 +45,7 @@ verdict-answered k n sets v e =
 -- of an accepted table the call given its normal table says the same
 pub given-normal : (k n : ℕ) (sets : List ℕ) → Accepted n sets → verdictGiven k n (normal sets) ≡ verdict k n sets
 unfolding verdict verdictGiven
-given-normal k n sets a = rw (accepted-checked n (normal sets) (accepted-normal n sets a), accepted-table n sets a)
+given-normal k n sets a = rw (checked-masks SurvivorSet n (normal sets) (accepted-checked n (normal sets) (accepted-normal n sets a)), accepted-table n sets a)
 
 -- ---- which calls get an answer
 
@@ -52,12 +53,12 @@ module _ (k n : ℕ) (table : List ℕ) (low : 2 ≤ k) (high : k ≤ 4) (accept
   -- 33 for a frame of k drives or fewer
   pub given-few : n ≤ k → verdictGiven k n table ≡ refused 33
   unfolding verdictGiven judged
-  given-few few = rw (le-leb 2 k low, le-leb k 4 high, accepted-checked n table accepted, le-leb n k few)
+  given-few few = rw (le-leb 2 k low, le-leb k 4 high, checked-masks SurvivorSet n table (accepted-checked n table accepted), le-leb n k few)
 
   -- and the verdict for every other
   pub given-more : k < n → verdictGiven k n table ≡ result (verdictOn k n table)
   unfolding verdictGiven judged
-  given-more more = rw (le-leb 2 k low, le-leb k 4 high, accepted-checked n table accepted, lt-leb n k more)
+  given-more more = rw (le-leb 2 k low, le-leb k 4 high, checked-masks SurvivorSet n table (accepted-checked n table accepted), lt-leb n k more)
 
 -- a no has k positions and k blocks, and no more than four
 pub given-counts : (k n : ℕ) (table : List ℕ) {ps blocks : List ℕ} → verdictGiven k n table ≡ result (no ps blocks) → (length ps ≤ 4) × (length blocks ≤ 4)

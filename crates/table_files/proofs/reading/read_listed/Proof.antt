@@ -18,4 +18,4 @@ read-listed-spec =
     (λ c. let e = c .before .before .before .before .before .before .read-head .ensures in let k = c .before .before .before .before .enum-told .given .1 in (rw (c .refused2 .ensures .0, ← e, k, ← first-byte _ 2 (frame-whole _ _ e _ k), ← c .before .before .is-frame .ensures, c .before .if1 .taken), c .refused2 .ensures .1 _))
     (λ c κs. frame-whole _ _ (c .before .before .before .before .before .read-head .ensures) _ (c .before .before .before .enum-told .given .1))
     (λ c. (rw (c .refused .ensures .0, ← c .before .before .before .before .read-head .ensures, c .before .before .head .given .1), c .refused .ensures .1 _))
-    (λ c. let e = c .before .before .before .before .before .before .read-head .ensures in let k = c .before .before .before .before .enum-told .given .1 in (rw (c .read-sets .ensures .0, ← e, k, ← first-byte _ 2 (frame-whole _ _ e _ k), ← c .before .before .is-frame .ensures, c .before .if1 .left), c .read-sets .ensures .1)))
+    (λ c. let e = c .before .before .before .before .before .before .read-head .ensures in let k = c .before .before .before .before .enum-told .given .1 in (rw (c .read-masks .ensures .0, ← e, k, ← first-byte _ 2 (frame-whole _ _ e _ k), ← c .before .before .is-frame .ensures, c .before .if1 .left), c .read-masks .ensures .1)))

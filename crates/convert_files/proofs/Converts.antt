@@ -1,0 +1,57 @@
+-- What the two readers say, as what is written of it: the refusal, or the file.
+use mathlib.Core.Path.{_≡_, sym, ap, _∙_}
+use mathlib.Core.List.{List, []}
+use Prim.Native.Nat.{ℕ}
+use Rattle.drive_sets.specs.declared.Answer.{Answer}
+use Rattle.drive_sets.specs.declared.Answer.the-variants.{Accepted, Refused}
+use Rattle.drive_sets.specs.declared.Refusal.{Refusal}
+use Rattle.drive_sets.specs.Refusals.{Outcome, refused, result, andThen, number, outcomeOf}
+use Rattle.complete_tables.specs.declared.TableWithCores.{TableWithCores}
+use Rattle.complete_tables.specs.Complete.{Complete, setsOf, withCores, completeOutcome}
+use Rattle.table_files.specs.Files.{ReadTable, readWhole, tableBytes}
+use Rattle.table_files.specs.WithCores.{readWholeComplete}
+use Rattle.table_files.proofs.TableReads.{read-refused, read-accepted}
+use Rattle.fault_lists.specs.FaultLists.{tableFromFaults, faultsFromTable}
+use Rattle.fault_files.specs.declared.FaultsRead.{FaultsRead}
+use Rattle.fault_files.specs.FaultFiles.{readFaults, faultBytes, faultsOutcome}
+use Rattle.convert_files.specs.ConvertFiles.{tableFile, faultFile}
+
+-- ---- a fault list
+
+module _ (r : FaultsRead) (s : List ℕ) (e : faultsOutcome r ≡ readFaults s) where
+  said : {a : Answer} → r .answer ≡ a → readFaults s ≡ outcomeOf a (record { n = r .list .n; sets = setsOf (r .list); rest = [] })
+  unfolding faultsOutcome
+  said f = sym e ∙ ap (λ (a : Answer). outcomeOf a (record { n = r .list .n; sets = setsOf (r .list); rest = [] })) f
+
+  abbrev fileOf : ReadTable → Outcome (List ℕ)
+  fileOf l = andThen (tableFromFaults (l .n) (l .sets)) (λ table. result (tableBytes (l .n) table))
+
+  pub faults-refused : {q : Refusal} → r .answer ≡ Refused q → tableFile s ≡ refused (number q)
+  unfolding tableFile
+  faults-refused f = ap (λ (o : Outcome ReadTable). andThen o fileOf) (said f)
+
+  pub faults-given : r .answer ≡ Accepted → {part : List ℕ} → part ≡ setsOf (r .list)
+      → andThen (tableFromFaults (r .list .n) part) (λ table. result (tableBytes (r .list .n) table)) ≡ tableFile s
+  unfolding tableFile
+  faults-given f g =
+      ap (λ (l : List ℕ). andThen (tableFromFaults (r .list .n) l) (λ table. result (tableBytes (r .list .n) table))) g
+      ∙ sym (ap (λ (o : Outcome ReadTable). andThen o fileOf) (said f))
+
+-- ---- a table
+
+module _ (t : TableWithCores) (s : List ℕ) (e : completeOutcome t ≡ readWholeComplete s) where
+  abbrev listOf : ReadTable → Outcome (List ℕ)
+  listOf u = andThen (faultsFromTable (u .n) (u .sets)) (λ groups. result (faultBytes (u .n) groups))
+
+  pub table-refused : {q : Refusal} → t .answer ≡ Refused q → faultFile s ≡ refused (number q)
+  unfolding faultFile readWholeComplete
+  table-refused f = ap (λ (o : Outcome ReadTable). andThen o listOf) (read-refused t (readWhole s) e f)
+
+  pub table-given : t .answer ≡ Accepted → {part : List ℕ} → part ≡ setsOf (t .table)
+      → andThen (faultsFromTable (t .table .n) part) (λ groups. result (faultBytes (t .table .n) groups)) ≡ faultFile s
+  unfolding faultFile readWholeComplete withCores
+  table-given f g =
+      let w = read-accepted t (readWhole s) e f in
+      ap (λ (l : List ℕ). andThen (faultsFromTable (t .table .n) l) (λ groups. result (faultBytes (t .table .n) groups))) g
+      ∙ sym (ap (λ (o : Outcome ReadTable). andThen o listOf) (w .1)
+      ∙ ap (λ (c : Complete). andThen (faultsFromTable (c .n) (c .sets)) (λ groups. result (faultBytes (c .n) groups))) (w .2))

@@ -1,0 +1,2 @@
+-- What the convert program writes.
+pub mod ConvertFiles

@@ -1,0 +1,2 @@
+-- Fault lists as bytes.
+pub mod FaultFiles

@@ -1,0 +1,139 @@
+-- The promises about fault lists, from the laws of the conversions, of fault lists as bytes and of failure models.
+use mathlib.Core.Path.{_≡_, refl, sym, ap, _∙_, subst}
+use mathlib.Core.Bool.{true}
+use mathlib.Core.List.{List, []}
+use mathlib.Core.Logic.{_↔_}
+use Prim.Native.Nat.{ℕ, _+_}
+use lib.Dec.{eqb}
+use lib.ListN.{take, drop}
+use lib.Seq.{take-at}
+use borrow.Author.Tests.{eqb-true, eqb-false}
+use Rattle.drive_sets.specs.Bools.Laws.{true-of}
+use Rattle.drive_sets.specs.Lists.{elem}
+use Rattle.drive_sets.specs.Masks.{outside, subset}
+use Rattle.drive_sets.specs.Refusals.{Outcome, result, andThen}
+use Rattle.drive_sets.specs.Refusals.Laws.{first-result, same-result}
+use Rattle.survivor_tables.specs.Executions.{Describes}
+use Rattle.survivor_tables.specs.Order.{normal}
+use Rattle.survivor_tables.specs.Tables.{normalTable, Accepted}
+use Rattle.survivor_tables.specs.Tables.Laws.{table-accepted, accepted-table, sets-below}
+use Rattle.complete_tables.specs.Complete.{Complete, withCores, completeTable}
+use Rattle.fault_lists.specs.FaultLists.{rests, largest, tableFromFaults, completeFromFaults, faultList, faultsFromTable}
+use Rattle.fault_lists.specs.FaultLists.Rests.{rests-below, rests-rests}
+use Rattle.fault_lists.specs.FaultLists.Largest.{largest-elem, largest-alone, alone-largest, largest-rising, rests-largest}
+use Rattle.fault_lists.specs.FaultLists.Laws.{groups-below, from-faults, faults-back, table-back, table-list, normal-largest}
+use Rattle.fault_lists.specs.FailureModels.{FailProne, CanFail, RestHolds}
+use Rattle.fault_lists.specs.FailureModels.Laws.{fail-prone, one-model, same-model, held-normal, fails-described}
+use Rattle.fault_files.specs.FaultFiles.{readFaults, writeFaults, faultBytes}
+use Rattle.fault_files.specs.FaultFiles.Laws.{faults-written, faults-read}
+use Rattle.convert_files.specs.ConvertFiles.Laws.{there-and-back}
+use Rattle.promises.specs.Cores.{TableSays, ListingDescribes, CoresOfCall}
+use Rattle.promises.specs.FaultLists.{FaultsThereAndBack, TablesThereAndBack, FilesThereAndBack, LargestOf, LargestOfFaults, LargestOfTable, WrittenFaultsReadBack, ReadFaultsWritten, FaultsFailProne, TablesFailProne, SameModel, CoresOfFaults}
+use Rattle.promises.proofs.Cores.{listing-describes, cores-of-call}
+use Rattle.promises.proofs.RoundTrip.{stands}
+
+-- ---- there and back
+
+pub faults-there-and-back : FaultsThereAndBack
+unfolding FaultsThereAndBack
+faults-there-and-back = faults-back
+
+pub tables-there-and-back : TablesThereAndBack
+unfolding TablesThereAndBack
+tables-there-and-back = table-back
+
+pub files-there-and-back : FilesThereAndBack
+unfolding FilesThereAndBack
+files-there-and-back = there-and-back
+
+-- ---- the largest groups
+
+largest-of : (groups : List ℕ) → LargestOf groups (largest groups)
+largest-of groups = record {
+  exactly = λ g. (
+    (λ e. (largest-elem groups g e, λ h f p. eqb-true h g (true-of (eqb h g) (λ ne. largest-alone groups g e h f p (eqb-false h g ne))))),
+    (λ w. alone-largest groups g (w .0) (λ h f p ne. ne (w .1 h f p))),
+  );
+  rising = largest-rising groups;
+}
+
+-- a list that is given is that of the largest groups, of groups within the frame
+faults-given : (n : ℕ) (groups list : List ℕ) → faultList n groups ≡ result list → list ≡ largest groups
+unfolding faultList
+faults-given n groups list e = sym (same-result (first-result (tableFromFaults n groups) (λ table. result (largest groups)) e .2))
+
+table-given : (n : ℕ) (sets list : List ℕ) → faultsFromTable n sets ≡ result list → Accepted n sets × (list ≡ largest (rests n sets))
+unfolding faultsFromTable
+table-given n sets list e =
+    let first = first-result (normalTable n sets) (λ table. result (largest (rests n table))) e in
+    let w = table-accepted n sets (first .0) (first .1) in
+    let a = w .0 in (
+      a,
+      sym (same-result (first .2))
+          ∙ (ap (λ (l : List ℕ). largest (rests n l)) (w .1) ∙ (normal-largest n sets a ∙ sym (rests-largest n (a .high) sets (sets-below n sets a)))),
+    )
+
+pub largest-of-faults : LargestOfFaults
+unfolding LargestOfFaults
+largest-of-faults n groups list e = rw (faults-given n groups list e) (largest-of groups)
+
+pub largest-of-table : LargestOfTable
+unfolding LargestOfTable
+largest-of-table n sets list e = rw (table-given n sets list e .1) (largest-of (rests n sets))
+
+-- ---- read back as written
+
+pub written-faults-read-back : WrittenFaultsReadBack
+unfolding WrittenFaultsReadBack writeFaults
+written-faults-read-back n groups start old new r size w e =
+    let there = stands (writeFaults n groups) start old new r size w e in
+    let list = first-result (faultList n groups) (λ l. result (faultBytes n l)) (there .are-due) in (
+      list .0,
+      list .1,
+      ap readFaults (ap (take size) (there .from-start) ∙ (take-at (there .bytes) (drop (start + size) old) size (there .many) ∙ sym (same-result (list .2)))) ∙ faults-written n groups (list .1),
+    )
+
+pub read-faults-written : ReadFaultsWritten
+unfolding ReadFaultsWritten writeFaults
+read-faults-written s t e = ap (λ (o : Outcome (List ℕ)). andThen o (λ l. result (faultBytes (t .n) l))) (faults-read s e .0)
+
+-- ---- failure models
+
+pub faults-fail-prone : FaultsFailProne
+unfolding FaultsFailProne faultList
+faults-fail-prone n groups list e =
+    let made = first-result (tableFromFaults n groups) (λ table. result (largest groups)) e in
+    rw (faults-given n groups list e) (fail-prone n groups (groups-below n groups (from-faults n groups (made .1) .checked)))
+
+pub tables-fail-prone : TablesFailProne
+unfolding TablesFailProne
+tables-fail-prone n sets list e =
+    let w = table-given n sets list e in
+    let a = w .0 in
+    rw (w .1)
+    (same-model (λ f. subst (λ (l : List ℕ). CanFail (rests n sets) f ↔ RestHolds n l f) (rests-rests n (a .high) sets (sets-below n sets a)) (one-model n (rests n sets) (rests-below n sets) (a .high) f))
+    (fail-prone n (rests n sets) (rests-below n sets)))
+
+pub same-models : SameModel
+unfolding SameModel
+same-models n groups table e f =
+    let w = from-faults n groups e in
+    let a = w .accepted in
+    let one = one-model n groups (groups-below n groups (w .checked)) (a .high) f in
+    let held = held-normal n (a .high) (rests n groups) (rests-below n groups) (outside n f) in
+    rw (w .is) (
+      (λ can. let r = one .0 can in (r .0, held ∙ r .1)),
+      (λ r. one .1 (r .0, sym held ∙ r .1)),
+    )
+
+pub cores-of-faults : CoresOfFaults
+unfolding CoresOfFaults CoresOfCall ListingDescribes completeFromFaults completeTable withCores
+cores-of-faults n groups t e Φ faulty told =
+    let made = first-result (tableFromFaults n groups) (λ table. result (withCores n table)) e in
+    let w = from-faults n groups (made .1) in
+    let sets = rests n groups in
+    let is = sym (same-result (made .2)) ∙ ap (withCores n) (w .is) in
+    let correct : Φ → ℕ = λ φ. outside n (faulty φ) in
+    let given : completeTable n sets ≡ result t = ap (λ (o : Outcome (List ℕ)). andThen o (λ table. result (withCores n table))) (accepted-table n sets (w .accepted)) ∙ ap result (sym is) in
+    let described = fails-described n groups (groups-below n groups (w .checked)) (w .accepted .high) faulty told in
+    cores-of-call n sets t given Φ correct (subst (λ (c : Complete). Describes n (c .sets) correct) (sym is) (listing-describes n sets (w .accepted) Φ correct described))
