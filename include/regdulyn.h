@@ -70,9 +70,9 @@
  * Stack: an opening, and each of the calls about tables and runs, takes up to 276 thousand bytes of stack; a message, a
  * close and a send take less than 1500 (docs/CONTROLLER.md).
  *
- * Pointers: `sets`, `bytes` and `buffer` must be valid for as many elements as the length beside them says; with
- * length 0 they may be NULL. Memory that a call reads and memory that it writes must not overlap; pointers are aligned
- * for their type. Nothing is read or written outside, and no pointer is kept after the call.
+ * Pointers: `sets`, `groups`, `bytes` and `buffer` must be valid for as many elements as the length beside them says;
+ * with length 0 they may be NULL. Memory that a call reads and memory that it writes must not overlap; pointers are
+ * aligned for their type. Nothing is read or written outside, and no pointer is kept after the call.
  */
 #ifndef REGDULYN_H
 #define REGDULYN_H
@@ -93,10 +93,10 @@ extern "C" {
 /* ---- limits ---- */
 
 #define REGDULYN_MAX_DRIVES 64     /* drives of a frame */
-#define REGDULYN_MAX_SETS 128      /* survivor sets of a table */
+#define REGDULYN_MAX_SETS 128      /* survivor sets of a table, and fault groups of a fault list */
 #define REGDULYN_MAX_CORES 1024    /* cores of a table; one with more is refused with 13 */
 #define REGDULYN_MAX_MESSAGE 268   /* bytes of the longest message: KW with 64 numbers, 12 + 4 * 64 */
-#define REGDULYN_MAX_TABLE 1286    /* bytes of the longest table: FR, 128 SV, EN, 3 + 10 * 128 + 3 */
+#define REGDULYN_MAX_TABLE 1286    /* bytes of the longest table or fault list: FR, 128 SV or FL, EN, 3 + 1280 + 3 */
 #define REGDULYN_MAX_RUN 771       /* bytes of the longest run file: 64 PW, 64 CR, EN, 7 * 64 + 5 * 64 + 3 */
 #define REGDULYN_MAX_LISTING 32768 /* no listing has more bytes */
 
@@ -137,7 +137,10 @@ enum regdulyn_refusal {
     REGDULYN_REFUSED_TOO_MANY_GROUPS = 32,
 
     /* from n and k */
-    REGDULYN_REFUSED_FEW_DRIVES = 33
+    REGDULYN_REFUSED_FEW_DRIVES = 33,
+
+    /* from n and fault groups */
+    REGDULYN_REFUSED_ALL_DRIVES = 34
 };
 
 /* What a refusal means, in English; "accepted" for 0, and a text for a number that is no refusal too. Never NULL. */
@@ -146,10 +149,12 @@ static inline const char *regdulyn_refusal_text(uint32_t refusal)
     switch (refusal) {
     case REGDULYN_ACCEPTED: return "accepted";
     case REGDULYN_REFUSED_ENDS_TOO_SOON: return "the bytes end too soon";
-    case REGDULYN_REFUSED_WRONG_MARK: return "an unknown mark, or one in the wrong place; a call is handed no sets";
+    case REGDULYN_REFUSED_WRONG_MARK:
+        return "an unknown mark, or one in the wrong place; a call is handed no sets or fault groups";
     case REGDULYN_REFUSED_FRAME_SIZE: return "the number of drives is not 1 to 64";
-    case REGDULYN_REFUSED_BAD_SET: return "a set is empty, or has a drive above the number of drives";
-    case REGDULYN_REFUSED_TOO_MANY_SETS: return "more than 128 sets";
+    case REGDULYN_REFUSED_BAD_SET:
+        return "a set is empty, or a set or fault group has a drive above the number of drives";
+    case REGDULYN_REFUSED_TOO_MANY_SETS: return "more than 128 sets or fault groups";
     case REGDULYN_REFUSED_COUNT_DIFFERS: return "the count after EN differs";
     case REGDULYN_REFUSED_TRAILING_BYTES: return "bytes after the end";
     case REGDULYN_REFUSED_DRIVE_NUMBER:
@@ -175,6 +180,7 @@ static inline const char *regdulyn_refusal_text(uint32_t refusal)
     case REGDULYN_REFUSED_THRESHOLD: return "the number of drives that may drop out is not below the number of drives";
     case REGDULYN_REFUSED_TOO_MANY_GROUPS: return "more than 128 groups of n - t drives would be needed";
     case REGDULYN_REFUSED_FEW_DRIVES: return "the frame has k drives or fewer";
+    case REGDULYN_REFUSED_ALL_DRIVES: return "a fault group has all drives of the frame";
     default: return "no refusal has this number";
     }
 }
@@ -245,7 +251,7 @@ typedef struct regdulyn_state_reply {
     uint32_t refusal;
 } regdulyn_state_reply;
 
-/* How many bytes were written, or sets or drives put into lent memory; or, where refusal is not 0, 0. */
+/* How many bytes were written, or sets, groups or drives put into lent memory; or, where refusal is not 0, 0. */
 typedef struct regdulyn_size_reply {
     size_t size;
     uint32_t refusal;
@@ -396,7 +402,7 @@ static inline int regdulyn_drive_talks(const regdulyn_state *state)
     return regdulyn_has_drive(state->core, state->own);
 }
 
-/* ---- tables: reading, writing, cores, verdicts, the way back, simulated exchanges and listings ---- */
+/* ---- tables: reading, writing, fault lists, cores, verdicts, the way back, simulated exchanges and listings ---- */
 
 /*
  * A reply comes back by value, and may have padding between its fields. Its `refusal` is 0 where the call is accepted;
@@ -407,12 +413,17 @@ static inline int regdulyn_drive_talks(const regdulyn_state *state)
  * Masks, sets and tables are as at the head of this file. The normal table of some sets has no set twice and none that
  * holds another, and its sets rise as numbers. Sets may be handed over in any order; a call that needs the normal
  * table makes it.
+ *
+ * A fault list says the same as a table in another way: it is n and 1 to 128 fault groups, each a set of drives that
+ * can fail together, and each survivor set is the frame without one of them. A fault group may be 0, and is never all n
+ * drives. The largest groups of a list are those that are within no other one, each once. Groups may be handed over in
+ * any order; what a call gives are the largest, as they rise as numbers.
  */
 
-/* A table that was read. */
+/* A table, or a fault list, that was read. */
 typedef struct regdulyn_table_reply {
-    size_t count; /* how many sets the normal table has, and so how many were put into `sets` */
-    size_t used;  /* how many bytes the table took, from FR to EN: what stands behind it begins at bytes[used] */
+    size_t count; /* how many sets of the normal table, or largest groups, were put into lent memory */
+    size_t used;  /* how many bytes it took, from FR to EN: what stands behind a table begins at bytes[used] */
     uint32_t refusal;
     uint8_t n; /* the drives of the frame */
 } regdulyn_table_reply;
@@ -516,6 +527,56 @@ regdulyn_table_reply regdulyn_read_whole(const uint8_t *bytes, size_t length, ui
  */
 regdulyn_size_reply regdulyn_write_table(uint8_t n, const uint64_t *sets, size_t count, uint8_t *buffer, size_t room,
                                          size_t start);
+
+/*
+ * Reads the fault list that the bytes are, FR, an FL for each fault group, EN, and puts its largest groups into the
+ * first places of `groups`, as they rise as numbers. `groups` has `room` places: REGDULYN_MAX_SETS are always enough.
+ * The other places stay as they were. Nothing may stand behind the list, so that `used` is `length`. The reply's n,
+ * with the first `count` of the groups, is what regdulyn_table_from_faults takes.
+ *
+ * Refusals: from left to right, at each record 1 its mark is cut, 2 the mark is unknown or not due, as that of an SV
+ * is, 1 the rest of the record is cut, 3 n is not 1 to 64, 5 a 129th group, 4 a group with a drive above n, 34 a group
+ * of all n drives, 6 the count after EN differs; then 7 bytes after the end; 13 the survivor sets have more than 1024
+ * cores; 14 more largest groups than `room`.
+ */
+regdulyn_table_reply regdulyn_read_faults(const uint8_t *bytes, size_t length, uint64_t *groups, size_t room);
+
+/*
+ * Writes the fault list of n drives and `count` fault groups into buffer[start], buffer[start + 1], ..: its largest
+ * groups, as they rise as numbers. The reply's size is how many bytes: 6 and 10 for each largest group. The buffer has
+ * `room` bytes in all, those before `start` among them: REGDULYN_MAX_TABLE from `start` on are always enough. No other
+ * byte of the buffer changes.
+ *
+ * Refusals: 3 n is not 1 to 64; 2 no groups; 5 more than 128; then group by group 4 it has a drive above n, 34 it has
+ * all n drives; 13 the survivor sets have more than 1024 cores; 14 the buffer is too short from `start` on, or `start`
+ * is past its end.
+ */
+regdulyn_size_reply regdulyn_write_faults(uint8_t n, const uint64_t *groups, size_t count, uint8_t *buffer, size_t room,
+                                          size_t start);
+
+/*
+ * The table of a fault list: the normal table of n drives whose survivor sets are the frame without each of `count`
+ * fault groups. Its sets are put into the first places of `sets`, which has `room` places: REGDULYN_MAX_SETS are always
+ * enough. The reply's size is how many there are, and the other places stay as they were. n with these sets is what the
+ * other calls and regdulyn_drive_open take; regdulyn_faults_from_table gives the largest groups back.
+ *
+ * Refusals: 3 n is not 1 to 64; 2 no groups; 5 more than 128; then group by group 4 it has a drive above n, 34 it has
+ * all n drives; 13 the survivor sets have more than 1024 cores; 14 more sets than `room`.
+ */
+regdulyn_size_reply regdulyn_table_from_faults(uint8_t n, const uint64_t *groups, size_t count, uint64_t *sets,
+                                               size_t room);
+
+/*
+ * The fault list of a table: the largest fault groups of n drives and `count` survivor sets, each the frame without a
+ * set of the normal table. They are put into the first places of `groups`, as they rise as numbers. `groups` has
+ * `room` places: REGDULYN_MAX_SETS are always enough. The reply's size is how many there are, and the other places stay
+ * as they were. regdulyn_table_from_faults gives the normal table back.
+ *
+ * Refusals: 3 n is not 1 to 64; 2 no sets; 5 more than 128; 4 a set that is 0 or has a drive above n; 13 more than
+ * 1024 cores; 14 more groups than `room`.
+ */
+regdulyn_size_reply regdulyn_faults_from_table(uint8_t n, const uint64_t *sets, size_t count, uint64_t *groups,
+                                               size_t room);
 
 /*
  * The cores of the table of n drives and `count` sets into the first places of `cores`, which has `room` places:

@@ -17,16 +17,20 @@
  *   H  n 1, group 8, list of sets: the first set of the normal table that the group misses
  *   K  n 1, list of sets: the cores, the chosen one first
  *   T  n 1, t 1: the table of all groups of n - t drives
+ *   F  places 2, length 2, then so many bytes: reads a fault list into so many places, at most 1024
+ *   G  n 1, length 2, starting place 8, list of groups: writes the fault list into a buffer as W does
+ *   P  n 1, places 2, list of groups: the table of a fault list, into so many places, at most 1024
+ *   Q  n 1, places 2, list of sets: the fault list of a table, into so many places, at most 1024
  *   R  n 1, length 2, then so many bytes, list of sets: the simulated exchange of a run file
  *   X  n 1, 64 pattern numbers of 4, mask of the drives that stop 8, 64 rounds of 1, 64 sends of 1, list of sets: the
  *      simulated exchange
  * A list is its count, 2, then so many masks, 8 each; those behind the 1026th are left out. Bytes that are not there
- * count as 0, and as none of a message or a run file; any other letter does nothing. A script has at most 65536 bytes;
- * more are left unread.
+ * count as 0, and as none of a message, a run file or a fault list; any other letter does nothing. A script has at most
+ * 65536 bytes; more are left unread.
  *
  * Each call prints a line with its answer, a send and a writer another one with the whole buffer, which is filled with
  * a5 before, and every operation a line with each field of the state. Ends with 1 where memory that a call was not
- * lent, or a place behind the sets that it gives, has changed.
+ * lent, or a place behind the sets that it gives, has changed, or a number of sets stands beside a refusal.
  */
 #include <inttypes.h>
 #include <stdio.h>
@@ -116,11 +120,24 @@ static void untouched(const void *memory, size_t from, size_t size)
             exit(1);
 }
 
+static void print_groups(regdulyn_table_reply reply)
+{
+    if (accepted(reply.refusal)) {
+        printf("read n %u used %zu groups", (unsigned)reply.n, reply.used);
+        print_masks(lent, reply.count);
+    } else if (reply.n != 0 || reply.used != 0 || reply.count != 0) {
+        exit(1);
+    }
+    untouched(lent, reply.count * sizeof *lent, sizeof lent);
+}
+
 static void print_sets(const char *word, regdulyn_size_reply reply)
 {
     if (accepted(reply.refusal)) {
         printf("%s", word);
         print_masks(lent, reply.size);
+    } else if (reply.size != 0) {
+        exit(1);
     }
     untouched(lent, reply.size * sizeof *lent, sizeof lent);
 }
@@ -286,6 +303,43 @@ static void threshold(void)
     print_sets("found", regdulyn_threshold(n, t, lent, REGDULYN_MAX_SETS));
 }
 
+/* How many places are lent, at most so many as there are. */
+static size_t places(void)
+{
+    size_t given = two_bytes();
+    memset(lent, FILLING, sizeof lent);
+    return given < REGDULYN_MAX_CORES ? given : REGDULYN_MAX_CORES;
+}
+
+static void read_faults(void)
+{
+    size_t room = places(), size;
+    const uint8_t *given = bytes(&size);
+    print_groups(regdulyn_read_faults(given, size, lent, room));
+}
+
+static void write_faults(void)
+{
+    uint8_t n = byte();
+    size_t room = room_within(MOST_WRITTEN), start = (size_t)field(8), count = list();
+    regdulyn_size_reply reply = regdulyn_write_faults(n, masks, count, buffer, room, start);
+    print_written(reply.refusal, reply.size, room);
+}
+
+static void table_from_faults(void)
+{
+    uint8_t n = byte();
+    size_t room = places(), count = list();
+    print_sets("found", regdulyn_table_from_faults(n, masks, count, lent, room));
+}
+
+static void faults_from_table(void)
+{
+    uint8_t n = byte();
+    size_t room = places(), count = list();
+    print_sets("found", regdulyn_faults_from_table(n, masks, count, lent, room));
+}
+
 static void simulate_file(void)
 {
     uint8_t n = byte();
@@ -325,6 +379,10 @@ int main(void)
         case 'H': missed(); break;
         case 'K': cores(); break;
         case 'T': threshold(); break;
+        case 'F': read_faults(); break;
+        case 'G': write_faults(); break;
+        case 'P': table_from_faults(); break;
+        case 'Q': faults_from_table(); break;
         case 'R': simulate_file(); break;
         case 'X': simulate(); break;
         }

@@ -1,30 +1,34 @@
 """Inputs for the programs: accepted ones and damaged ones.
 
-`table_inputs` and `run_inputs` yield bytes. Both start with a fixed list that
-covers every refusal number, every cut of a file and the limits, and go on at
-random. The same seed gives the same inputs. Somewhat more than half are
-accepted. Run files have PR and PW for every drive, for core drives alone, or
-for some listeners too. `long_tables` and `long_runs` yield inputs about as long as the
-programs' buffers, and longer, `hard_tables` tables on which the search for
-cores goes far, and `small_tables` tables of small frames. `threshold_inputs`
-yields n and t around every limit, and `fixed_thresholds` a few, with every
-refusal.
+`table_inputs`, `run_inputs` and `convert_inputs` yield bytes. They start with a
+fixed list that covers every refusal number, every cut of a file and the limits,
+and go on at random. The same seed gives the same inputs. Somewhat more than half
+are accepted. Run files have PR and PW for every drive, for core drives alone, or
+for some listeners too. Inputs of the convert program are tables and fault lists,
+at times with SV and FL in one file. `long_tables`, `long_runs` and `long_converts`
+yield inputs about as long as the programs' buffers, and longer, `hard_tables` tables
+on which the search for cores goes far, `small_tables` tables of small frames, and
+`small_converts` tables and fault lists of these. `threshold_inputs` yields n and t
+around every limit, and `fixed_thresholds` a few, with every refusal.
 """
 
 from itertools import chain, combinations, islice, product
 from random import Random
 from typing import Iterator
 
-from inputs.damage import RUN_DAMAGE, TABLE_DAMAGE, damaged
-from inputs.frames import Frame, accepted_table, crowded_table, full, hard_frames, normal_tables
-from inputs.records import (MARKS, UNKNOWN_MARKS, Crash, Records, crash, frame,
-                            proposal, run, run_records, survivor, table, table_records)
+from inputs import faults
+from inputs.damage import FAULT_DAMAGE, RUN_DAMAGE, TABLE_DAMAGE, damaged
+from inputs.frames import (PAIRS, Frame, accepted_table, crowded_table, full, hard_frames,
+                           normal_tables)
+from inputs.records import (MARKS, UNKNOWN_MARKS, Crash, Records, crash, fault, fault_list,
+                            fault_records, frame, proposal, run, run_records, survivor, table,
+                            table_records)
 from inputs.scenarios import (EDGES, accepted_run, some_left_out, some_wide, spoil_crash,
                               touch_every_set)
 
 # The refusals that each program can print.
 REFUSALS = {"table": {1, 2, 3, 4, 5, 6, 7, 13}, "run": {1, 2, 3, 4, 5, 6, 7, 8, 9, 10, 11, 13},
-            "threshold": {1, 3, 7, 13, 31, 32}}
+            "threshold": {1, 3, 7, 13, 31, 32}, "convert": {1, 2, 3, 4, 5, 6, 7, 13, 34}}
 
 
 # Long inputs
@@ -79,6 +83,9 @@ def fixed_refused() -> Iterator[bytes]:
     yield from (whole[:-1] + bytes([count]) for count in (0, 1, 2, 4, 255))
     yield from (whole + more for more in (b"\0", b"E", b"EN\3", whole))
     yield whole[:-1] + b"\4\0"
+    yield from (fault_list(n, faults.rests(n, sets)), frame(6) + fault(0), frame(6) + fault(0)[:9])
+    yield from (frame(6) + survivor(1) + fault(mask) + tail for mask in (0, 2) for tail in (b"", b"EN\2"))
+    yield from (frame(6) + survivor(1) + fault(1)[:9], whole[:-3] + fault(1), whole + fault(1))
 
 
 def fixed_limits() -> Iterator[bytes]:
@@ -232,6 +239,9 @@ def fixed_run_refusals() -> Iterator[bytes]:
     for wrong in (b"PR\1\7\0\0\0", b"PW\1\7\0", b"PW\1\7\0\0\0\0", b"PW\2\7\0", b"PW\2\7\0\0\0"):
         yield first + wrong
         yield first + wrong + head[5:] + b"EN\0"
+    for behind in (b"", head, head + crash(2, 1, 1)):
+        yield from (first + behind + fault(1), first + behind + fault(0) + b"EN\1")
+    yield fault_list(6, [3, 0x3D, 0x3E]) + head + b"EN\0"
     touched = first + head + crash(1, 1, 0) + crash(2, 1, 0) + crash(3, 1, 0)
     yield from (touched + tail for tail in (b"EN\3", b"EN\2", b"EN\3\0", b"EN", crash(4, 1, 0)))
     yield first + proposal(2, 1) + head
@@ -324,3 +334,80 @@ def threshold_inputs() -> Iterator[bytes]:
     for n in (*range(67), 128, 255):
         around = {t for t in (*range(6), *range(n - 5, n + 2), 254, 255) if 0 <= t <= 255}
         yield from (bytes([n, t]) for t in sorted(around))
+
+
+# Convert inputs
+
+WHOLE_LIST = fault_list(6, [3, 0x3D, 0x3E])
+LARGEST_LIST = fault_list(64, [0] * 128)
+
+
+def fixed_converts() -> Iterator[bytes]:
+    """Tables and fault lists that are accepted: the stated ones, and those at the limits."""
+    for n, sets, groups in faults.STATED:
+        yield from (fault_list(n, groups), table(n, sets))
+    yield from (fault_list(n, groups) for n, groups, _ in faults.LISTED)
+    yield from (fault_list(n, groups) for n, groups in faults.LARGE)
+    yield from (table(*found) for found in fixed_frames())
+    yield from (LARGEST_LIST, LARGEST_TABLE)
+
+
+def fixed_convert_refusals() -> Iterator[bytes]:
+    """Files with stated refusals, as fault lists or as tables; a table and a list cut at every byte,
+    with bytes behind them, and of other counts."""
+    yield from (data for data, due in faults.FILES if due)
+    for whole in (WHOLE_LIST, table(*EXAMPLE)):
+        yield from (whole[:length] for length in range(len(whole)))
+        yield from (whole + more for more in (b"\0", b"EN\3", WHOLE_LIST, table(*EXAMPLE)))
+        yield from (whole[:-1] + bytes([count]) for count in (0, 2, 4, 255))
+    yield from (table(6, [mask]) for mask in (0, 0x40, 0x3F, full(64)))
+    yield from (table(wrong, [1]) for wrong in (0, 65))
+    yield from (table(22, PAIRS), table(22, PAIRS) + b"\0", table(3, [1] * 129))
+
+
+def long_converts() -> Iterator[bytes]:
+    """Lists and tables with bytes behind them, and such as do not end."""
+    crowd = fault_list(22, faults.CROWD)
+    yield from (LARGEST_LIST, crowd + bytes(BUFFER), fault_list(64, [full(63)] * 127 + [full(64)]))
+    for start, more in ((WHOLE_LIST, b"\0"), (WHOLE_LIST, WHOLE_LIST), (LARGEST_LIST, b"\0"),
+                        (LARGEST_LIST, LARGEST_TABLE), (LARGEST_TABLE, LARGEST_LIST),
+                        (WHOLE_LIST[:-1] + b"\2", b"\0"), (frame(6), fault(1)),
+                        (frame(6) + fault(1), fault(0x3F)), (frame(6) + fault(1) * 128, fault(full(64))),
+                        (frame(6), survivor(1)), (frame(6) + fault(1), survivor(1)), (b"", b"\0")):
+        yield from around_buffer(start, more)
+
+
+def small_converts() -> Iterator[bytes]:
+    """Of up to two drives every fault list of up to three groups, of three every one of up to two, of
+    three and four some of more; every mark that is not due; every normal table of up to four drives."""
+    for n, most in ((1, 3), (2, 3), (3, 2)):
+        yield from (fault_list(n, groups) for groups in faults.short_lists(n, most))
+    yield from (fault_list(3, groups) for groups in faults.falling_lists(3, 4))
+    yield from (fault_list(4, groups) for groups in islice(faults.falling_lists(4, 3), 0, None, 7))
+    yield from (data for data, _ in faults.wrong_marks())
+    for n, sets in normal_tables(4):
+        yield table(n, sets)
+
+
+def random_converts(rng: Random) -> Iterator[bytes]:
+    while True:
+        chance = rng.random()
+        accepted, crowded, records, damage = rng.choice((
+            (faults.accepted_list, faults.crowded_list, fault_records, FAULT_DAMAGE),
+            (faults.accepted_list, faults.crowded_list, fault_records, FAULT_DAMAGE),
+            (accepted_table, crowded_table, table_records, TABLE_DAMAGE)))
+        if chance < 0.72:
+            yield b"".join(records(*accepted(rng)))
+        elif chance < 0.75:
+            yield b"".join(records(*crowded(rng)))
+        elif chance < 0.76:
+            yield rng.randbytes(rng.randint(0, 40))
+        else:
+            found = crowded(rng) if chance < 0.78 else accepted(rng)
+            yield damaged(rng, records(*found), damage)
+
+
+def convert_inputs(seed: int, count: int) -> Iterator[bytes]:
+    """So many inputs of the convert program."""
+    fixed = chain(fixed_converts(), fixed_convert_refusals())
+    return islice(chain(fixed, random_converts(Random(seed))), count)

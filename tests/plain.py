@@ -85,6 +85,31 @@ def every_split_has_a_core(n: int, k: int, all_cores: list[int]) -> bool:
     return True
 
 
+def failing(n: int, groups: list[int]) -> list[int]:
+    """The sets of drives that can fail together: those within a fault group."""
+    return [s for s in range(1 << n) if any(s | group == group for group in groups)]
+
+
+def failing_by_table(n: int, sets: list[int]) -> list[int]:
+    """The same by a table: those of whose rest some survivor set is a part."""
+    return [s for s in range(1 << n) if any((1 << n) - 1 - s | mask == (1 << n) - 1 - s for mask in sets)]
+
+
+def largest(family: list[int]) -> list[int]:
+    """Those that are a part of no other, by mask."""
+    return sorted({s for s in family if not any(s != other and s | other == other for other in family)})
+
+
+def groups_refusal(n: int, groups: list[int]) -> int:
+    """The number that the masks of a fault list of at most 128 meet, 0 for none."""
+    for group in groups:
+        if group >= 1 << n:
+            return 4
+        if bin(group).count("1") == n:
+            return 34
+    return 0
+
+
 def proposals_refusal(n: int, core: set[int], listed: list[int], mark: bytes) -> int:
     """The number that the PR and PW of a run file meet, of these drives one after the other, all
     whole; or, where they meet none, what stands behind them: 0 where CR or EN may stand there."""

@@ -1,5 +1,5 @@
 #!/usr/bin/env python3
-"""Checks of the reference: document 01's marked cases through the two
+"""Checks of the reference: document 01's marked cases through the
 scripts, the order of refusals, and everything else against the plain
 definitions on small frames.
 
@@ -12,7 +12,7 @@ from pathlib import Path
 ROOT = Path(__file__).resolve().parent.parent
 sys.path[:0] = [str(ROOT / "reference"), str(ROOT / "tests"), str(ROOT / "tools")]
 
-from cases import (calls, definitions, drives, exchanges, files, generated,  # noqa: E402
+from cases import (calls, definitions, drives, exchanges, faults, files, generated,  # noqa: E402
                    marked, proposals, samples, thresholds)
 
 GROUPS = (
@@ -22,6 +22,9 @@ GROUPS = (
     definitions.table_definitions, definitions.verdict_definitions, definitions.wide_tables,
     definitions.large_tables,
     thresholds.threshold_samples, thresholds.threshold_pairs, thresholds.count_cases,
+    faults.fault_samples, faults.fault_file_refusals, faults.fault_call_refusals,
+    faults.fault_writer_cases, faults.fault_definitions, faults.fault_tables, faults.fault_round_trips,
+    faults.fault_limits,
     drives.opening_cases, drives.state_refusals, drives.send_cases, drives.message_refusals,
     drives.value_cases, drives.message_cases, drives.close_cases,
     samples.call_samples, samples.run_samples,

@@ -1,7 +1,9 @@
 /*
- * The table calls from C through the header alone, on the table of case A (six drives, sets 1, 2, 3c) and on what they
- * refuse. What it prints is stored in tests/table_calls.out. It ends with 1 where lent memory changes that should not,
- * and where a listener's number in a scenario, or its record in a run file, changes a reply.
+ * The table calls from C through the header alone, on the table of case A (six drives, sets 1, 2, 3c), on the fault
+ * list of case C (four drives, groups 3, 4, 8), and on what they refuse. What it prints is stored in
+ * tests/table_calls.out. It ends with 1 where lent memory changes that should not, where a listener's number in a
+ * scenario, or its record in a run file, changes a reply, and where a call of a short fault list does not answer what
+ * the definition gives.
  */
 #include <inttypes.h>
 #include <stdio.h>
@@ -185,6 +187,195 @@ static void listeners(void)
     printf("listeners: %u replies, as they are due\n", replies);
 }
 
+/* What is due of a fault list of up to three masks: the refusal, or the largest groups and the sets of the table. */
+typedef struct due_list {
+    uint32_t refusal;
+    size_t count;
+    uint64_t largest[3], sets[3];
+} due_list;
+
+static due_list due_of(unsigned n, const uint64_t *groups, size_t size)
+{
+    due_list due = {0, 0, {0}, {0}};
+    uint64_t all = ((uint64_t)1 << n) - 1;
+    for (size_t i = 0; i < size && due.refusal == 0; i++)
+        due.refusal = groups[i] > all ? 4 : groups[i] == all ? 34 : 0;
+    for (uint64_t set = 0; set < all && due.refusal == 0; set++) {
+        int listed = 0, larger = 0;
+        for (size_t i = 0; i < size; i++) {
+            listed = listed || groups[i] == set;
+            larger = larger || (groups[i] != set && (groups[i] & set) == set);
+        }
+        if (listed && !larger)
+            due.largest[due.count++] = set;
+    }
+    for (size_t i = 0; i < due.count; i++)
+        due.sets[i] = all - due.largest[due.count - 1 - i];
+    return due;
+}
+
+/* Ends with 1 where a reply is not the refusal, or not these masks with nothing behind them. */
+static void hold(const uint64_t *groups, uint32_t found, size_t size, uint32_t refusal, const uint64_t *masks,
+                 size_t due)
+{
+    size_t kept = refusal == 0 ? due : 0;
+    if (found != refusal || size != kept || memcmp(lent, masks, kept * sizeof *lent) != 0) {
+        printf("fault lists: a reply differs, groups %" PRIx64 " %" PRIx64 " %" PRIx64 "\n", groups[0], groups[1],
+               groups[2]);
+        exit(1);
+    }
+    untouched(lent, sizeof lent, 0, kept * sizeof *lent);
+    memset(lent, UNTOUCHED, kept * sizeof *lent);
+}
+
+/* The calls of one list, with as many places as it needs, and with one less. */
+static void hold_list(uint8_t n, const uint64_t *groups, size_t size)
+{
+    due_list due = due_of(n, groups, size);
+    uint8_t file[REGDULYN_MAX_TABLE];
+    for (size_t less = 0; less < 2; less++) {
+        uint32_t refusal = due.refusal != 0 ? due.refusal : less == 0 ? 0 : 14;
+        size_t room = due.refusal != 0 ? 3 : due.count - less;
+        regdulyn_size_reply reply = regdulyn_table_from_faults(n, groups, size, lent, room);
+        hold(groups, reply.refusal, reply.size, refusal, due.sets, due.count);
+        if (due.refusal == 0) {
+            reply = regdulyn_faults_from_table(n, due.sets, due.count, lent, room);
+            hold(groups, reply.refusal, reply.size, refusal, due.largest, due.count);
+        }
+        memset(file, UNTOUCHED, sizeof file);
+        reply = regdulyn_write_faults(n, groups, size, file, 4 + 6 + 10 * due.count - less, 4);
+        size_t written = refusal == 0 ? 6 + 10 * due.count : 0;
+        hold(groups, reply.refusal, reply.size == written ? 0 : 1, refusal, due.sets, 0);
+        untouched(file, sizeof file, 4, 4 + written);
+        if (refusal != 0)
+            continue;
+        for (size_t fewer = 0; fewer < 2; fewer++) {
+            regdulyn_table_reply read = regdulyn_read_faults(file + 4, written, lent, due.count - fewer);
+            hold(groups, read.refusal, read.count, fewer == 0 ? 0 : 14, due.largest, due.count);
+            if (read.n != (fewer == 0 ? n : 0) || read.used != (fewer == 0 ? written : 0)) {
+                printf("fault lists: n %u, used %zu\n", (unsigned)read.n, read.used);
+                exit(1);
+            }
+        }
+    }
+}
+
+/* Every list of one to three masks of up to three drives, all drives and two masks with a drive above n among them. */
+static void short_fault_lists(void)
+{
+    unsigned lists = 0;
+    fresh();
+    for (unsigned n = 1; n <= 3; n++) {
+        unsigned many = (1u << n) + 2, ways = 1;
+        for (size_t size = 1; size <= 3; size++) {
+            ways *= many;
+            for (unsigned i = 0; i < ways; i++, lists++) {
+                uint64_t groups[3] = {i % many, i / many % many, i / many / many};
+                hold_list((uint8_t)n, groups, size);
+            }
+        }
+    }
+    printf("fault lists: %u, as they are due\n", lists);
+}
+
+static void print_written(const char *name, regdulyn_size_reply reply, size_t start)
+{
+    printf("%s: %zu, refusal %" PRIu32 "\n", name, reply.size, reply.refusal);
+    if (reply.size != 0) {
+        printf("   ");
+        for (size_t i = 0; i < reply.size; i++)
+            printf(" %02x", (unsigned)text[start + i]);
+        printf("\n");
+    }
+    untouched(text, sizeof text, start, start + reply.size);
+    fresh();
+}
+
+static void print_groups(const char *name, regdulyn_size_reply reply)
+{
+    print_sets(name, reply);
+    fresh();
+}
+
+static void print_list(const char *name, regdulyn_table_reply reply)
+{
+    print_table(name, reply);
+    fresh();
+}
+
+/* Case C, listed falling, with a repeat and with groups within others; then faults of each kind. */
+static void fault_lists(void)
+{
+    static const uint64_t groups[] = {8, 1, 4, 3, 4, 0};
+    static const uint64_t c[] = {0xc, 0xf, 7, 0xb};
+    static const uint64_t all_then_above[] = {3, 0xf, 0x10}, above_then_all[] = {3, 0x1f, 0xf};
+    static const uint64_t zeros[REGDULYN_MAX_SETS + 1] = {0};
+    static const uint64_t wide[] = {0x7fffffffffffffff, 0xfffffffffffffffe, 1}, whole[] = {0xffffffffffffffff};
+    uint64_t crowd[11];
+    for (unsigned i = 0; i < 11; i++)
+        crowd[i] = 0x3fffff - ((uint64_t)3 << 2 * i);
+    fresh();
+    print_groups("table from faults", regdulyn_table_from_faults(4, groups, 6, lent, 3));
+    print_groups("table from faults, 2 places", regdulyn_table_from_faults(4, groups, 6, lent, 2));
+    print_groups("table from faults, no groups", regdulyn_table_from_faults(4, NULL, 0, lent, 3));
+    print_groups("table from faults, n 65", regdulyn_table_from_faults(65, groups, 6, lent, 3));
+    print_groups("table from faults, n 3", regdulyn_table_from_faults(3, groups, 6, lent, 3));
+    print_groups("table from faults, all drives", regdulyn_table_from_faults(4, all_then_above, 3, lent, 3));
+    print_groups("table from faults, above n", regdulyn_table_from_faults(4, above_then_all, 3, lent, 3));
+    print_groups("table from faults, 128 of none", regdulyn_table_from_faults(4, zeros, 128, lent, 1));
+    print_groups("table from faults, 129 of none", regdulyn_table_from_faults(4, zeros, 129, lent, 1));
+    print_groups("table from faults, n 64", regdulyn_table_from_faults(64, wide, 3, lent, 2));
+    print_groups("table from faults, n 64, all drives", regdulyn_table_from_faults(64, whole, 1, lent, 2));
+    print_groups("table from faults, n 1", regdulyn_table_from_faults(1, zeros, 1, lent, 1));
+    print_groups("table from faults, too many cores", regdulyn_table_from_faults(22, crowd, 11, lent, 0));
+    print_groups("table from faults, 1024 cores", regdulyn_table_from_faults(22, crowd, 10, lent, 10));
+
+    print_groups("faults from table", regdulyn_faults_from_table(4, c, 4, lent, 3));
+    print_groups("faults from table, 2 places", regdulyn_faults_from_table(4, c, 4, lent, 2));
+    print_groups("faults from table, case A", regdulyn_faults_from_table(6, sets, count, lent, REGDULYN_MAX_SETS));
+    print_groups("faults from table, no sets", regdulyn_faults_from_table(4, NULL, 0, lent, 3));
+    print_groups("faults from table, a set of 0", regdulyn_faults_from_table(4, zeros, 1, lent, 3));
+    print_groups("faults from table, 129 sets", regdulyn_faults_from_table(4, zeros, 129, lent, 3));
+    print_groups("faults from table, n 64", regdulyn_faults_from_table(64, whole, 1, lent, 1));
+
+    print_written("write faults", regdulyn_write_faults(4, groups, 6, text, 5 + 36, 5), 5);
+    print_written("write faults, a byte short", regdulyn_write_faults(4, groups, 6, text, 5 + 35, 5), 5);
+    print_written("write faults, at the end", regdulyn_write_faults(4, groups, 6, text, 36, 36), 36);
+    print_written("write faults, past the end", regdulyn_write_faults(4, groups, 6, text, 36, 37), 37);
+    print_written("write faults, all drives", regdulyn_write_faults(4, all_then_above, 3, text, 0, 1), 1);
+    print_written("write faults, above n", regdulyn_write_faults(4, above_then_all, 3, text, 0, 1), 1);
+    print_written("write faults, too many cores", regdulyn_write_faults(22, crowd, 11, text, 0, 1), 1);
+
+    uint8_t file[37];
+    regdulyn_write_faults(4, groups, 6, text, sizeof text, 0);
+    memcpy(file, text, 36);
+    file[36] = 0;
+    fresh();
+    print_list("read faults", regdulyn_read_faults(file, 36, lent, 3));
+    print_list("read faults, 2 places", regdulyn_read_faults(file, 36, lent, 2));
+    print_list("read faults, a byte short", regdulyn_read_faults(file, 35, lent, 3));
+    print_list("read faults, a byte more", regdulyn_read_faults(file, 37, lent, 3));
+    print_list("read whole, a fault list", regdulyn_read_whole(file, 36, lent, 3));
+    file[35] = 2;
+    print_list("read faults, another count and a byte more", regdulyn_read_faults(file, 37, lent, 3));
+    file[25] = 15;
+    print_list("read faults, all drives", regdulyn_read_faults(file, 36, lent, 3));
+    file[25] = 31;
+    print_list("read faults, above n", regdulyn_read_faults(file, 36, lent, 3));
+    file[13] = 'S', file[14] = 'V';
+    print_list("read faults, an SV", regdulyn_read_faults(file, 36, lent, 3));
+    file[3] = 'E', file[4] = 'N';
+    print_list("read faults, EN first", regdulyn_read_faults(file, 36, lent, 3));
+
+    print_sets("table from faults, no places", regdulyn_table_from_faults(4, groups, 6, NULL, 0));
+    print_sets("table from faults, all drives, no places", regdulyn_table_from_faults(4, all_then_above, 3, NULL, 0));
+    print_sets("faults from table, no places", regdulyn_faults_from_table(4, c, 4, NULL, 0));
+    print_text("write faults, no places", regdulyn_write_faults(4, groups, 6, NULL, 0, 0), 0);
+    print_text("write faults, no groups and no places", regdulyn_write_faults(4, NULL, 0, NULL, 0, 0), 0);
+    print_table("read faults, no bytes and no places", regdulyn_read_faults(NULL, 0, NULL, 0));
+    short_fault_lists();
+}
+
 static const uint8_t run[] = {'P', 'R', 1, 7, 0, 'P', 'R', 2, 5, 0, 'P', 'R', 3, 9, 0, 'P', 'R', 4, 1, 0, 'P', 'R',
                               5,   1,   0, 'P', 'R', 6, 1, 0, 'C', 'R', 2, 1, 1, 'E', 'N', 1};
 
@@ -299,5 +490,7 @@ int main(void)
     print_text("listing of a table of no bytes", regdulyn_table_listing(NULL, 0, text, sizeof text, 8), 8);
     fresh();
     print_text("listing of a run of no bytes", regdulyn_run_listing(NULL, 0, text, 10, 0), 0);
+
+    fault_lists();
     return 0;
 }

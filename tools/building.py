@@ -235,7 +235,7 @@ def built(product: Product) -> Path:
 
 
 # The crates whose calls include/regdulyn.h declares.
-LIBRARY = ("controller", "table_calls", "run_calls")
+LIBRARY = ("controller", "table_calls", "fault_calls", "run_calls")
 
 
 def library() -> Path:
@@ -265,7 +265,7 @@ def join(archives: list[Path], made: Path, ar: str, lock: int) -> None:
 
 
 def listing(kind: str, data: bytes) -> bytes:
-    """What the proved program of a kind, table, run or threshold, prints for its input."""
+    """What the proved program of a kind, table, run, convert or threshold, prints for its input."""
     path = built(program_of(f"{kind}_program"))
     try:
         try:

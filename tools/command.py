@@ -99,6 +99,10 @@ class Use(NamedTuple):
     def listing(self, kind: str, data: bytes) -> bytes:
         return answer(kind, data, self.unproved)
 
+    def further(self, kind: str, data: bytes) -> bytes:
+        """Another listing for the same use: that it is not proved is said with the first."""
+        return (model.listing if self.unproved else building.listing)(kind, data)
+
 
 def end_of(number: int, hint: str = "") -> int:
     """The exit status, with a refusal's meaning on standard error."""
@@ -111,8 +115,11 @@ def hint_for(kind: str, data: bytes, number: int) -> str:
     """What a refused file may have been meant for."""
     if number == 2 and texts.looks_like(data):
         return "; this looks like a text, of which ./regdulyn make makes a file"
-    if kind == "table" and number == 7 and model.kind_of(data) == "run":
-        return "; a run file stands behind the table, and ./regdulyn run reads both"
+    if kind != "convert" and number == 2 and model.is_fault_list(data):
+        return "; this is a fault list, of which ./regdulyn convert makes a table"
+    if kind != "run" and number == 7 and model.kind_of(data) == "run":
+        return "; a run file stands behind the table, and " + (
+            "./regdulyn run reads both" if kind == "table" else "convert takes a table alone")
     if kind == "run" and number == 1 and not model.refusal_of("table", data):
         return "; there is no run file behind the table"
     return ""
@@ -178,11 +185,19 @@ def show(use: Use) -> int:
     return end_of(number)
 
 
+def table_listing(use: Use, contents: model.Contents) -> bytes:
+    """The listing of the table, or of the one that a fault list converts to; or the refusal."""
+    if not contents.faults:
+        return use.listing("table", model.table_bytes(contents))
+    made = use.listing("convert", model.file_bytes(contents))
+    return made if model.refusal_in(made) else use.further("table", made)
+
+
 def explain(use: Use) -> int:
     contents, number = readable(use)
-    printed = use.listing("table", model.table_bytes(contents))
+    printed = table_listing(use, contents)
     if model.refusal_in(printed):
-        lines = list(explaining.set_lines(contents.sets, contents.drives))
+        lines = list(explaining.refused_lines(contents))
     else:
         lines = list(explaining.table_lines(contents, printed))
         if contents.patterns is not None:
@@ -193,26 +208,35 @@ def explain(use: Use) -> int:
 
 def picture(use: Use) -> int:
     data = read_file(use.file, MOST_BYTES)
-    kind = model.kind_of(data)
+    kind = "run" if model.kind_of(data) == "run" else "table"
     printed = use.listing(kind, data)
     number = model.refusal_in(printed)
     if not number:
-        quiet, name = model.listing if use.unproved else building.listing, spoken(use.file)
+        name = spoken(use.file)
         try:
             drawn = draw(kind, Path(name).name, data, printed.decode("ascii", "replace"),
-                         lambda other: quiet("run", other).decode("ascii", "replace"))
+                         lambda other: use.further("run", other).decode("ascii", "replace"))
         except Unfit as unfit:
             raise Failure(NO_PROGRAM, f"cannot draw {name}: {unfit}") from unfit
         write(drawn.encode())
     return end_of(number, hint_for(kind, data, number))
 
 
-def threshold(n: int, t: int, unproved: bool) -> int:
-    printed = answer("threshold", bytes([n, t]), unproved)
+def write_made(kind: str, data: bytes, unproved: bool) -> int:
+    """Writes the file that a program makes, unless it refuses its input."""
+    printed = answer(kind, data, unproved)
     number = model.refusal_in(printed)
     if not number:
-        write_file("threshold", printed)
-    return end_of(number)
+        write_file(kind, printed)
+    return end_of(number, hint_for(kind, data, number))
+
+
+def convert(use: Use) -> int:
+    return write_made("convert", read_file(use.file, MOST_BYTES), use.unproved)
+
+
+def threshold(n: int, t: int, unproved: bool) -> int:
+    return write_made("threshold", bytes([n, t]), unproved)
 
 
 def missed(use: Use, given: list[int]) -> int:
@@ -236,11 +260,12 @@ def library() -> int:
 COMMANDS: dict[str, tuple[Callable[[Use], int], str]] = {
     "table": (table, helps.TABLE), "run": (run, helps.RUN), "explain": (explain, helps.EXPLAIN),
     "picture": (picture, helps.PICTURE), "make": (make, helps.MAKE), "show": (show, helps.SHOW),
+    "convert": (convert, helps.CONVERT),
 }
 HELPS = {name: text for name, (_, text) in COMMANDS.items()} | {
     "missed": helps.MISSED, "threshold": helps.THRESHOLD, "library": helps.LIBRARY}
 # The commands that a proved program answers.
-PROVED = ("table", "run", "explain", "missed", "picture", "threshold")
+PROVED = ("table", "run", "explain", "missed", "picture", "convert", "threshold")
 
 
 # Words of the command line

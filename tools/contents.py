@@ -1,6 +1,7 @@
 """What a file says, as numbers: the frame, its survivor sets and, with a run file behind the table, pattern numbers
-and stops. Numbers stand as they are written, so a refused file has contents too, as long as it is a row of whole
-records in their order. To bytes, from bytes, and the refusal that the second program has for them.
+and stops; or, of a fault list, the frame and its fault groups. Numbers stand as they are written, so a refused file has
+contents too, as long as it is a row of whole records in their order. To bytes, from bytes, and the refusal that the
+second program has for them.
 """
 
 import sys
@@ -12,8 +13,9 @@ sys.path.insert(0, str(Path(__file__).resolve().parent.parent / "reference"))
 
 import regdulyn  # noqa: E402
 from regdulyn.masks import bit  # noqa: E402
-from regdulyn.records import (CRASH, END, FRAME, MASK_WIDTH, PATTERN_WIDTH, PROPOSAL,  # noqa: E402
+from regdulyn.records import (CRASH, END, FAULT, FRAME, MASK_WIDTH, PATTERN_WIDTH, PROPOSAL,  # noqa: E402
                               PROPOSAL_WIDTHS, SURVIVOR, number)
+from regdulyn.tables import list_file  # noqa: E402
 
 
 class Place(NamedTuple):
@@ -33,16 +35,20 @@ class Stop(NamedTuple):
 @dataclass
 class Contents:
     """`drives` is None where a text gives no number. `patterns` has the pattern numbers by drive, rising; it is None
-    where no run file stands behind the table, or a text has stops and no line `patterns`."""
+    where no run file stands behind the table, or a text has stops and no line `patterns`. A fault list has `faults` in
+    place of all but `drives`."""
 
     drives: Optional[int] = None
     sets: list[int] = field(default_factory=list)
     patterns: Optional[dict[int, int]] = None
     stops: list[Stop] = field(default_factory=list)
+    faults: list[int] = field(default_factory=list)
 
     @property
     def kind(self) -> str:
         """The program that reads the file."""
+        if self.faults:
+            return "convert"
         return "table" if self.patterns is None and not self.stops else "run"
 
 
@@ -63,12 +69,13 @@ def of_core(contents: Contents) -> Contents:
 
 def table_bytes(contents: Contents) -> bytes:
     """The records of the table, numbers as they stand."""
-    sets = b"".join(SURVIVOR + mask.to_bytes(MASK_WIDTH, "little") for mask in contents.sets)
-    return FRAME + bytes([contents.drives]) + sets + END + bytes([len(contents.sets)])
+    return list_file(contents.drives, SURVIVOR, contents.sets)
 
 
 def file_bytes(contents: Contents) -> bytes:
     """The records of the whole file, numbers as they stand: a PW for each pattern number."""
+    if contents.kind == "convert":
+        return list_file(contents.drives, FAULT, contents.faults)
     if contents.kind == "table":
         return table_bytes(contents)
     patterns = b"".join(PROPOSAL + bytes([drive]) + value.to_bytes(PATTERN_WIDTH, "little")
@@ -124,6 +131,11 @@ class Scanner:
         if count != records:
             raise Unreadable(start, f"EN counts {count}, and there are {records} {mark.decode()}")
 
+    def end(self, what: str) -> None:
+        """Nothing may stand behind this."""
+        if self.offset < len(self.data):
+            raise Unreadable(self.offset, f"the {what} has ended, and bytes follow")
+
 
 def shown_bytes(found: bytes) -> str:
     """Bytes as a reader can recognise them."""
@@ -137,13 +149,25 @@ def file_contents(data: bytes) -> tuple[Contents, dict[Place, int]]:
     scanner.mark(FRAME)
     [contents.drives] = scanner.fields(1)
     offsets[Place("drives")] = 0
-    while scanner.mark(SURVIVOR, END) == SURVIVOR:
-        offsets[Place("set", len(contents.sets))] = scanner.offset - 2
-        contents.sets += scanner.fields(MASK_WIDTH)
+    due = (SURVIVOR, FAULT, END)
+    while (mark := scanner.mark(*due)) != END:
+        word, masks = ("set", contents.sets) if mark == SURVIVOR else ("fault", contents.faults)
+        due = (mark, END)
+        offsets[Place(word, len(masks))] = scanner.offset - 2
+        masks += scanner.fields(MASK_WIDTH)
+    if contents.faults:
+        scanner.count(len(contents.faults), FAULT)
+        scanner.end("fault list")
+        return contents, offsets
     scanner.count(len(contents.sets), SURVIVOR)
     if scanner.offset < len(data):
         _run_contents(scanner, contents, offsets)
     return contents, offsets
+
+
+def is_fault_list(data: bytes) -> bool:
+    """Whether a file starts as a fault list does."""
+    return data[:2] == FRAME and data[3:5] == FAULT
 
 
 def starts_run(rest: bytes) -> bool:
@@ -173,12 +197,13 @@ def _run_contents(scanner: Scanner, contents: Contents, offsets: dict[Place, int
             offsets[Place("stop", len(contents.stops))] = at
             contents.stops.append(Stop(*scanner.fields(1, 1, 1)))
     scanner.count(len(contents.stops), CRASH)
-    if scanner.offset < len(scanner.data):
-        raise Unreadable(scanner.offset, "the run file has ended, and bytes follow")
+    scanner.end("run file")
 
 
 def kind_of(data: bytes) -> str:
-    """The program that a file is for: run where a run file starts behind its table."""
+    """The program that a file is for: run where a run file starts behind its table, convert for a fault list."""
+    if is_fault_list(data):
+        return "convert"
     scanner = Scanner(data)
     try:
         scanner.mark(FRAME)
@@ -193,18 +218,21 @@ def kind_of(data: bytes) -> str:
 
 # The second program's answer
 
-PROGRAMS = {"table": regdulyn.table_program, "run": regdulyn.run_program, "threshold": regdulyn.threshold_program}
+PROGRAMS = {"table": regdulyn.table_program, "run": regdulyn.run_program, "convert": regdulyn.convert_program,
+            "threshold": regdulyn.threshold_program}
 
 
 def listing(kind: str, data: bytes) -> bytes:
-    """What the second program of a kind, table, run or threshold, prints for its input."""
+    """What the second program of a kind, table, run, convert or threshold, prints for its input."""
     return PROGRAMS[kind](data)
 
 
 def refusal_of(kind: str, data: bytes) -> int:
     """The number with which the second program of a kind refuses a file, 0 if it does not."""
     try:
-        if kind == "table":
+        if kind == "convert" and is_fault_list(data):
+            regdulyn.read_faults(data)
+        elif kind != "run":
             regdulyn.read_table(data)
         else:
             n, sets, rest = regdulyn.read_table_with_rest(data)

@@ -20,8 +20,8 @@ OF_FILES = {
     1: "the bytes end too soon",
     2: "an unknown mark, or one in the wrong place",
     3: "the number of drives is not 1 to 64",
-    4: "a set is empty, or has a drive above the number of drives",
-    5: "more than 128 sets",
+    4: "a set is empty, or a set or fault group has a drive above the number of drives",
+    5: "more than 128 sets or fault groups",
     6: "the count after EN differs",
     7: "bytes after the end",
     8: "a drive number outside the frame, not above the last, or above a core drive whose PR or PW is missing",
@@ -29,6 +29,7 @@ OF_FILES = {
     10: "a stop has more sends than the drive can make",
     11: "every survivor set has a drive that stops",
     13: "more than 1024 cores",
+    34: "a fault group has all drives of the frame",
 }
 
 # All that a command can meet, those that only n and t can meet too.

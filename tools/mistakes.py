@@ -3,7 +3,7 @@ the first refusal alone."""
 
 from bisect import bisect
 from itertools import groupby
-from typing import Iterator, NamedTuple
+from typing import Iterator, NamedTuple, Optional
 
 import regdulyn
 from contents import Contents, Place, counted, drive_list
@@ -25,6 +25,9 @@ def found_in(contents: Contents, whole: bool = True) -> Iterator[Mistake]:
     framed = n is not None and 1 <= n <= MAX_DRIVES
     if n is not None and not framed:
         yield Mistake(Place("drives"), f"{n} drives, and there are 1 to {MAX_DRIVES}")
+    if contents.faults:
+        yield from _fault_list_mistakes(contents.faults, n if framed else None, whole)
+        return
     in_sets = list(_set_mistakes(contents, n if framed else MAX_DRIVES))
     yield from in_sets
     if whole and not contents.sets:
@@ -42,13 +45,41 @@ def found_in(contents: Contents, whole: bool = True) -> Iterator[Mistake]:
 
 def _set_mistakes(contents: Contents, n: int) -> Iterator[Mistake]:
     for index, mask in enumerate(contents.sets):
-        above = drives(mask & ~all_drives(n))
+        place = Place("set", index)
         if index == MAX_SETS:
-            yield Mistake(Place("set", index), f"set number {index + 1}, and a table has at most {MAX_SETS}")
+            yield Mistake(place, f"set number {index + 1}, and a table has at most {MAX_SETS}")
         if mask == 0:
-            yield Mistake(Place("set", index), "the set is empty")
-        if above:
-            yield Mistake(Place("set", index), f"{drive_list(above)} above the number of drives, {n}")
+            yield Mistake(place, "the set is empty")
+        yield from _above_mistakes(place, mask, n)
+
+
+def _above_mistakes(place: Place, mask: int, n: int) -> Iterator[Mistake]:
+    above = drives(mask & ~all_drives(n))
+    if above:
+        yield Mistake(place, f"{drive_list(above)} above the number of drives, {n}")
+
+
+def _fault_list_mistakes(faults: list[int], n: Optional[int], whole: bool) -> Iterator[Mistake]:
+    """`n` is none where it is not known."""
+    in_groups = list(_group_mistakes(faults, n))
+    yield from in_groups
+    if whole and n is not None and not in_groups:
+        try:
+            regdulyn.table_from_faults(n, faults)
+        except regdulyn.Refusal:
+            yield Mistake(Place("fault", len(faults) - 1),
+                          f"with this fault group the survivor sets have more than {MAX_CORES} cores")
+
+
+def _group_mistakes(faults: list[int], n: Optional[int]) -> Iterator[Mistake]:
+    for index, mask in enumerate(faults):
+        place = Place("fault", index)
+        if index == MAX_SETS:
+            yield Mistake(place, f"fault group number {index + 1}, and a fault list has at most {MAX_SETS}")
+        if n is not None:
+            yield from _above_mistakes(place, mask, n)
+            if mask == all_drives(n):
+                yield Mistake(place, "the fault group has all drives of the frame")
 
 
 def _pattern_mistakes(contents: Contents, n: int, core: int) -> Iterator[Mistake]:

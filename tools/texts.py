@@ -1,11 +1,12 @@
 """Text to contents and back: the words that `make` reads and `show` prints.
 
 The canonical text has, in this order, a line `refused N` where the library refuses the file, `drives N`, one line `set
-MASK` for each set as the file lists them, and with a run file `patterns` and one line `stop D R S` for each stop.
-Numbers have no leading zeros, masks are in lower case, words are one space apart, and there are no comments; - stands
-for a drive without a pattern number in front of one that has it. Whether a number stood in a PR or in a PW is not said;
-what is made has PW. A listener's number is made only where a line `refused` stands: so the text of a file that is not
-refused is canonical only if no listener has a number in it.
+MASK` for each set as the file lists them, and with a run file `patterns` and one line `stop D R S` for each stop; that
+of a fault list one line `fault MASK` for each fault group in place of all behind `drives`. Numbers have no leading
+zeros, masks are in lower case, words are one space apart, and there are no comments; - stands for a drive without a
+pattern number in front of one that has it. Whether a number stood in a PR or in a PW is not said; what is made has PW.
+A listener's number is made only where a line `refused` stands: so the text of a file that is not refused is canonical
+only if no listener has a number in it.
 """
 
 import re
@@ -26,11 +27,16 @@ WORDS = """\
     patterns 7 5 9        the pattern numbers of drives 1, 2, ..; with this line a run file stands behind the table
     stop 2 1 1            a stop: drive, round, and the sends that it still makes in that round; by rising drive
 
+for a fault list, in place of all these but drives,
+
+    fault 3               a fault group, the drives that can fail together, as a mask; one line for each group
+    failing 1 2           a fault group by drive numbers: the same as fault 3; with no number the group of no drive
+
 and, in a text whose file is meant to be refused, as a test of the refusal, `refused 3` with the number.
 
 Masks are hexadecimal, bit 0 (value 1) is drive 1; all other numbers are decimal. Pattern numbers are 0 to 4294967295.
 Each drive that talks, which is each of the chosen core, needs one; - stands for a drive without one, and may be left
-out behind the last number. # starts a comment. The lines stand in any order; sets and stops keep theirs."""
+out behind the last number. # starts a comment. The lines stand in any order; sets, groups and stops keep theirs."""
 
 LARGEST_PATTERN = 256 ** PATTERN_WIDTH - 1
 
@@ -78,27 +84,42 @@ def _drives(text: Contents, values: list[str]) -> Place:
     return Place("drives")
 
 
-def _add_set(text: Contents, mask: int) -> Place:
-    if len(text.sets) == 255:
-        raise Wrong("more than 255 sets, which EN cannot count")
-    text.sets.append(mask)
-    return Place("set", len(text.sets) - 1)
+def _add(masks: list[int], mask: int, word: str, what: str) -> Place:
+    if len(masks) == 255:
+        raise Wrong(f"more than 255 {what}s, which EN cannot count")
+    masks.append(mask)
+    return Place(word, len(masks) - 1)
+
+
+def _mask(values: list[str], word: str) -> int:
+    exactly(values, 1, word)
+    return whole_number(re.sub("^0[xX](?=.)", "", values[0]), "the mask", 0, 2 ** 64 - 1, 16)
+
+
+def _drive_mask(values: list[str]) -> int:
+    numbers = [whole_number(value, "a drive", 1, MAX_DRIVES) for value in values]
+    twice = sorted({drive for drive in numbers if numbers.count(drive) > 1})
+    if twice:
+        raise Wrong(f"{model.drive_list(tuple(twice))} more than once")
+    return mask_of(numbers)
 
 
 def _set(text: Contents, values: list[str]) -> Place:
-    exactly(values, 1, "set")
-    mask = re.sub("^0[xX](?=.)", "", values[0])
-    return _add_set(text, whole_number(mask, "the mask", 0, 2 ** 64 - 1, 16))
+    return _add(text.sets, _mask(values, "set"), "set", "set")
 
 
 def _members(text: Contents, values: list[str]) -> Place:
     if not values:
         raise Wrong("members takes one number or more, and here are none")
-    numbers = [whole_number(value, "a drive", 1, MAX_DRIVES) for value in values]
-    twice = sorted({drive for drive in numbers if numbers.count(drive) > 1})
-    if twice:
-        raise Wrong(f"{model.drive_list(tuple(twice))} more than once")
-    return _add_set(text, mask_of(numbers))
+    return _add(text.sets, _drive_mask(values), "set", "set")
+
+
+def _fault(text: Contents, values: list[str]) -> Place:
+    return _add(text.faults, _mask(values, "fault"), "fault", "fault group")
+
+
+def _failing(text: Contents, values: list[str]) -> Place:
+    return _add(text.faults, _drive_mask(values), "fault", "fault group")
 
 
 def _patterns(text: Contents, values: list[str]) -> Place:
@@ -124,8 +145,22 @@ def _stop(text: Contents, values: list[str]) -> Place:
 
 
 LINES: dict[str, Callable[[Contents, list[str]], Place]] = {
-    "drives": _drives, "set": _set, "members": _members, "patterns": _patterns, "stop": _stop,
+    "drives": _drives, "set": _set, "members": _members, "patterns": _patterns, "stop": _stop, "fault": _fault,
+    "failing": _failing,
 }
+
+# The words of one kind of file alone.
+OF_TABLES = ("set", "members", "patterns", "stop")
+OF_FAULT_LISTS = ("fault", "failing")
+
+
+def one_kind(word: str, seen: dict[str, int]) -> None:
+    """Whether a word goes with those before it: the first that only tables or only fault lists have settles which the
+    text is of."""
+    others = OF_FAULT_LISTS if word in OF_TABLES else OF_TABLES if word in OF_FAULT_LISTS else ()
+    other = min((other for other in others if other in seen), key=seen.get, default="")
+    if other:
+        raise Wrong(f"{word} beside {other} of line {seen[other]}; a fault list has no set, members, patterns or stop")
 
 
 def _refused(values: list[str]) -> int:
@@ -157,7 +192,8 @@ def read_text(text: str) -> tuple[Text, list[tuple[int, str]]]:
     for row, line in enumerate(rows, start=1):
         word, *values = line.split("#")[0].split() or [""]
         try:
-            if word in ONCE and seen.setdefault(word, row) != row:
+            one_kind(word, seen)
+            if seen.setdefault(word, row) != row and word in ONCE:
                 raise Wrong(f"a second line {word}; the first is line {seen[word]}")
             if word == "refused":
                 refused = _refused(values)
@@ -225,6 +261,7 @@ def _canonical_lines(contents: Contents, refused: int) -> Iterator[str]:
         yield f"refused {refused}"
     yield f"drives {contents.drives}"
     yield from (f"set {mask:x}" for mask in contents.sets)
+    yield from (f"fault {mask:x}" for mask in contents.faults)
     if contents.patterns is not None:
         numbers = (contents.patterns.get(drive, "-") for drive in range(1, max(contents.patterns, default=0) + 1))
         yield " ".join(["patterns", *map(str, numbers)])

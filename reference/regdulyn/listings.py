@@ -1,4 +1,5 @@
-"""What the programs print: text, and of the threshold program a table's file.
+"""What the programs print: text, of the threshold program a table's file, and of the
+convert program that of a table or a fault list.
 
 Masks are in hexadecimal without leading zeros, everything else in decimal;
 each line ends with one newline. A refusal prints one line and nothing else.
@@ -6,7 +7,8 @@ each line ends with one newline. A refusal prints one line and nothing else.
 
 from typing import Callable
 
-from .records import Reader
+from .faults import faults_from_table, read_faults, table_from_faults, write_faults
+from .records import FAULT, Reader
 from .refusals import Refusal
 from .runs import read_run, simulate
 from .tables import chosen_core, cores, read_table, read_table_with_rest, write_table
@@ -27,6 +29,11 @@ def run_program(data: bytes) -> bytes:
 def threshold_program(data: bytes) -> bytes:
     """Standard output of the threshold program for its standard input."""
     return _output(_threshold_file, data)
+
+
+def convert_program(data: bytes) -> bytes:
+    """Standard output of the convert program for its standard input."""
+    return _output(_converted_file, data)
 
 
 def _output(made: Callable[[bytes], bytes], data: bytes) -> bytes:
@@ -83,3 +90,12 @@ def _threshold_file(data: bytes) -> bytes:
     n, t = reader.take(2)
     reader.end()
     return write_table(n, threshold_table(n, t))
+
+
+def _converted_file(data: bytes) -> bytes:
+    """The table of a file with FL behind FR and n; of any other the fault list."""
+    if data[3:5] == FAULT:
+        n, groups = read_faults(data)
+        return write_table(n, table_from_faults(n, groups))
+    n, sets = read_table(data)
+    return write_faults(n, faults_from_table(n, sets))

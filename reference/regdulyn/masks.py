@@ -58,3 +58,12 @@ def smallest(groups: Iterable[int]) -> list[int]:
         if not any(is_part(small, mask) for small in kept):
             kept.append(mask)
     return sorted(kept)
+
+
+def largest(groups: Iterable[int]) -> list[int]:
+    """Drops repeats and each group within another; orders by mask."""
+    kept: list[int] = []
+    for mask in sorted(set(groups), key=size, reverse=True):
+        if not any(is_part(mask, large) for large in kept):
+            kept.append(mask)
+    return sorted(kept)

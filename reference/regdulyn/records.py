@@ -12,6 +12,7 @@ from .refusals import Refusal
 
 FRAME = b"FR"
 SURVIVOR = b"SV"
+FAULT = b"FL"
 PROPOSAL = b"PW"
 CRASH = b"CR"
 END = b"EN"

@@ -2,12 +2,13 @@
 
 A call given n and sets meets 3, 2, 5, then 4 set by set, then 13. A file is
 judged left to right, so the same table with two faults may meet another
-number as a file.
+number as a file. A fault list is read, checked and written by the same functions,
+with another mark and another check of a mask.
 """
 
 from dataclasses import dataclass
 from functools import lru_cache
-from typing import Sequence
+from typing import Callable, Sequence
 
 from .hitting import minimal_hitting_sets
 from .masks import MAX_DRIVES, all_drives, is_part, size, smallest
@@ -62,15 +63,20 @@ def check_mask(n: int, mask: int) -> None:
         raise Refusal(4)
 
 
+def check_list(n: int, listed: Sequence[int], check: Callable[[int, int], None]) -> None:
+    """3, 2, 5, then what each mask is refused with, one after the other."""
+    check_drives(n)
+    if not listed:
+        raise Refusal(2)
+    if len(listed) > MAX_SETS:
+        raise Refusal(5)
+    for mask in listed:
+        check(n, mask)
+
+
 def accept(n: int, sets: Sequence[int]) -> Table:
     """The table of a call given n and sets: 3, 2, 5, 4 set by set, 13."""
-    check_drives(n)
-    if not sets:
-        raise Refusal(2)
-    if len(sets) > MAX_SETS:
-        raise Refusal(5)
-    for mask in sets:
-        check_mask(n, mask)
+    check_list(n, sets, check_mask)
     return derive(tuple(sets))
 
 
@@ -114,11 +120,15 @@ def back(n: int, groups: Sequence[int]) -> list[int]:
 
 # Files
 
+def list_file(n: int, kind: bytes, masks: Sequence[int]) -> bytes:
+    """FR, a record of this kind for each mask, EN."""
+    records = [kind + field(mask, MASK_WIDTH) for mask in masks]
+    return FRAME + field(n, 1) + b"".join(records) + END + field(len(masks), 1)
+
+
 def write_table(n: int, sets: Sequence[int]) -> bytes:
     """The normal table as a file."""
-    normal = normal_table(n, sets)
-    records = [SURVIVOR + field(mask, MASK_WIDTH) for mask in normal]
-    return FRAME + field(n, 1) + b"".join(records) + END + field(len(normal), 1)
+    return list_file(n, SURVIVOR, normal_table(n, sets))
 
 
 def write_table_into(buffer: bytearray, start: int, n: int, sets: Sequence[int]) -> int:
@@ -129,7 +139,7 @@ def write_table_into(buffer: bytearray, start: int, n: int, sets: Sequence[int])
 def read_table(data: bytes) -> tuple[int, list[int]]:
     """n and the normal table of a file that holds nothing else."""
     reader = Reader(data)
-    n, listed = _read_records(reader)
+    n, listed = read_list(reader, SURVIVOR, check_mask)
     reader.end()
     return n, list(derive(tuple(listed)).normal)
 
@@ -137,25 +147,27 @@ def read_table(data: bytes) -> tuple[int, list[int]]:
 def read_table_with_rest(data: bytes) -> tuple[int, list[int], bytes]:
     """n, the normal table, and the bytes after EN."""
     reader = Reader(data)
-    n, listed = _read_records(reader)
+    n, listed = read_list(reader, SURVIVOR, check_mask)
     return n, list(derive(tuple(listed)).normal), reader.rest
 
 
-def _read_records(reader: Reader) -> tuple[int, list[int]]:
-    """n and the sets as listed; stops behind EN."""
+def read_list(reader: Reader, kind: bytes,
+              check: Callable[[int, int], None]) -> tuple[int, list[int]]:
+    """n and the masks of FR, 1 to 128 records of this kind, EN, as listed; `check`
+    refuses a mask. Stops behind EN."""
     reader.mark(FRAME)
     n = number(reader.take(1))
     check_drives(n)
     listed: list[int] = []
     while True:
         # EN straight after FR is a known mark in the wrong place.
-        due = (SURVIVOR, END) if listed else (SURVIVOR,)
+        due = (kind, END) if listed else (kind,)
         if reader.mark(*due) == END:
             break
         mask = number(reader.take(MASK_WIDTH))
         if len(listed) == MAX_SETS:
             raise Refusal(5)
-        check_mask(n, mask)
+        check(n, mask)
         listed.append(mask)
     if number(reader.take(1)) != len(listed):
         raise Refusal(6)

@@ -15,7 +15,8 @@ from . import Case
 
 def generator_cases() -> Iterator[Case]:
     programs = (("table", generate.table_inputs, regdulyn.table_program),
-                ("run", generate.run_inputs, regdulyn.run_program))
+                ("run", generate.run_inputs, regdulyn.run_program),
+                ("convert", generate.convert_inputs, regdulyn.convert_program))
     for name, inputs, program in programs:
         made = list(inputs(5, 800))
         yield f"{name} inputs repeat", made, list(inputs(5, 800))
@@ -45,6 +46,10 @@ CALL_ANSWERS = {
     "H": ({"missed", "none"}, TABLE_REFUSALS),
     "K": ({"cores"}, TABLE_REFUSALS),
     "T": ({"found"}, {3, 13, 31, 32}),
+    "F": ({"read"}, {1, 2, 3, 4, 5, 6, 7, 13, 14, 34}),
+    "G": ({"written"}, TABLE_REFUSALS | {14, 34}),
+    "P": ({"found"}, TABLE_REFUSALS | {14, 34}),
+    "Q": ({"found"}, TABLE_REFUSALS | {14}),
     "R": ({"core"}, TABLE_REFUSALS | {1, 6, 7, 8, 9, 10, 11}),
     "X": ({"core"}, TABLE_REFUSALS | {8, 9, 10, 11}),
 }

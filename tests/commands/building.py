@@ -10,9 +10,10 @@ import time
 from pathlib import Path
 from typing import Any, Callable, Iterator
 
-from . import ROOT, SECONDS, Case, example, regdulyn
+from . import FAULTS, ROOT, SECONDS, Case, example, regdulyn
 
 import building as tool  # noqa: E402, from tools/
+import failures  # noqa: E402
 
 # What the table program needs, beside itself.
 NEEDED = [crate for crate in tool.needed_crates("table_program") if crate != "table_program"]
@@ -200,6 +201,20 @@ def at_the_same_time(copy: Path, env: dict[str, str], file: str) -> Iterator[Cas
                                 stderr=subprocess.PIPE) for _ in range(4)]
     printed = [(process.communicate(timeout=SECONDS)[0], process.returncode) for process in started]
     yield "several at once", (printed, calls(copy) - before), ([(b"several\n", 0)] * 4, 1)
+
+
+def conversions(work: Path) -> Iterator[Case]:
+    """What the program that converts prints is written as it is, unless it is a refusal."""
+    copy, env = copy_of_repository(work)
+    for answer, expected in (("FR of a file", (0, b"FR of a file\n", "")),
+                             ("refused 34", (1, b"", f"regdulyn: {failures.refused(34)}\n"))):
+        (copy / "answer").write_text(answer)
+        shutil.rmtree(copy / "target", ignore_errors=True)
+        status, printed, said = regdulyn("convert", str(FAULTS), root=copy, env=env)
+        yield f"convert, {answer}, built", (status, printed, said.splitlines()[0].split(" from ")[0]), (
+            *expected[:2], "regdulyn: building convert_program")
+        yield f"convert, {answer}", regdulyn("convert", str(FAULTS), root=copy, env=env), expected
+    yield "convert, what is built", (copy / "calls").read_text(), "check convert_program\n" * 2
 
 
 def libraries(work: Path) -> Iterator[Case]:

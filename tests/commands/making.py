@@ -6,9 +6,9 @@ from typing import Iterator
 import failures
 import texts
 from inputs.frames import full
-from inputs.records import Crash, proposal, run, table
+from inputs.records import Crash, fault_list, proposal, run, table
 
-from . import Case, example, model, refused_files, regdulyn
+from . import FAULTS, Case, example, model, refused_fault_lists, refused_files, regdulyn
 
 A_TEXT = "drives 6\nset 1\nset 2\nset 3c\n"
 
@@ -16,7 +16,7 @@ MISTAKES = [
     ("", ["1: no line drives"]),
     ("# nothing\n\n", ["2: no line drives"]),
     ("drives 6\nset 1\nbar 3\n",
-     ["3: unknown word 'bar'; the words are drives, set, members, patterns, stop, refused"]),
+     ["3: unknown word 'bar'; the words are drives, set, members, patterns, stop, fault, failing, refused"]),
     ("drives\nset 1 2\nstop 1 2\n",
      ["1: drives takes 1 number, and here are 0", "2: set takes 1 number, and here are 2",
       "3: stop takes 3 numbers, and here are 2"]),
@@ -91,10 +91,46 @@ MISTAKES = [
       "4: no line patterns with numbers", "4: drive 7, and there are drives 1 to 6"]),
 ]
 
+ALONE = "; a fault list has no set, members, patterns or stop"
+FAULT_MISTAKES = [
+    ("fault 1\n", ["1: no line drives"]),
+    ("drives 6\nfault\nfault 1 2\nfault 10000000000000000\nfailing 3 4 3\nfailing 0 x\n",
+     ["2: fault takes 1 number, and here are 0", "3: fault takes 1 number, and here are 2",
+      "4: the mask is 10000000000000000, and can be 0 to ffffffffffffffff", "5: drive 3 more than once",
+      "6: a drive is 0, and can be 1 to 64"]),
+    ("drives 6\nset 1\nfault 2\nfailing 3\nset 4\n", ["3: fault beside set of line 2" + ALONE,
+                                                     "4: failing beside set of line 2" + ALONE]),
+    ("drives 6\nmembers x\nfault 2\n", ["2: a drive is 'x', which is no decimal number",
+                                      "3: fault beside members of line 2" + ALONE]),
+    ("drives 6\nfailing 1\nfault 2\nset 4\nmembers 3\nset 7f\n",
+     ["4: set beside failing of line 2" + ALONE, "5: members beside failing of line 2" + ALONE,
+      "6: set beside failing of line 2" + ALONE]),
+    ("drives 6\nfault 1\nfault 40\npatterns 1 x\nstop 1 1\n",
+     ["3: drive 7 above the number of drives, 6", "4: patterns beside fault of line 2" + ALONE,
+      "5: stop beside fault of line 2" + ALONE]),
+    ("patterns 1\ndrives 6\nfailing\n", ["3: failing beside patterns of line 1" + ALONE]),
+    ("stop 1 1 1\nfault 1\ndrives 6\n", ["1: no line patterns with numbers", "2: fault beside stop of line 1" + ALONE]),
+    ("drives 65\nfault 1\nfault ffffffffffffffff\n", ["1: 65 drives, and there are 1 to 64"]),
+    ("drives 6\nfailing 3 7 9\nfault 3f\nfault 7f\nfailing 6 5 4 3 2 1\n",
+     ["2: drives 7 9 above the number of drives, 6", "3: the fault group has all drives of the frame",
+      "4: drive 7 above the number of drives, 6", "5: the fault group has all drives of the frame"]),
+    ("drives 1\nfailing\nfailing 1\n", ["3: the fault group has all drives of the frame"]),
+    ("drives 1\n" + "fault 0\n" * 129, ["130: fault group number 129, and a fault list has at most 128"]),
+    ("drives 1\n" + "fault 0\n" * 256, ["130: fault group number 129, and a fault list has at most 128",
+                                      "257: more than 255 fault groups, which EN cannot count"]),
+    ("drives 22\n" + "".join(f"fault {full(22) & ~(3 << 2 * pair):x}\n" for pair in range(11)),
+     ["12: with this fault group the survivor sets have more than 1024 cores"]),
+    ("refused 34\ndrives 2\nfault 1\n", ["1: refused 34, and the file is not refused"]),
+    ("refused 34\ndrives 2\nset 3\n", ["1: refused 34, and the file is not refused"]),
+    ("refused 34\ndrives 2\nfault 7\n",
+     ["1: refused 34, and the file is refused with 4: " + failures.OF_FILES[4],
+      "3: drive 3 above the number of drives, 2"]),
+]
+
 
 def mistakes(work: Path) -> Iterator[Case]:
     """Each mistake is a line, nothing is written, and the status is 1."""
-    for index, (text, expected) in enumerate(MISTAKES):
+    for index, (text, expected) in enumerate(MISTAKES + FAULT_MISTAKES):
         made, found = texts.text_mistakes(text)
         yield f"mistakes {index}", (made, [f"{line}: {message}" for line, message in found]), (None, expected)
     path = work / "wrong.txt"
@@ -105,6 +141,8 @@ def mistakes(work: Path) -> Iterator[Case]:
         1, b"", "standard input:1: no set, and a table has 1 to 128\n")
     yield "make, made file", regdulyn("make", str(example("a.table"))), (
         1, b"", f"{example('a.table')}:1: this is no text but a made file; ./regdulyn show prints its text\n")
+    yield "make, made fault list", regdulyn("make", str(FAULTS)), (
+        1, b"", f"{FAULTS}:1: this is no text but a made file; ./regdulyn show prints its text\n")
     yield "make, no text", regdulyn("make", "-", given=b"drives 6\nset \xff\n"), (
         1, b"", "standard input:2: this is no text: byte ff\n")
     yield "make, endless", regdulyn("make", "/dev/zero"), (
@@ -122,8 +160,14 @@ def makes(_work: Path) -> Iterator[Case]:
         text = f"drives 1\nset 1\npatterns {number}\n"
         yield f"make, pattern number {number}", regdulyn("make", "-", given=text.encode()), (
             0, table(1, [1]) + proposal(1, number, True) + b"EN\0", "")
+    for name, text, groups in (
+            ("groups", "drives 4\nfailing 2 1\nfault 0x4\nfailing 4\n", [3, 4, 8]),
+            ("groups, order", "fault 8 # D\nfailing 1 2\nfailing 3\ndrives 4\nfailing 1\n", [8, 3, 4, 1]),
+            ("empty groups", "drives 4\nfailing\nfault 0\nfailing # none\n", [0, 0, 0])):
+        yield f"make, {name}", regdulyn("make", "-", given=text.encode()), (0, fault_list(4, groups), "")
     yield from of_listeners()
-    for number, (kind, data) in enumerate(refused_files(a), start=1):
+    files = [(number, data) for number, (_, data) in enumerate(refused_files(a), start=1)]
+    for number, data in (*files, *refused_fault_lists().items()):
         try:
             contents, _ = model.file_contents(data)
         except model.Unreadable:

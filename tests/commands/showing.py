@@ -9,22 +9,24 @@ import failures
 import generate
 import mistakes
 import texts
-from inputs.records import MARKS, proposal, table, widened
+from inputs.records import MARKS, fault_list, proposal, table, widened
 from inputs.scenarios import any_pattern
 
-from . import EXAMPLES, SAID, Case, model, regdulyn
+from . import EXAMPLES, FAULTS, SAID, Case, model, refused_fault_lists, regdulyn
 
 GENERATED = 500
 
 ONE = b"FR\1SV\1" + bytes(7) + b"EN\1"
 SIX = b"FR\6SV\1" + bytes(7) + b"EN\1"
+GROUP = b"FR\6FL\1" + bytes(7) + b"EN\1"
 UNREADABLE = [
     ("empty", b"", 0, "FR is due, and the file ends", 1),
     ("half a mark", b"F", 0, "FR is due, and there is F", 1),
     ("text", b"# a", 0, "FR is due, and there is hex 23 20", 2),
     ("cut frame", b"FR", 0, "FR is cut: 1 bytes are due behind it, and there are 0", 1),
     ("cut set", b"FR\6SV\1\0", 3, "SV is cut: 8 bytes are due behind it, and there are 2", 1),
-    ("PR in a table", b"FR\6PR", 3, "SV or EN is due, and there is PR", 2),
+    ("PR in a table", b"FR\6PR", 3, "SV or FL or EN is due, and there is PR", 2),
+    ("FL in a table", ONE[:-3] + b"FL", 13, "SV or EN is due, and there is FL", 2),
     ("count", ONE[:-1] + b"\2", 13, "EN counts 2, and there are 1 SV", 6),
     ("rest", ONE + b"\n", 16, "the table has ended, and what follows starts no run file: hex 0a", 7),
     ("no run", ONE + b"KW", 16, "the table has ended, and what follows starts no run file: KW", 7),
@@ -39,6 +41,12 @@ UNREADABLE = [
     ("PR behind CR", ONE + b"PR\1\0\0CR\1\1\0PR\2\0\0EN\0", 26, "CR or EN is due, and there is PR", 2),
     ("stop count", ONE + b"PR\1\0\0EN\1", 21, "EN counts 1, and there are 0 CR", 6),
     ("behind the run", ONE + b"PR\1\0\0EN\0EN", 24, "the run file has ended, and bytes follow", 7),
+    ("cut group", b"FR\6FL\1\0", 3, "FL is cut: 8 bytes are due behind it, and there are 2", 1),
+    ("cut fault list", GROUP[:-3], 13, "FL or EN is due, and the file ends", 1),
+    ("SV in a fault list", GROUP[:-3] + b"SV", 13, "FL or EN is due, and there is SV", 2),
+    ("PW in a fault list", GROUP[:-3] + b"PW", 13, "FL or EN is due, and there is PW", 2),
+    ("group count", GROUP[:-1] + b"\2", 13, "EN counts 2, and there are 1 FL", 6),
+    ("behind the fault list", GROUP + b"PR\1\0\0EN\0", 16, "the fault list has ended, and bytes follow", 7),
 ]
 
 
@@ -47,7 +55,7 @@ def shows(_work: Path) -> Iterator[Case]:
         said = f"standard input: byte {offset}: {why}\nregdulyn: {failures.refused(number)}\n"
         for command in ("show", "explain"):
             yield f"{command}, {name}", regdulyn(command, "-", given=data), (1, b"", said)
-    for made in EXAMPLES:
+    for made in (*EXAMPLES, FAULTS):
         lines = Path(f"{made}.txt").read_text().splitlines(True)
         text = "".join(line for line in lines if not line.startswith("#"))
         status, printed, said = regdulyn("show", str(made))
@@ -63,13 +71,19 @@ def shows(_work: Path) -> Iterator[Case]:
     yield "show, refused", regdulyn("show", "-", given=wrong), (
         1, b"refused 4\ndrives 6\nset 1\nset 7c\nset 0\n",
         "standard input: byte 13: drive 7 above the number of drives, 6\nstandard input: byte 23: the set is empty\n"
-        "regdulyn: refused 4: a set is empty, or has a drive above the number of drives\n")
+        f"regdulyn: {failures.refused(4)}\n")
+    wrong = fault_list(4, [0, 0xF, 0x1F])
+    yield "show, refused fault list", regdulyn("show", "-", given=wrong), (
+        1, b"refused 34\ndrives 4\nfault 0\nfault f\nfault 1f\n",
+        "standard input: byte 13: the fault group has all drives of the frame\n"
+        "standard input: byte 23: drive 5 above the number of drives, 4\n"
+        "regdulyn: refused 34: a fault group has all drives of the frame\n")
 
 
 def kept_in(data: bytes) -> int:
     """The drives whose pattern numbers are made again: of a file that is refused all, else the chosen core."""
     kind = model.kind_of(data)
-    if kind == "table" or model.refusal_of(kind, data):
+    if kind != "run" or model.refusal_of(kind, data):
         return -1
     n, sets, _ = model.regdulyn.read_table_with_rest(data)
     return model.regdulyn.chosen_core(n, sets)
@@ -113,9 +127,10 @@ def round_trips(_work: Path) -> Iterator[Case]:
     """Of generated files, damaged ones too: a file is shown or unreadable, the text makes the file, with a PW for each
     PR and, where it is not refused, none for a listener; and there is something wrong exactly if the library refuses
     it. What is made is refused and listed as the file is, and its text is canonical."""
-    shown = unreadable = shorter = 0
+    shown = unreadable = shorter = lists = 0
     for index, data in enumerate(chain(islice(generate.table_inputs(3, GENERATED), GENERATED),
-                                       islice(generate.run_inputs(3, GENERATED), GENERATED), random_files())):
+                                       islice(generate.run_inputs(3, GENERATED), GENERATED),
+                                       generate.convert_inputs(3, GENERATED), random_files())):
         number = model.refusal_of(model.kind_of(data), data)
         if index % 10 == 0 and number != model.refusal_in(model.listing(model.kind_of(data), data)):
             yield f"refusal of {index}", (data, number), None
@@ -127,6 +142,7 @@ def round_trips(_work: Path) -> Iterator[Case]:
                 yield f"unreadable {index}", (data, number, error.offset), None
             continue
         shown += 1
+        lists += bool(contents.faults)
         text, made = texts.canonical_text(contents, number), widened(data, kept_in(data))
         wrong, again = list(mistakes.found_in(contents)), model.file_contents(made)[0]
         shorter += made != widened(data)
@@ -141,7 +157,7 @@ def round_trips(_work: Path) -> Iterator[Case]:
         if not good:
             yield f"round trip {index}", (data, number, text, wrong), None
     few = GENERATED // 10
-    yield "files of all sorts", (shown > GENERATED, unreadable > few, shorter > few), (True, True, True)
+    yield "files of all sorts", [shown > GENERATED, unreadable > few, shorter > few, lists > GENERATED], [True] * 4
 
 
 def random_files() -> Iterator[bytes]:
@@ -158,6 +174,7 @@ def random_files() -> Iterator[bytes]:
         stops = [model.Stop(*(random.randrange(random.choice((3, 7, 256))) for _ in range(3)))
                  for _ in range(random.randrange(3) if patterns is not None else 0)]
         yield model.file_bytes(model.Contents(n, sets, patterns, stops))
+        yield model.file_bytes(model.Contents(n, faults=sets))
 
 
 def explains(_work: Path) -> Iterator[Case]:
@@ -218,4 +235,40 @@ survivor sets in which no drive stops: set 6, set 8
     status, printed, said = regdulyn("--unproved", "explain", "-", given=wrong)
     yield "explain, refused", (status, printed.decode(), said.splitlines()[-1]), (
         1, "set 1: drive 1\nset 7c: drives 3 4 5 6 7, and drive 7 above the number of drives\nset 0: no drive\n",
-        "regdulyn: refused 4: a set is empty, or has a drive above the number of drives")
+        f"regdulyn: {failures.refused(4)}")
+
+
+def explained_faults(_work: Path) -> Iterator[Case]:
+    """Of a fault list the groups, those that it drops, and the table that it converts to."""
+    text = "drives 6\nfailing 1 2\nfailing 3 6\nfailing 1\nfault 3\nfailing 4 6\nfailing\nfailing 6\n"
+    expected = """\
+drives: 1 2 3 4 5 6
+
+fault groups, each of drives that can fail together: 3
+  fault 3: drives 1 2
+  fault 24: drives 3 6
+  fault 28: drives 4 6
+fault groups that the list drops: 4
+  fault 1, the file's number 3: drive 1; it is within fault 3
+  fault 3, the file's number 4: drives 1 2; a repeat
+  fault 0, the file's number 6: no drive; it is within fault 3
+  fault 20, the file's number 7: drive 6; it is within fault 24
+drives in no fault group, and so in every survivor set: 5
+"""
+    data = texts.text_mistakes(text)[0]
+    made = regdulyn("--unproved", "explain", "-", given=table(6, [0x17, 0x1B, 0x3C]))[1].decode()
+    expected += made[made.index("\n\n") + 1:].replace("sets that the table drops: none\n", "")
+    yield "explain, fault list", regdulyn("--unproved", "explain", "-", given=data), (0, expected.encode(), SAID)
+    yield "explain, fault list, proved", regdulyn("explain", "-", given=data), (0, expected.encode(), "")
+    for n, groups, line in (
+            (4, [1, 2, 4, 8], "these are all groups of 3 drives: at most 1 of the 4 drives may drop out"),
+            (3, [0], "drives in no fault group, and so in every survivor set: 1 2 3"),
+            (3, [0], "  fault 0: no drive"), (3, [3, 6], "drives in no survivor set, and so in no core: 2")):
+        printed = regdulyn("--unproved", "explain", "-", given=fault_list(n, groups))[1].decode()
+        yield f"explain, n {n} groups {groups}", line in printed.splitlines(), True
+    for number, data in refused_fault_lists().items():
+        status, printed, said = regdulyn("--unproved", "explain", "-", given=data)
+        lines = {4: "fault 3: drives 1 2\nfault 1f: drives 1 2 3 4 5, and drive 5 above the number of drives\n",
+                 34: "fault 3: drives 1 2\nfault f: drives 1 2 3 4\n"}.get(number, printed.decode())
+        yield f"explain, refused {number}", (status, printed.decode(), said.splitlines()[-1]), (
+            1, lines, f"regdulyn: {failures.refused(number)}")

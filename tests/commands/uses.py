@@ -1,5 +1,6 @@
-"""Each way to use the command: wrong uses, help, listings and refusals, with status and lines."""
+"""Each way to use the command: wrong uses, help, listings, files made and refusals, with status and lines."""
 
+import os
 import re
 import subprocess
 from pathlib import Path
@@ -8,10 +9,14 @@ from typing import Iterator
 import explaining
 import failures
 import generate
+from inputs.frames import full
+from inputs.records import fault_list, table
 
-from . import EXAMPLES, ROOT, SAID, Case, example, model, refused_files, regdulyn
+from . import (EXAMPLES, FAULTS, ROOT, SAID, Case, example, model, refused_fault_lists, refused_files,
+               regdulyn)
 
 SEE = "; see ./regdulyn --help\n"
+FAULT_HINT = "; this is a fault list, of which ./regdulyn convert makes a table"
 
 
 def wrong_uses(work: Path) -> Iterator[Case]:
@@ -25,8 +30,10 @@ def wrong_uses(work: Path) -> Iterator[Case]:
         ("no file", ["table"], "table takes one file, and here is none" + SEE),
         ("two files", ["run", a, a], "run takes one file, and here are 2" + SEE),
         ("unproved make", ["--unproved", "make", a],
-         "--unproved goes with table, run, explain, missed, picture, threshold, and make needs no proved program"
-         + SEE),
+         "--unproved goes with table, run, explain, missed, picture, convert, threshold, and make needs no proved"
+         " program" + SEE),
+        ("convert of nothing", ["convert"], "convert takes one file, and here is none" + SEE),
+        ("convert of two", ["--unproved", "convert", a, a], "convert takes one file, and here are 2" + SEE),
         ("threshold of nothing", ["threshold"], "threshold takes two numbers, and here is none" + SEE),
         ("threshold of one", ["threshold", "6"], "threshold takes two numbers, and here is 1" + SEE),
         ("threshold of three", ["threshold", "6", "2", "1"], "threshold takes two numbers, and here are 3" + SEE),
@@ -68,22 +75,31 @@ def hints(work: Path) -> Iterator[Case]:
         ("a run as a table", "table", example("b.run"), 7,
          "; a run file stands behind the table, and ./regdulyn run reads both"),
         ("a table as a run", "run", example("a.table"), 1, "; there is no run file behind the table"),
+        ("a fault list as a table", "table", FAULTS, 2, FAULT_HINT),
+        ("a fault list as a run", "run", FAULTS, 2, FAULT_HINT),
     ]
     for name, kind, path, number, hint in cases:
         yield name, regdulyn("--unproved", kind, str(path)), (
             1, f"refused {number}\n".encode(), f"{SAID}regdulyn: {failures.refused(number)}{hint}\n")
+    for name, words, number, hint in (
+            ("a picture of a fault list", ["picture", str(FAULTS)], 2, FAULT_HINT),
+            ("missed in a fault list", ["missed", str(FAULTS), "9"], 2, FAULT_HINT),
+            ("a text to convert", ["convert", str(work / "text")], 2, cases[0][4]),
+            ("a run to convert", ["convert", str(example("b.run"))], 7,
+             "; a run file stands behind the table, and convert takes a table alone")):
+        yield name, regdulyn("--unproved", *words), (1, b"", f"{SAID}regdulyn: {failures.refused(number)}{hint}\n")
     done = subprocess.run(["sh", "-c", 'exec "$0" table - <"$1"', ROOT / "regdulyn", work], capture_output=True)
     yield "a directory as input", (done.returncode, done.stdout, done.stderr), (
         2, b"", b"regdulyn: cannot read standard input: it is a directory\n")
 
 
 def helps(_work: Path) -> Iterator[Case]:
-    names = ("table", "run", "explain", "missed", "picture", "make", "show", "threshold", "library")
+    names = ("table", "run", "explain", "missed", "picture", "make", "show", "convert", "threshold", "library")
     for words in (["--help"], ["-h"], *([name, "--help"] for name in names)):
         status, printed, said = regdulyn(*words)
         yield f"{' '.join(words)}", (status, printed.startswith(b"usage: ./regdulyn "), said), (0, True, "")
-    lines = regdulyn("--help")[1].decode().splitlines()
-    yield "help is as wide as a page", [line for line in lines if len(line) > 120], []
+        yield f"{' '.join(words)}, as wide as a page", [line for line in printed.decode().splitlines()
+                                                        if len(line) > 120], []
 
 
 def listings(work: Path) -> Iterator[Case]:
@@ -112,6 +128,50 @@ def listings(work: Path) -> Iterator[Case]:
     (work / "link2").symlink_to("link")
     done = subprocess.run([work / "link2", "--unproved", "table", example("a.table")], capture_output=True, cwd="/")
     yield "through links", (done.returncode, done.stdout), (0, model.listing("table", a))
+
+
+def conversions(_work: Path) -> Iterator[Case]:
+    """The bytes of the other kind of file, and from these the normal form of the first; of a refused file nothing, the
+    refusal's meaning and status 1."""
+    c, faults = example("c.table").read_bytes(), FAULTS.read_bytes()
+    singles = [1 << place for place in range(45)]
+    cases = [
+        ("a table", c, faults), ("a fault list", faults, c),
+        ("a table with repeats", table(4, [0xF, 0xC, 0xB, 7, 0xC]), faults),
+        ("groups within others", fault_list(4, [8, 0, 1, 3, 4, 3]), c),
+        ("no drive fails", fault_list(3, [0]), table(3, [7])), ("one drive", fault_list(1, [0]), table(1, [1])),
+        ("all drives stay", table(64, [full(64)]), fault_list(64, [0])),
+        ("all but one fail", fault_list(64, [full(64) - 1]), table(64, [1])),
+        ("any one fails", fault_list(45, singles), table(45, [full(45) ^ single for single in reversed(singles)])),
+    ]
+    for name, data, made in cases:
+        yield f"convert, {name}, unproved", regdulyn("--unproved", "convert", "-", given=data), (0, made, SAID)
+        yield f"convert, {name}, proved", regdulyn("convert", "-", given=data), (0, made, "")
+        normal = model.listing("convert", made)
+        yield f"convert, {name}, back", regdulyn("convert", "-", given=made), (0, normal, "")
+        yield f"convert, {name}, there again", regdulyn("convert", "-", given=normal), (0, made, "")
+    refused = [("fault list", number, data) for number, data in refused_fault_lists().items()]
+    files = refused_files(example("a.table").read_bytes())
+    refused += [("table", number, data) for number, (kind, data) in enumerate(files, start=1) if kind == "table"]
+    for name, number, data in refused:
+        said = f"regdulyn: {failures.refused(number)}\n"
+        yield f"convert, {name}, refused {number}, unproved", regdulyn("--unproved", "convert", "-", given=data), (
+            1, b"", SAID + said)
+        yield f"convert, {name}, refused {number}", regdulyn("convert", "-", given=data), (1, b"", said)
+    yield "convert, a file", regdulyn("convert", str(FAULTS)), (0, c, "")
+    yield "convert, a long file", regdulyn("convert", "/dev/zero")[:2], (1, b"")
+
+
+def terminals(_work: Path) -> Iterator[Case]:
+    """No bytes of a file go to a terminal."""
+    for command, *words in (["make", f"{FAULTS}.txt"], ["convert", str(FAULTS), "--unproved"],
+                            ["threshold", "6", "2", "--unproved"]):
+        reader, terminal = os.openpty()
+        done = subprocess.run([ROOT / "regdulyn", command, *words], stdout=terminal, stderr=subprocess.PIPE)
+        os.close(terminal)
+        os.close(reader)
+        yield f"{command} to a terminal", (done.returncode, done.stderr.decode().splitlines()[-1]), (
+            2, f"regdulyn: {command} writes bytes, and standard output is a terminal; add > FILE")
 
 
 def thresholds(_work: Path) -> Iterator[Case]:
@@ -175,4 +235,5 @@ def meanings(_work: Path) -> Iterator[Case]:
     for number, meaning in failures.MEANINGS.items():
         yield f"meaning of {number}", rows.get(str(number), "").split("; ")[0], meaning
     yield "refusals of programs", set(failures.MEANINGS), set().union(*generate.REFUSALS.values())
-    yield "refusals of files", set(failures.OF_FILES), generate.REFUSALS["table"] | generate.REFUSALS["run"]
+    yield "refusals of files", set(failures.OF_FILES), set().union(
+        *(generate.REFUSALS[kind] for kind in ("table", "run", "convert")))

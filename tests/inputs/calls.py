@@ -7,9 +7,10 @@ stands in tests/call_script.c.
 
 from typing import Callable, Iterable
 
-from regdulyn import (Crash, Exchange, Outcome, Refusal, Verdict, back, close, cores, message,
-                      missed_set, opening, read_run, send_into, simulate, stops_by_drive,
-                      threshold_table, verdict, write_table_into)
+from regdulyn import (Crash, Exchange, Outcome, Refusal, Verdict, back, close, cores,
+                      faults_from_table, message, missed_set, opening, read_faults, read_run,
+                      send_into, simulate, stops_by_drive, table_from_faults, threshold_table,
+                      verdict, write_faults_into, write_table_into)
 
 from .frames import MAX_DRIVES
 
@@ -55,6 +56,13 @@ def list_bytes(masks: list[int]) -> bytes:
 
 def list_line(word: str, masks: list[int]) -> str:
     return " ".join([word, *(f"{mask:x}" for mask in masks)])
+
+
+def within(places: int, masks: list[int]) -> list[int]:
+    """The masks, or 14 if there are more than so many places."""
+    if len(masks) > places:
+        raise Refusal(14)
+    return masks
 
 
 def verdict_line(found: Verdict) -> str:
@@ -156,6 +164,24 @@ class Script:
     def threshold(self, n: int, t: int) -> None:
         self._add(b"T" + field(n, 1) + field(t, 1),
                   answer(lambda: list_line("found", threshold_table(n, t))))
+
+    def read_faults(self, data: bytes, places: int) -> None:
+        def read() -> str:
+            n, groups = read_faults(data)
+            return list_line(f"read n {n} used {len(data)} groups", within(places, groups))
+        self._add(b"F" + field(places, 2) + field(len(data), 2) + data, answer(read))
+
+    def write_faults(self, n: int, groups: list[int], length: int, start: int) -> None:
+        self._fill(b"G" + field(n, 1) + field(length, 2) + field(start, 8) + list_bytes(groups),
+                   length, start, lambda buffer: write_faults_into(buffer, start, n, groups))
+
+    def table_from_faults(self, n: int, groups: list[int], places: int) -> None:
+        self._add(b"P" + field(n, 1) + field(places, 2) + list_bytes(groups), answer(
+            lambda: list_line("found", within(places, table_from_faults(n, groups)))))
+
+    def faults_from_table(self, n: int, sets: list[int], places: int) -> None:
+        self._add(b"Q" + field(n, 1) + field(places, 2) + list_bytes(sets), answer(
+            lambda: list_line("found", within(places, faults_from_table(n, sets)))))
 
     def simulate_file(self, n: int, sets: list[int], data: bytes) -> None:
         def play() -> str:

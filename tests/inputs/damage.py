@@ -4,8 +4,8 @@ from random import Random
 from typing import Callable
 
 from .frames import full
-from .records import (MARKS, PROPOSAL_MARKS, UNKNOWN_MARKS, WIDTHS, Records, crash, end, frame,
-                      proposal, survivor)
+from .records import (MARKS, PROPOSAL_MARKS, UNKNOWN_MARKS, WIDTHS, Records, crash, end, fault,
+                      frame, proposal, survivor)
 
 
 def set_byte(rng: Random, data: bytes) -> bytes:
@@ -62,7 +62,7 @@ def repeat_record(rng: Random, records: Records) -> Records:
 
 
 def insert_record(rng: Random, records: Records) -> Records:
-    foreign = rng.choice((frame(3), survivor(1), proposal(1, 7), proposal(1, 7, True),
+    foreign = rng.choice((frame(3), survivor(1), fault(1), fault(0), proposal(1, 7), proposal(1, 7, True),
                           crash(1, 1, 0), end(0), end(1), b"KN\1\1" + bytes(10),
                           b"KW\1\1" + bytes(12), b"DC\1\1\0\0", b"DW\1\1\0\0\0\0", b"XX"))
     place = rng.randint(0, len(records))
@@ -98,28 +98,50 @@ def bad_frame(rng: Random, records: Records) -> Records:
     return replace_at(records, (b"FR",), rng, lambda _: frame(rng.choice((0, 65, 66, 128, 255))))
 
 
+def drives_of(records: Records) -> int:
+    """n, of at most 64, where a FR stands first."""
+    return min(records[0][2], 64) if len(records[0]) == 3 else 1
+
+
 def bad_mask(rng: Random, records: Records) -> Records:
-    n = records[0][2] if len(records[0]) == 3 else 1
-    above = 1 << min(n, 63)
+    above = 1 << min(drives_of(records), 63)
     masks = (0, above, above | 1, full(64), 1 << 63)
     return replace_at(records, (b"SV",), rng, lambda _: survivor(rng.choice(masks)))
 
 
-def too_many_sets(rng: Random, records: Records) -> Records:
-    """Repeats of the sets beyond 128, at times with a bad mask or a cut."""
-    sets = [record for record in records if record[:2] == b"SV"]
-    if not sets:
+def too_many(rng: Random, records: Records, kind: bytes, wrong: list[bytes]) -> Records:
+    """Repeats of the records of this kind beyond 128, at times with a wrong one or a cut."""
+    listed = [record for record in records if record[:2] == kind]
+    if not listed:
         return records
     total = rng.choice((128, 129, 129, 130, 255, 256, 257))
-    longer = (sets * (total // len(sets) + 1))[:total]
+    longer = (listed * (total // len(listed) + 1))[:total]
     if rng.random() < 0.3:
-        longer[rng.choice((0, 127, total - 1))] = survivor(0)
+        longer[rng.choice((0, 127, total - 1))] = rng.choice(wrong)
     if rng.random() < 0.2:
         return records[:1] + longer[:-1] + [longer[-1][:rng.randint(1, 9)]]
     return records[:1] + longer + [end(total)]
 
 
-TABLE_DAMAGE = RECORD_DAMAGE + (bad_frame, bad_mask, bad_mask, too_many_sets, too_many_sets)
+def too_many_sets(rng: Random, records: Records) -> Records:
+    return too_many(rng, records, b"SV", [survivor(0)])
+
+
+def other_kind(rng: Random, records: Records) -> Records:
+    """SV and FL in one file: of one record, of all from it on, or of all, the other mark, with the
+    mask as it was."""
+    marks = {b"SV": b"FL", b"FL": b"SV"}
+    found = whole_places(records, tuple(marks))
+    if not found:
+        return records
+    first = rng.randrange(len(found))
+    changed = set(rng.choice((found[first:first + 1], found[first:], found)))
+    return [marks[record[:2]] + record[2:] if place in changed else record
+            for place, record in enumerate(records)]
+
+
+TABLE_DAMAGE = RECORD_DAMAGE + (bad_frame, bad_mask, bad_mask, too_many_sets, too_many_sets,
+                                other_kind)
 
 
 def damaged(rng: Random, records: Records, kinds: tuple) -> bytes:
@@ -131,6 +153,27 @@ def damaged(rng: Random, records: Records, kinds: tuple) -> bytes:
     for _ in range(rng.choice((0, 0, 1, 2))):
         data = rng.choice(BYTE_DAMAGE)(rng, data)
     return data
+
+
+# Fault lists
+
+def wrong_groups(records: Records) -> list[bytes]:
+    """FL records of all n drives, with a drive above n, and both."""
+    n = drives_of(records)
+    above = 1 << min(n, 63)
+    return [fault(mask) for mask in (full(n), full(n), above, above | 1, above | full(n), full(64))]
+
+
+def bad_group(rng: Random, records: Records) -> Records:
+    return replace_at(records, (b"FL",), rng, lambda _: rng.choice(wrong_groups(records)))
+
+
+def too_many_groups(rng: Random, records: Records) -> Records:
+    return too_many(rng, records, b"FL", wrong_groups(records))
+
+
+FAULT_DAMAGE = RECORD_DAMAGE + (bad_frame, bad_group, bad_group, too_many_groups, too_many_groups,
+                                other_kind)
 
 
 # Run files

@@ -17,6 +17,12 @@ MAX_CORES = 1024
 Frame = tuple[int, list[int]]
 
 
+# Eleven pairs, with 2048 cores, of which ten have 1024; and 128 sets, one drive of each of seven pairs.
+PAIRS = [3 << 2 * pair for pair in range(11)]
+CHOICES = [sum(1 << 2 * i + b for i, b in enumerate(taken))
+           for taken in product((0, 1), repeat=7)]
+
+
 def normal_tables(most: int) -> Iterator[Frame]:
     """Every normal table of 1 to `most` drives, each once."""
     def longer(n: int, sets: list[int]) -> Iterator[Frame]:

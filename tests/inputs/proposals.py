@@ -61,7 +61,7 @@ def subsets(drives: list[int]) -> Iterator[tuple[int, ...]]:
 # A frame, a run file, and its refusal, 0 for none.
 Sample = tuple[Cored, bytes, int]
 
-MARKS_ONLY = (b"EN", b"CR", b"SV", b"FR", b"KN", b"XX")
+MARKS_ONLY = (b"EN", b"CR", b"SV", b"FL", b"FR", b"KN", b"XX")
 STOP = crash(1, 1, 0)
 
 

@@ -1,4 +1,4 @@
-"""Records, tables and run files as bytes, with no check at all.
+"""Records, tables, fault lists and run files as bytes, with no check at all.
 
 Separate from the reference's writer, since the generator also needs files
 that are wrong.
@@ -11,8 +11,8 @@ sys.path.insert(0, str(Path(__file__).resolve().parents[2] / "reference"))
 
 from regdulyn import Crash  # noqa: E402
 
-MARKS = (b"FR", b"SV", b"PR", b"PW", b"CR", b"EN", b"KN", b"KW", b"DC", b"DW")
-UNKNOWN_MARKS = (b"XX", b"fr", b"RF", b"VS", b"NE", b"\0\0", b"FL", b"BK", b"WK")
+MARKS = (b"FR", b"SV", b"PR", b"PW", b"CR", b"EN", b"KN", b"KW", b"DC", b"DW", b"FL")
+UNKNOWN_MARKS = (b"XX", b"fr", b"RF", b"VS", b"NE", b"\0\0", b"LF", b"BK", b"WK")
 
 # How many pattern numbers the old records can have, and how many there are.
 OLD_PATTERNS = 1 << 16
@@ -27,6 +27,10 @@ def frame(n: int) -> bytes:
 
 def survivor(mask: int) -> bytes:
     return b"SV" + mask.to_bytes(8, "little")
+
+
+def fault(mask: int) -> bytes:
+    return b"FL" + mask.to_bytes(8, "little")
 
 
 def proposal(drive: int, pattern: int, wide: bool = False) -> bytes:
@@ -52,6 +56,14 @@ def table(n: int, sets: list[int]) -> bytes:
     return b"".join(table_records(n, sets))
 
 
+def fault_records(n: int, groups: list[int]) -> Records:
+    return [frame(n), *map(fault, groups), end(len(groups))]
+
+
+def fault_list(n: int, groups: list[int]) -> bytes:
+    return b"".join(fault_records(n, groups))
+
+
 def run_records(proposals: list[int], crashes: list[Crash], wide: int = 0,
                 left_out: int = 0) -> Records:
     """`wide` is the set of the drives that have a PW whatever their number, and `left_out` that
@@ -67,7 +79,7 @@ def run(proposals: list[int], crashes: list[Crash], wide: int = 0, left_out: int
 
 
 PROPOSAL_MARKS = (b"PR", b"PW")
-WIDTHS = {b"FR": 1, b"SV": 8, b"PR": 3, b"PW": 5, b"CR": 3, b"EN": 1}
+WIDTHS = {b"FR": 1, b"SV": 8, b"FL": 8, b"PR": 3, b"PW": 5, b"CR": 3, b"EN": 1}
 
 
 def file_records(data: bytes) -> Records:

@@ -1,5 +1,5 @@
 """Scripts of calls: a few operations of each kind, the samples, the limits of the calls
-given n and sets, then seeded ones with operations of every kind at random."""
+given n and sets or groups, then seeded ones with operations of every kind at random."""
 
 from itertools import chain
 from random import Random
@@ -7,10 +7,11 @@ from typing import Iterator
 
 from regdulyn import Crash
 
-from . import run_calls, set_calls
+from . import fault_calls, run_calls, set_calls
 from .calls import MAX_BYTES, Script
 from .exchanges import exchange, handmade, openings
-from .records import crash, end
+from .frames import PAIRS
+from .records import crash, end, fault_list
 from .samples import (A_SETS, CORE_DRIVE, HEARD_2, MISSED_2, PATTERNS, PROPOSALS, dw, kn, kw,
                       make_calls, make_messages, state)
 from .states import broken_states
@@ -53,17 +54,23 @@ def each_kind(script: Script) -> None:
         script.judge(k, n, sets)
     for group in (7, 6, 0x40):
         script.miss(6, A_SETS, group)
-    for n, sets in ((6, A_SETS), (6, []), (22, set_calls.PAIRS)):
+    for n, sets in ((6, A_SETS), (6, []), (22, PAIRS)):
         script.cores(n, sets)
     for n, t in ((6, 2), (65, 70), (6, 6), (64, 2), (46, 1)):
         script.threshold(n, t)
+    for groups in ([8, 4, 3, 1], [3, 0x10], [0xF]):
+        script.read_faults(fault_list(4, groups), 3)
+        script.write_faults(4, groups, 40, 3)
+        script.table_from_faults(4, groups, 3)
+    script.faults_from_table(6, [3, *A_SETS], 3)
+    script.faults_from_table(6, A_SETS, 2)
     for stops in (crash(2, 1, 1), crash(2, 1, 6), crash(2, 1, 1) + crash(4, 2, 0)):
         script.simulate_file(6, A_SETS, PROPOSALS + stops + end(1))
     for drives in ((2,), (1, 2), (1, 2, 3), (6, 7)):
         script.simulate(6, A_SETS, PATTERNS, [Crash(drive, 1, 0) for drive in drives])
 
 
-FIXED = (each_kind, make_messages, make_calls, *set_calls.LIMITS, *run_calls.LIMITS)
+FIXED = (each_kind, make_messages, make_calls, *set_calls.LIMITS, *fault_calls.LIMITS, *run_calls.LIMITS)
 
 
 def fixed_scripts() -> Iterator[Script]:
@@ -81,14 +88,16 @@ def random_scripts(seed: int) -> Iterator[Script]:
         script.close()
         while len(script.lines) < OPERATIONS and len(script.data) < MAX_BYTES // 2:
             chance = rng.random()
-            if chance < 0.22:
+            if chance < 0.20:
                 exchange(rng, script)
-            elif chance < 0.56:
+            elif chance < 0.52:
                 handmade(rng, script, broken)
-            elif chance < 0.65:
+            elif chance < 0.60:
                 openings(rng, script)
-            elif chance < 0.88:
+            elif chance < 0.80:
                 set_calls.set_calls(rng, script)
+            elif chance < 0.88:
+                fault_calls.fault_calls(rng, script)
             else:
                 run_calls.run_calls(rng, script)
         if len(script.data) <= MAX_BYTES:

@@ -11,19 +11,14 @@ from typing import Iterable, Iterator
 from regdulyn import Refusal, cores, write_table
 
 from .calls import Script
-from .frames import (MAX_CORES, MAX_SETS, Frame, accepted_table, crowded_table, full, hard_frames,
-                     normal_tables)
+from .frames import (CHOICES, MAX_CORES, MAX_SETS, PAIRS, Frame, accepted_table, crowded_table, full,
+                     hard_frames, normal_tables)
 
 BUFFER = 1536
 NO_BLOCK_COUNTS = (0, 1, 5, 6, 255)
 
 
 # At the limits
-
-PAIRS = [3 << 2 * pair for pair in range(11)]
-CHOICES = [sum(1 << 2 * i + b for i, b in enumerate(taken))
-           for taken in product((0, 1), repeat=7)]
-
 
 def limit_tables() -> Iterator[Frame]:
     """Around 1 and 64 drives, none, 1 and 128 sets, and 1024 cores."""
