@@ -2,7 +2,8 @@
  * Bytes of stack that each call of include/regdulyn.h touches. The call is made in a thread whose stack was painted
  * before, and what is no longer painted below the caller's frame is counted: the arguments and the reply that pass by
  * value are among it. Calls that are given a table are made with the tables named as arguments and with some built
- * here, and the largest count stands. A word that is touched in part counts whole.
+ * here, those that are given a fault list with that of the table, and the largest count stands. A word that is touched
+ * in part counts whole.
  */
 #define _GNU_SOURCE
 #include <pthread.h>
@@ -18,10 +19,12 @@ enum { STACK = 1 << 20, PAINT = 0x5a };
 static uint8_t drives;
 static uint64_t sets[REGDULYN_MAX_SETS];
 static size_t count;
+static uint64_t groups[REGDULYN_MAX_SETS];
 static uint64_t cores[REGDULYN_MAX_CORES], lent[REGDULYN_MAX_CORES];
 static size_t found;
 static uint8_t file[REGDULYN_MAX_TABLE + REGDULYN_MAX_RUN];
 static size_t table_size, file_size;
+static uint8_t fault_file[REGDULYN_MAX_TABLE];
 static regdulyn_scenario scenario;
 static regdulyn_state state;
 static uint8_t message[REGDULYN_MAX_MESSAGE], buffer[REGDULYN_MAX_LISTING];
@@ -46,6 +49,11 @@ CALL(send_list, refusal = regdulyn_send_list(state, buffer, REGDULYN_MAX_DRIVES)
 CALL(read_table, refusal = regdulyn_read_table(file, file_size, lent, REGDULYN_MAX_SETS).refusal)
 CALL(read_whole, refusal = regdulyn_read_whole(file, table_size, lent, REGDULYN_MAX_SETS).refusal)
 CALL(write_table, refusal = regdulyn_write_table(drives, sets, count, buffer, sizeof buffer, 0).refusal)
+CALL(read_faults, refusal = regdulyn_read_faults(fault_file, table_size, lent, REGDULYN_MAX_SETS).refusal)
+CALL(write_faults, refusal = regdulyn_write_faults(drives, groups, count, buffer, sizeof buffer, 0).refusal)
+CALL(table_from_faults,
+     refusal = regdulyn_table_from_faults(drives, groups, count, lent, REGDULYN_MAX_SETS).refusal)
+CALL(faults_from_table, refusal = regdulyn_faults_from_table(drives, sets, count, lent, REGDULYN_MAX_SETS).refusal)
 CALL(cores, refusal = regdulyn_cores(drives, sets, count, lent, REGDULYN_MAX_CORES).refusal)
 CALL(back, refusal = regdulyn_back(drives, cores, found, lent, REGDULYN_MAX_SETS).refusal)
 CALL(back_of_sets, refusal = regdulyn_back(drives, sets, count, lent, REGDULYN_MAX_SETS).refusal)
@@ -70,6 +78,10 @@ static struct call of_tables[] = {
     {"regdulyn_read_table", read_table_call, 0},
     {"regdulyn_read_whole", read_whole_call, 0},
     {"regdulyn_write_table", write_table_call, 0},
+    {"regdulyn_read_faults", read_faults_call, 0},
+    {"regdulyn_write_faults", write_faults_call, 0},
+    {"regdulyn_table_from_faults", table_from_faults_call, 0},
+    {"regdulyn_faults_from_table", faults_from_table_call, 0},
     {"regdulyn_cores", cores_call, 0},
     {"regdulyn_back of the cores", back_call, 0},
     {"regdulyn_back of the sets", back_of_sets_call, 0},
@@ -121,7 +133,10 @@ static void put(const void *bytes, size_t size)
     file_size += size;
 }
 
-/* The table's bytes, the sets as they are listed, with a run file of no stops behind it; and its cores as groups. */
+/*
+ * The table's bytes, the sets as they are listed, with a run file of no stops behind it; the fault list of the same
+ * sets; and the table's cores as groups.
+ */
 static void prepare(void)
 {
     file_size = 0;
@@ -137,6 +152,13 @@ static void prepare(void)
     put("EN", 2);
     put((uint8_t[]){(uint8_t)count}, 1);
     table_size = file_size;
+    memcpy(fault_file, file, table_size);
+    for (size_t i = 0; i < count; i++) {
+        groups[i] = ~sets[i] & ~UINT64_C(0) >> (64 - drives);
+        memcpy(fault_file + 3 + 10 * i, "FL", 2);
+        for (size_t k = 0; k < 8; k++)
+            fault_file[3 + 10 * i + 2 + k] = (uint8_t)(groups[i] >> 8 * k);
+    }
     for (uint8_t d = 1; d <= drives; d++) {
         put("PW", 2);
         put((uint8_t[]){d, d, 0, 1, 0}, 5);

@@ -7,7 +7,7 @@ use Rattle.drive_sets.specs.declared.Answer.{Answer}
 use Rattle.drive_sets.specs.declared.Answer.the-variants.{Accepted, Refused}
 use Rattle.drive_sets.specs.declared.Refusal.{Refusal}
 use Rattle.drive_sets.specs.Loops.Scan.{Scan, scan-start, scan-next, scan-turn, scan-end}
-use Rattle.drive_sets.specs.Refusals.{Outcome, refused, result, number, outcomeOf}
+use Rattle.drive_sets.specs.Refusals.{refused, result, number, outcomeOf}
 use Rattle.survivor_tables.specs.declared.frames.MaskKind.{MaskKind}
 use Rattle.survivor_tables.specs.Tables.{checkedMask, eachMask}
 

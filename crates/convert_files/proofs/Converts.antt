@@ -11,9 +11,9 @@ use Rattle.complete_tables.specs.Complete.{Complete, setsOf, withCores, complet
 use Rattle.table_files.specs.Files.{ReadTable, readWhole, tableBytes}
 use Rattle.table_files.specs.WithCores.{readWholeComplete}
 use Rattle.table_files.proofs.TableReads.{read-refused, read-accepted}
-use Rattle.fault_lists.specs.FaultLists.{tableFromFaults, faultsFromTable}
+use Rattle.fault_lists.specs.FaultLists.{tableFromFaults}
 use Rattle.fault_files.specs.declared.FaultsRead.{FaultsRead}
-use Rattle.fault_files.specs.FaultFiles.{readFaults, faultBytes, faultsOutcome}
+use Rattle.fault_files.specs.FaultFiles.{readFaults, writeTableFaults, faultsOutcome}
 use Rattle.convert_files.specs.ConvertFiles.{tableFile, faultFile}
 
 -- ---- a fault list
@@ -40,18 +40,13 @@ module _ (r : FaultsRead) (s : List ℕ) (e : faultsOutcome r ≡ readFaults s) 
 -- ---- a table
 
 module _ (t : TableWithCores) (s : List ℕ) (e : completeOutcome t ≡ readWholeComplete s) where
-  abbrev listOf : ReadTable → Outcome (List ℕ)
-  listOf u = andThen (faultsFromTable (u .n) (u .sets)) (λ groups. result (faultBytes (u .n) groups))
-
   pub table-refused : {q : Refusal} → t .answer ≡ Refused q → faultFile s ≡ refused (number q)
   unfolding faultFile readWholeComplete
-  table-refused f = ap (λ (o : Outcome ReadTable). andThen o listOf) (read-refused t (readWhole s) e f)
+  table-refused f = ap (λ (o : Outcome ReadTable). andThen o (λ u. writeTableFaults (u .n) (u .sets))) (read-refused t (readWhole s) e f)
 
-  pub table-given : t .answer ≡ Accepted → {part : List ℕ} → part ≡ setsOf (t .table)
-      → andThen (faultsFromTable (t .table .n) part) (λ groups. result (faultBytes (t .table .n) groups)) ≡ faultFile s
+  pub table-given : t .answer ≡ Accepted → {part : List ℕ} → part ≡ setsOf (t .table) → writeTableFaults (t .table .n) part ≡ faultFile s
   unfolding faultFile readWholeComplete withCores
   table-given f g =
       let w = read-accepted t (readWhole s) e f in
-      ap (λ (l : List ℕ). andThen (faultsFromTable (t .table .n) l) (λ groups. result (faultBytes (t .table .n) groups))) g
-      ∙ sym (ap (λ (o : Outcome ReadTable). andThen o listOf) (w .1)
-      ∙ ap (λ (c : Complete). andThen (faultsFromTable (c .n) (c .sets)) (λ groups. result (faultBytes (c .n) groups))) (w .2))
+      ap (writeTableFaults (t .table .n)) g
+      ∙ sym (ap (λ (o : Outcome ReadTable). andThen o (λ u. writeTableFaults (u .n) (u .sets))) (w .1) ∙ ap (λ (c : Complete). writeTableFaults (c .n) (c .sets)) (w .2))

@@ -6,7 +6,7 @@ use native.Mathlib.Omega.{arith}
 use lib.ListN.{length}
 use Rattle.drive_sets.specs.Bools.Laws.{by-test, cond-true, cond-false}
 use Rattle.drive_sets.specs.Limits.{maxSets, maxText}
-use Rattle.drive_sets.specs.Refusals.{Outcome, refused, result, andThen}
+use Rattle.drive_sets.specs.Refusals.{Outcome, refused, result}
 use Rattle.drive_sets.specs.Refusals.Laws.{same-result, first-result}
 use Rattle.survivor_tables.specs.declared.frames.MaskKind.{MaskKind}
 use Rattle.survivor_tables.specs.declared.frames.MaskKind.the-variants.{SurvivorSet, FaultGroup}
@@ -15,7 +15,7 @@ use Rattle.table_files.specs.Files.{readWhole, fileBytes, tableBytes}
 use Rattle.table_writing.proofs.Writes.{length-file}
 use Rattle.fault_lists.specs.FaultLists.{rests, tableFromFaults, faultsFromTable}
 use Rattle.fault_lists.specs.FaultLists.Laws.{from-faults, table-list, list-again}
-use Rattle.fault_files.specs.FaultFiles.{readFaults, faultBytes}
+use Rattle.fault_files.specs.FaultFiles.{readFaults, faultBytes, writeTableFaults}
 use Rattle.text.specs.Printing.{printed}
 use Rattle.text.proofs.Lengths.{refusal-length}
 use Rattle.convert_files.specs.ConvertFiles.{isFaultList, tableFile, faultFile, convertFile, convertProgram}
@@ -33,7 +33,7 @@ table-short s e =
     short SurvivorSet (l .n) (made .0) (same-result (made .2)) (omega (arith, ap length (w .is), accepted-normal (l .n) (rests (l .n) (l .sets)) (w .accepted) .most))
 
 fault-short : (s : List ℕ) {file : List ℕ} → faultFile s ≡ result file → length file ≤ maxText
-unfolding faultFile
+unfolding faultFile writeTableFaults
 fault-short s e =
     let read = first-result (readWhole s) _ e in
     let t = read .0 in

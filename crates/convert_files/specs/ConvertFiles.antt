@@ -8,8 +8,8 @@ use Rattle.drive_sets.specs.Refusals.{Outcome, result, andThen}
 use Rattle.records.specs.declared.Kind.the-variants.{Fault}
 use Rattle.records.specs.Marks.{isKind, kindAt}
 use Rattle.table_files.specs.Files.{readWhole, tableBytes}
-use Rattle.fault_lists.specs.FaultLists.{tableFromFaults, faultsFromTable}
-use Rattle.fault_files.specs.FaultFiles.{readFaults, faultBytes}
+use Rattle.fault_lists.specs.FaultLists.{tableFromFaults}
+use Rattle.fault_files.specs.FaultFiles.{readFaults, faultBytes, writeTableFaults}
 use Rattle.text.specs.Printing.{printed}
 pub mod Laws
 
@@ -23,7 +23,7 @@ tableFile s = andThen (readFaults s) (λ l. andThen (tableFromFaults (l .n) (l .
 
 -- the file of the fault list of a table
 unfoldable pub faultFile : List ℕ → Outcome (List ℕ)
-faultFile s = andThen (readWhole s) (λ t. andThen (faultsFromTable (t .n) (t .sets)) (λ groups. result (faultBytes (t .n) groups)))
+faultFile s = andThen (readWhole s) (λ t. writeTableFaults (t .n) (t .sets))
 
 unfoldable pub convertFile : List ℕ → Outcome (List ℕ)
 convertFile s =

@@ -9,12 +9,11 @@ ghost use Rattle.drive_sets.specs.Refusals.{result, andThen};
 ghost use Rattle.lent_bytes.specs.LentBuffers.{WrittenIfRoom};
 ghost use Rattle.text.specs.Printing.{Printed};
 ghost use Rattle.table_files.specs.Files.{tableBytes};
-ghost use Rattle.fault_lists.specs.FaultLists.{tableFromFaults, faultsFromTable};
-ghost use Rattle.fault_files.specs.FaultFiles.{faultBytes};
+ghost use Rattle.fault_lists.specs.FaultLists.{tableFromFaults};
 ghost use Rattle.convert_files.specs.ConvertFiles.{isFaultList, tableFile, faultFile, convertFile, convertProgram};
 use drive_sets::Answer;
 use fault_files::read_faults;
-use fault_lists::faults_from_table;
+use fault_files::write_table_faults;
 use fault_lists::table_from_faults;
 use lent_bytes::Writing;
 use records::Due;
@@ -49,20 +48,6 @@ fn write_table_from(n: u8, groups: &[u64], buf: &mut [u8]) -> Writing
     }
 }
 
-// The fault list of a table over the first bytes of the buffer.
-fn write_faults_from(n: u8, sets: &[u64], buf: &mut [u8]) -> Writing
-    ensures { λ r. ⌜ WrittenIfRoom (andThen (faultsFromTable n (now (sets .entry))) (λ groups. result (faultBytes n groups))) 0 (now (buf .entry)) (now (buf .exit)) r ⌝ }
-{
-    let list = faults_from_table(n, sets);
-    let answer = list.answer;
-    let groups = list.sets;
-    let count = list.count;
-    match answer {
-        Answer::Refused(r) => Writing::Refused(r),
-        Answer::Accepted => write_list(MaskKind::FaultGroup, n, &groups[0..count], buf, 0),
-    }
-}
-
 // The file of the table of the fault list that the input is.
 fn write_table_file(input: &[u8], buf: &mut [u8]) -> Writing
     ensures { λ r. ⌜ WrittenIfRoom (tableFile (now (input .entry))) 0 (now (buf .entry)) (now (buf .exit)) r ⌝ }
@@ -89,7 +74,7 @@ fn write_fault_file(input: &[u8], buf: &mut [u8]) -> Writing
     let count = table.count;
     match answer {
         Answer::Refused(r) => Writing::Refused(r),
-        Answer::Accepted => write_faults_from(table.n, &sets[0..count], buf),
+        Answer::Accepted => write_table_faults(table.n, &sets[0..count], buf, 0),
     }
 }
 

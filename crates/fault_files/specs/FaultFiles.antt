@@ -1,5 +1,4 @@
 -- Fault lists as bytes: FR with n, 1 to 128 FL with a mask, EN with their count, and nothing more. Document 02 (vi).
-use mathlib.Core.Path.{_≡_}
 use mathlib.Core.List.{List, []}
 use Prim.Native.Nat.{ℕ, _≤_}
 use lib.ListN.{replicate}
@@ -11,7 +10,7 @@ use Rattle.survivor_tables.specs.declared.frames.MaskKind.the-variants.{FaultGr
 use Rattle.survivor_tables.specs.Tables.{withinCoreLimit}
 use Rattle.complete_tables.specs.Complete.{setsOf}
 use Rattle.table_files.specs.Files.{ReadTable, readAll, fileBytes}
-use Rattle.fault_lists.specs.FaultLists.{rests, largest, faultList}
+use Rattle.fault_lists.specs.FaultLists.{rests, largest, faultList, faultsFromTable}
 use Rattle.fault_files.specs.declared.FaultsRead.{FaultsRead}
 pub mod Laws
 
@@ -33,6 +32,10 @@ faultBytes = fileBytes FaultGroup
 -- the bytes of the fault list in normal form, after the refusals of a call given n and groups
 unfoldable pub writeFaults : ℕ → List ℕ → Outcome (List ℕ)
 writeFaults n groups = andThen (faultList n groups) (λ list. result (faultBytes n list))
+
+-- the bytes of the fault list of a table, after the refusals of a call given n and sets
+unfoldable pub writeTableFaults : ℕ → List ℕ → Outcome (List ℕ)
+writeTableFaults n sets = andThen (faultsFromTable n sets) (λ list. result (faultBytes n list))
 
 -- ---- what an answer says
 

@@ -1,35 +1,35 @@
 -- The promises about fault lists, from the laws of the conversions, of fault lists as bytes and of failure models.
-use mathlib.Core.Path.{_≡_, refl, sym, ap, _∙_, subst}
+use mathlib.Core.Path.{_≡_, sym, ap, _∙_, subst}
 use mathlib.Core.Bool.{true}
-use mathlib.Core.List.{List, []}
+use mathlib.Core.List.{List}
 use mathlib.Core.Logic.{_↔_}
-use Prim.Native.Nat.{ℕ, _+_}
+use Prim.Native.Nat.{ℕ, _+_, _≤_}
 use lib.Dec.{eqb}
 use lib.ListN.{take, drop}
 use lib.Seq.{take-at}
 use borrow.Author.Tests.{eqb-true, eqb-false}
 use Rattle.drive_sets.specs.Bools.Laws.{true-of}
-use Rattle.drive_sets.specs.Lists.{elem}
-use Rattle.drive_sets.specs.Masks.{outside, subset}
+use Rattle.drive_sets.specs.Lists.{any, elem}
+use Rattle.drive_sets.specs.Masks.{outside, subset, Below}
 use Rattle.drive_sets.specs.Refusals.{Outcome, result, andThen}
 use Rattle.drive_sets.specs.Refusals.Laws.{first-result, same-result}
 use Rattle.survivor_tables.specs.Executions.{Describes}
 use Rattle.survivor_tables.specs.Order.{normal}
 use Rattle.survivor_tables.specs.Tables.{normalTable, Accepted}
-use Rattle.survivor_tables.specs.Tables.Laws.{table-accepted, accepted-table, sets-below}
+use Rattle.survivor_tables.specs.Tables.Laws.{table-accepted, accepted-table, accepted-normal, sets-below}
 use Rattle.complete_tables.specs.Complete.{Complete, withCores, completeTable}
 use Rattle.fault_lists.specs.FaultLists.{rests, largest, tableFromFaults, completeFromFaults, faultList, faultsFromTable}
 use Rattle.fault_lists.specs.FaultLists.Rests.{rests-below, rests-rests}
-use Rattle.fault_lists.specs.FaultLists.Largest.{largest-elem, largest-alone, alone-largest, largest-rising, rests-largest}
-use Rattle.fault_lists.specs.FaultLists.Laws.{groups-below, from-faults, faults-back, table-back, table-list, normal-largest}
-use Rattle.fault_lists.specs.FailureModels.{FailProne, CanFail, RestHolds}
+use Rattle.fault_lists.specs.FaultLists.Largest.{largest-elem, largest-alone, alone-largest, largest-rising, largest-rests, rests-largest}
+use Rattle.fault_lists.specs.FaultLists.Laws.{groups-below, from-faults, faults-back, table-back, normal-largest}
+use Rattle.fault_lists.specs.FailureModels.{CanFail, RestHolds}
 use Rattle.fault_lists.specs.FailureModels.Laws.{fail-prone, one-model, same-model, held-normal, fails-described}
 use Rattle.fault_files.specs.FaultFiles.{readFaults, writeFaults, faultBytes}
 use Rattle.fault_files.specs.FaultFiles.Laws.{faults-written, faults-read}
 use Rattle.convert_files.specs.ConvertFiles.Laws.{there-and-back}
-use Rattle.promises.specs.Cores.{TableSays, ListingDescribes, CoresOfCall}
-use Rattle.promises.specs.FaultLists.{FaultsThereAndBack, TablesThereAndBack, FilesThereAndBack, LargestOf, LargestOfFaults, LargestOfTable, WrittenFaultsReadBack, ReadFaultsWritten, FaultsFailProne, TablesFailProne, SameModel, CoresOfFaults}
-use Rattle.promises.proofs.Cores.{listing-describes, cores-of-call}
+use Rattle.promises.specs.Cores.{CoresOfCall}
+use Rattle.promises.specs.FaultLists.{FaultsThereAndBack, TablesThereAndBack, FilesThereAndBack, LargestOf, LargestOfFaults, LargestOfTable, WrittenFaultsReadBack, ReadFaultsWritten, FaultsFailProne, TablesFailProne, SameModel, LargestTell, CoresOfFaults}
+use Rattle.promises.proofs.Cores.{cores-of-call}
 use Rattle.promises.proofs.RoundTrip.{stands}
 
 -- ---- there and back
@@ -126,14 +126,53 @@ same-models n groups table e f =
       (λ r. one .1 (r .0, sym held ∙ r .1)),
     )
 
-pub cores-of-faults : CoresOfFaults
-unfolding CoresOfFaults CoresOfCall ListingDescribes completeFromFaults completeTable withCores
-cores-of-faults n groups t e Φ faulty told =
-    let made = first-result (tableFromFaults n groups) (λ table. result (withCores n table)) e in
+-- a list in normal form, whose rests are the normal table of the groups' rests
+record Listed (n : ℕ) (groups list : List ℕ) : Type 0 where
+  accepted : Accepted n (rests n groups)
+  below : Below n groups
+  own : (g : ℕ) → elem g list ≡ true → elem g groups ≡ true
+  table : rests n list ≡ normal (rests n groups)
+
+listed : (n : ℕ) (groups list : List ℕ) → faultList n groups ≡ result list → Listed n groups list
+unfolding faultList
+listed n groups list e =
+    let made = first-result (tableFromFaults n groups) (λ table. result (largest groups)) e in
     let w = from-faults n groups (made .1) in
+    let a = w .accepted in
+    let below = groups-below n groups (w .checked) in
+    let is = faults-given n groups list e in
+    record {
+      accepted = a;
+      below = below;
+      own = λ g h. largest-elem groups g (ap (elem g) (sym is) ∙ h);
+      table = ap (rests n) (is ∙ largest-rests n (a .high) groups below) ∙ rests-rests n (a .high) (normal (rests n groups)) (sets-below n (normal (rests n groups)) (accepted-normal n (rests n groups) a));
+    }
+
+pub largest-tell : LargestTell
+unfolding LargestTell
+largest-tell n groups list e Φ faulty told = record {
+  within = told .within;
+  in-group = λ φ.
+      let f = faulty φ in
+      let held = one-model n groups (l .below) high f .0 (told .in-group φ) in
+      one-model n list (λ g h. l .below g (l .own g h)) high f .1
+      (held .0, ap (any (λ s. subset s (outside n f))) (l .table) ∙ (held-normal n high (rests n groups) (rests-below n groups) (outside n f) ∙ held .1));
+  occurs = λ g h. told .occurs g (l .own g h);
+}
+  where
+    l : Listed n groups list
+    l = listed n groups list e
+
+    high : n ≤ 64
+    high = l .accepted .high
+
+pub cores-of-faults : CoresOfFaults
+unfolding CoresOfFaults CoresOfCall completeFromFaults completeTable withCores
+cores-of-faults n groups list t e made Φ faulty told =
+    let l = listed n groups list e in
     let sets = rests n groups in
-    let is = sym (same-result (made .2)) ∙ ap (withCores n) (w .is) in
-    let correct : Φ → ℕ = λ φ. outside n (faulty φ) in
-    let given : completeTable n sets ≡ result t = ap (λ (o : Outcome (List ℕ)). andThen o (λ table. result (withCores n table))) (accepted-table n sets (w .accepted)) ∙ ap result (sym is) in
-    let described = fails-described n groups (groups-below n groups (w .checked)) (w .accepted .high) faulty told in
-    cores-of-call n sets t given Φ correct (subst (λ (c : Complete). Describes n (c .sets) correct) (sym is) (listing-describes n sets (w .accepted) Φ correct described))
+    let first = first-result (tableFromFaults n groups) (λ table. result (withCores n table)) made in
+    let is = sym (same-result (first .2)) ∙ ap (withCores n) (from-faults n groups (first .1) .is) in
+    let given : completeTable n sets ≡ result t = ap (λ (o : Outcome (List ℕ)). andThen o (λ table. result (withCores n table))) (accepted-table n sets (l .accepted)) ∙ ap result (sym is) in
+    let described = fails-described n list (λ g h. l .below g (l .own g h)) (l .accepted .high) faulty told in
+    cores-of-call n sets t given Φ (λ φ. outside n (faulty φ)) (subst (λ (s : List ℕ). Describes n s (λ φ. outside n (faulty φ))) (l .table ∙ sym (ap (λ (c : Complete). c .sets) is)) described)

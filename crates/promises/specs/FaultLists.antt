@@ -73,8 +73,13 @@ TablesFailProne = (n : ℕ) (sets list : List ℕ) → faultsFromTable n sets �
 unfoldable pub SameModel : Type 0
 SameModel = (n : ℕ) (groups table : List ℕ) → tableFromFaults n groups ≡ result table → (f : ℕ) → CanFail groups f ↔ RestHolds n table f
 
--- and the table with its cores says of the executions that a fault list tells of what it says of those that a table
+-- where the listed groups tell of the executions, the list in normal form does, which asks for less: a group that it
+-- drops need not fail as a whole
+unfoldable pub LargestTell : Type 1
+LargestTell = (n : ℕ) (groups list : List ℕ) → faultList n groups ≡ result list → (Φ : Type 0) (faulty : Φ → ℕ) → FailsAs n groups faulty → FailsAs n list faulty
+
+-- and the table with its cores says of the executions that the list tells of what it says of those that a table
 -- describes: its sets are their survivor sets, and its cores their cores
 unfoldable pub CoresOfFaults : Type 1
-CoresOfFaults = (n : ℕ) (groups : List ℕ) (t : Complete) → completeFromFaults n groups ≡ result t
-    → (Φ : Type 0) (faulty : Φ → ℕ) → FailsAs n groups faulty → TableSays n (λ φ. outside n (faulty φ)) t
+CoresOfFaults = (n : ℕ) (groups list : List ℕ) (t : Complete) → faultList n groups ≡ result list → completeFromFaults n groups ≡ result t
+    → (Φ : Type 0) (faulty : Φ → ℕ) → FailsAs n list faulty → TableSays n (λ φ. outside n (faulty φ)) t

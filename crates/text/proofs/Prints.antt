@@ -11,20 +11,19 @@ use lib.Seq.{take-all}
 use borrow.Author.Tests.{le-leb, leb-true, not-false}
 use borrow.Rule.Slice.PartMut.{putMid}
 use Rattle.drive_sets.specs.Bools.Laws.{cond-true}
-use Rattle.drive_sets.specs.declared.Refusal.{Refusal}
 use Rattle.drive_sets.specs.Filled.{Filled}
 use Rattle.drive_sets.specs.Filled.Laws.{filled-same}
-use Rattle.drive_sets.specs.Refusals.{Outcome, refused, result, number}
+use Rattle.drive_sets.specs.Refusals.{Outcome, refused, result}
 use Rattle.drive_sets.specs.Refusals.Laws.{refused-no-result, same-refused, same-result}
 use Rattle.lent_bytes.specs.declared.Writing.{Writing}
 use Rattle.lent_bytes.specs.declared.Writing.the-variants as writings
 use Rattle.drive_sets.specs.Lent.{written, sizeWritten, bufferAfter}
 use Rattle.drive_sets.specs.Lent.Laws.{has-room, first-places}
-use Rattle.lent_bytes.specs.LentBuffers.{writingOutcome, WrittenIfRoom}
+use Rattle.lent_bytes.specs.LentBuffers.{WrittenIfRoom}
 use Rattle.records.proofs.Parts.{rest-is}
 use Rattle.lent_bytes.proofs.Buffers.{written-all}
 use Rattle.text.specs.Text.{refusalLine}
-use Rattle.text.specs.Printing.{Printed, bytesIn, printed}
+use Rattle.text.specs.Printing.{Printed, bytesIn, AnswerPut, printed}
 use Rattle.text.proofs.Puts.{cut}
 
 pub prints-all : (text : List ℕ) (start : ℕ) (old : List ℕ) (t : Bool) (e : t ≡ leb (start + length text) (length old)) → not t ≡ false → (back : List ℕ)
@@ -55,25 +54,19 @@ counted buf w r e = ((omega arith, omega (arith, length-take r buf)), e)
 
 -- ---- what was written, or refused, where there is room
 
-module _ {old new : List ℕ} where
-  pub file-put : (o : Outcome (List ℕ)) → length (printed o) ≤ length old → {w : Writing} → WrittenIfRoom o 0 old new w
-      → {size : ℕ} → w ≡ writings.Wrote size → Filled old new 0 size (printed o)
-  file-put (refused r) fits put e = absurd (refused-no-result (sym (put .answer) ∙ ap writingOutcome e))
-  file-put (result file) fits put {size} e =
-      let room : 0 + length file ≤ length old = omega (arith, fits) in
-      let roomy = has-room 0 (length old) file room in
-      let count = sym (same-result (sym (ap writingOutcome e) ∙ (put .answer ∙ ap sizeWritten roomy))) in record {
-        total = omega (arith, count, fits);
-        kept = λ k. ap (take size) (put .buffer ∙ ap (λ (o : Outcome (List ℕ)). bufferAfter o 0 old) roomy) ∙ first-places old file size count fits;
-      }
-
-  -- the refusal is not for want of room, and its line goes over the first places of a buffer as long
-  pub line-put : (o : Outcome (List ℕ)) → length (printed o) ≤ length old → {w : Writing} → WrittenIfRoom o 0 old new w
-      → {q : Refusal} → w ≡ writings.Refused q → {back : List ℕ} {r : ℕ} → length new ≡ length old → Filled new back 0 r (refusalLine (number q))
-      → Filled old back 0 r (printed o)
-  line-put (refused r) fits put e long line =
-      filled-same (ap refusalLine (same-refused (sym (put .answer) ∙ ap writingOutcome e)))
-      (record { total = omega (arith, line .total, long); kept = λ k. line .kept (omega (arith, long)) })
-  line-put (result file) fits put e long line =
-      let room : 0 + length file ≤ length old = omega (arith, fits) in
-      absurd (refused-no-result (sym (ap writingOutcome e) ∙ (put .answer ∙ ap sizeWritten (has-room 0 (length old) file room))))
+-- so what is left of the answer is what is printed
+pub answer-printed : (o : Outcome (List ℕ)) {old mid new : List ℕ} {w : Writing} {count : ℕ} → length (printed o) ≤ length old → length mid ≡ length old
+    → WrittenIfRoom o 0 old mid w → AnswerPut w mid new count → Filled old new 0 count (printed o)
+answer-printed (refused r) {w = writings.Wrote size} fits long put left = absurd (refused-no-result (sym (put .answer)))
+answer-printed (result file) {old} {w = writings.Wrote size} {count} fits long put left =
+    let room : 0 + length file ≤ length old = omega (arith, fits) in
+    let roomy = has-room 0 (length old) file room in
+    let many = sym (left .1 ∙ same-result (put .answer ∙ ap sizeWritten roomy)) in record {
+      total = omega (arith, many, fits);
+      kept = λ k. ap (take count) (left .0 ∙ (put .buffer ∙ ap (λ (o : Outcome (List ℕ)). bufferAfter o 0 old) roomy)) ∙ first-places old file count many fits;
+    }
+answer-printed (refused r) {w = writings.Refused q} fits long put line =
+    filled-same (ap refusalLine (same-refused (sym (put .answer)))) (record { total = omega (arith, line .total, long); kept = λ k. line .kept (omega (arith, long)) })
+answer-printed (result file) {old} {w = writings.Refused q} fits long put line =
+    let room : 0 + length file ≤ length old = omega (arith, fits) in
+    absurd (refused-no-result (put .answer ∙ ap sizeWritten (has-room 0 (length old) file room)))

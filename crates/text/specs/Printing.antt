@@ -1,7 +1,10 @@
--- A text put into a lent buffer from a starting place on, how many bytes an answer says, and what is printed of a file.
+-- A text put into a lent buffer from a starting place on, what an answer says of the bytes there, and what is printed
+-- of a file.
+use mathlib.Core.Path.{_≡_}
 use mathlib.Core.List.{List}
 use Prim.Native.Nat.{ℕ}
-use Rattle.drive_sets.specs.Refusals.{Outcome, refused, result}
+use Rattle.drive_sets.specs.Filled.{Filled}
+use Rattle.drive_sets.specs.Refusals.{Outcome, refused, result, number}
 use Rattle.lent_bytes.specs.declared.Writing.{Writing}
 use Rattle.lent_bytes.specs.declared.Writing.the-variants as writings
 use Rattle.lent_bytes.specs.LentBuffers.{WrittenIfRoom}
@@ -15,6 +18,12 @@ Printed text start old new r = WrittenIfRoom (result text) start old new r
 abbrev pub bytesIn : Writing → ℕ
 bytesIn (writings.Wrote size) = size
 bytesIn (writings.Refused r) = 0
+
+-- a buffer and a number of bytes afterwards: as many as an answer says, and the buffer as it was, or the line of its
+-- refusal over the first places
+abbrev pub AnswerPut : Writing → List ℕ → List ℕ → ℕ → Type 0
+AnswerPut (writings.Wrote size) old new count = (new ≡ old) × (count ≡ size)
+AnswerPut (writings.Refused r) old new count = Filled old new 0 count (refusalLine (number r))
 
 -- what a program prints that writes a file: the file, or the line of a refusal
 abbrev pub printed : Outcome (List ℕ) → List ℕ

@@ -1,12 +1,8 @@
 // A text handed over in a lent buffer.
 ghost use mathlib.Core.Path.{_≡_};
-ghost use mathlib.Core.List.{List};
-ghost use Prim.Native.Nat.{ℕ, _≤_, min};
+ghost use Prim.Native.Nat.{_≤_, min};
 ghost use lib.ListN.{length, take};
-ghost use Rattle.drive_sets.specs.Filled.{Filled};
-ghost use Rattle.drive_sets.specs.Refusals.{Outcome};
-ghost use Rattle.lent_bytes.specs.LentBuffers.{WrittenIfRoom};
-ghost use Rattle.text.specs.Printing.{Printed, bytesIn, printed};
+ghost use Rattle.text.specs.Printing.{Printed, bytesIn, AnswerPut};
 use crate::lines::put_refused;
 use drive_sets::Refusal;
 use lent_bytes::Writing;
@@ -45,9 +41,10 @@ pub fn written(w: Writing, buf: &[u8]) -> usize
     }
 }
 
-// A file that was written over the first bytes of a buffer with room for it, or the line of its refusal in its place.
+// What an answer leaves to be printed: the bytes that were written over the first places of the buffer, or the line of
+// the refusal in their place; how many.
 pub fn put_written(buf: &mut [u8], w: Writing) -> usize
-    ensures { λ r. ⌜ ((o : Outcome (List ℕ)) (old : List ℕ) → length (printed o) ≤ length old → length (now (buf .entry)) ≡ length old → WrittenIfRoom o 0 old (now (buf .entry)) w → Filled old (now (buf .exit)) 0 r (printed o)) ⌝ }
+    ensures { λ r. ⌜ AnswerPut w (now (buf .entry)) (now (buf .exit)) r ⌝ }
 {
     match w {
         Writing::Wrote(size) => size,

@@ -25,7 +25,7 @@ use Rattle.table_files.specs.Files.Laws.{kind-behind, whole-table, table-read, 
 use Rattle.table_files.specs.Files.Prefixes.{all-prefix}
 use Rattle.fault_lists.specs.FaultLists.{rests, largest, tableFromFaults, faultList, faultsFromTable}
 use Rattle.fault_lists.specs.FaultLists.Laws.{from-faults, faults-back, table-list, list-again}
-use Rattle.fault_files.specs.FaultFiles.{acceptedFaults, readFaults, faultBytes}
+use Rattle.fault_files.specs.FaultFiles.{acceptedFaults, readFaults, faultBytes, writeTableFaults}
 use Rattle.fault_files.specs.FaultFiles.Laws.{faults-written, faults-read}
 use Rattle.text.specs.Printing.{printed}
 use Rattle.convert_files.specs.ConvertFiles.{isFaultList, tableFile, faultFile, convertFile, normalFile, convertProgram}
@@ -45,7 +45,7 @@ table-known n sets some = ap (isKind Fault) (kind-behind SurvivorSet n sets some
 -- a fault list that is read has a table, whose file is converted to the fault list's own
 faults-there-and-back : (s : List ℕ) (l : ReadTable) → readFaults s ≡ result l
     → andThen (andThen (tableFromFaults (l .n) (l .sets)) (λ table. result (tableBytes (l .n) table))) convertFile ≡ result (faultBytes (l .n) (l .sets))
-unfolding convertFile faultFile faultList
+unfolding convertFile faultFile faultList writeTableFaults
 faults-there-and-back s l read =
     let own = faults-read s read .0 in
     let made = first-result (tableFromFaults (l .n) (l .sets)) (λ table. result (largest (l .sets))) own in
@@ -74,7 +74,7 @@ table-there-and-back s t read =
     ∙ ap (λ (o : Outcome (List ℕ)). andThen o (λ table. result (tableBytes (t .n) table))) (w .0 ∙ given)))
 
 pub there-and-back : (s : List ℕ) → andThen (convertFile s) convertFile ≡ normalFile s
-unfolding convertFile tableFile faultFile normalFile
+unfolding convertFile tableFile faultFile normalFile writeTableFaults
 there-and-back s =
     by-test (isFaultList s)
     (λ is. ap (λ (o : Outcome (List ℕ)). andThen o convertFile) (cond-true _ _ is)
@@ -87,7 +87,7 @@ there-and-back s =
 -- ---- the bytes that matter
 
 pub convert-program-prefix : (s : List ℕ) → convertProgram (take maxInput s) ≡ convertProgram s
-unfolding convertProgram convertFile isFaultList tableFile faultFile readFaults readWhole
+unfolding convertProgram convertFile isFaultList tableFile faultFile readFaults readWhole writeTableFaults
 convert-program-prefix s =
     ap (λ (k : Kind). program k (readFaults (take maxInput s)) (readWhole (take maxInput s))) (ap kindAt (drop-prefix 3 maxInput s) ∙ kind-prefix (maxInput - 3) (drop 3 s) (omega arith))
     ∙ ap₂ (program (kindAt (drop 3 s))) (all-prefix FaultGroup acceptedFaults s) (all-prefix SurvivorSet accepted s)

@@ -1,7 +1,5 @@
 -- The rests of the table of the rests.
 use mathlib.Core.Path.{ap, _∙_}
-use mathlib.Core.List.{List}
-use Prim.Native.Nat.{ℕ}
 use Rattle.drive_sets.specs.Refusals.{Outcome, andThen}
 use Rattle.complete_tables.specs.Complete.{Complete}
 use Rattle.fault_lists.specs.FaultLists.Laws.{restsOf, list-rests}

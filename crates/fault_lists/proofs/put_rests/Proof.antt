@@ -1,6 +1,5 @@
 -- The loop over the masks, from the last one down.
 use borrow.Author.Needs.{needs}
-use native.Mathlib.Omega.{arith}
 use Rattle.fault_lists.proofs.Fills.{Resting, rests-start, rests-turn, rests-end}
 use Rattle.fault_lists.proofs.put_rests.Statement.{statement}
 use Rattle.fault_lists.proofs.put_rests.Tie as tie

@@ -1,8 +1,8 @@
 -- A fault list as a failure model: its largest groups are the fail-prone system that it gives, some drives can fail
 -- together exactly if the rest holds a survivor set, and the executions that it tells of are those that the table of
 -- its rests describes.
-use mathlib.Core.Path.{_≡_, refl, sym, ap, _∙_}
-use mathlib.Core.Bool.{true, false}
+use mathlib.Core.Path.{_≡_, sym, ap, _∙_}
+use mathlib.Core.Bool.{true}
 use mathlib.Core.List.{List}
 use mathlib.Core.Logic.{_↔_}
 use Prim.Native.Nat.{ℕ, _^_, _≤_, _<_}
@@ -20,7 +20,7 @@ use Rattle.survivor_tables.specs.Executions.{Describes}
 use Rattle.survivor_tables.specs.Order.{normal}
 use Rattle.survivor_tables.specs.Order.Normal.{normal-elem, holds-normal}
 use Rattle.fault_lists.specs.FaultLists.{rests, largest}
-use Rattle.fault_lists.specs.FaultLists.Rests.{rest-rest, rest-subset, elem-rests, rests-elem, rests-below}
+use Rattle.fault_lists.specs.FaultLists.Rests.{rest-subset, elem-rests, rests-elem}
 use Rattle.fault_lists.specs.FaultLists.Largest.{largest-elem, largest-alone, alone-largest}
 use Rattle.fault_lists.specs.FailureModels.{Model, Maximal, FailProne, CanFail, RestHolds, FailsAs}
 

@@ -1,13 +1,13 @@
 -- The largest groups of a fault list: those that lie within no other. By mask rising they are the rests of the normal
 -- table of the survivor sets.
 use mathlib.Core.Path.{_≡_, sym, ap, _∙_}
-use mathlib.Core.Bool.{true, false, not, _&&_}
+use mathlib.Core.Bool.{true, not, _&&_}
 use mathlib.Core.List.{List}
 use Prim.Native.Nat.{ℕ, _≤_}
 use lib.Dec.{eqb}
 use borrow.Author.Tests.{eqb-false, ne-eqb, not-true}
 use Rattle.drive_sets.specs.Bools.Laws.{clash, false-of, same-test, and-intro, and-left, and-right}
-use Rattle.drive_sets.specs.Lists.{any, elem, ordered}
+use Rattle.drive_sets.specs.Lists.{elem, ordered}
 use Rattle.drive_sets.specs.Lists.Laws.{any-elem, any-intro, ordered-unique}
 use Rattle.drive_sets.specs.Masks.{outside, subset, Below}
 use Rattle.survivor_tables.specs.Order.{byMask, holdsAnother, normal}

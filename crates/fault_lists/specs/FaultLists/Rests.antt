@@ -1,10 +1,10 @@
 -- The rests of the frame: the rest of the rest is the mask itself, what is part of another has the larger rest, and a
 -- list of masks that rise has rests that rise.
 use mathlib.Core.Path.{_≡_, refl, sym, ap, ap₂, _∙_}
-use mathlib.Core.Bool.{Bool, true, false, not, _&&_}
+use mathlib.Core.Bool.{Bool, true, false, not}
 use mathlib.Core.List.{List, [], _∷_, _++_, append-nil, append-assoc}
 use mathlib.Core.Logic.{⊎-elim}
-use Prim.Native.Nat.{ℕ, suc, _+_, _^_, _≤_, _<_}
+use Prim.Native.Nat.{ℕ, _+_, _^_, _≤_, _<_}
 use native.Mathlib.Omega.{arith}
 use lib.ListN.{length, length-append}
 use lib.Pow.{pow-pos}
@@ -12,7 +12,7 @@ use borrow.Author.Tests.{lt-ltb, ltb-true}
 use Rattle.drive_sets.specs.Bools.Laws.{clash, and-left, and-right}
 use Rattle.drive_sets.specs.Lists.{all, elem, ordered}
 use Rattle.drive_sets.specs.Lists.Laws.{elem-head, elem-tail, elem-cases, elem-none, elem-one, elem-append-left, elem-append-right, elem-append-cases, all-elem, ordered-append}
-use Rattle.drive_sets.specs.Masks.{full, common, minus, outside, subset, meets, Below}
+use Rattle.drive_sets.specs.Masks.{full, common, minus, outside, subset, Below}
 use Rattle.drive_sets.specs.Masks.Laws.{full-is, subset-full, meets-sym}
 use Rattle.drive_sets.specs.Masks.Outside.{outside-lt, subset-outside, meets-outside}
 use Rattle.drive_sets.specs.Masks.Sizes.{common-subset}

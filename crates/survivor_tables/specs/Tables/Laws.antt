@@ -12,13 +12,13 @@ use lib.Dec.{eqb, leb, ltb}
 use lib.ListN.{length}
 use borrow.Author.Tests.{leb-true, le-leb, ltb-false, le-ltb, eqb-false, ne-eqb, not-true, not-false}
 use Rattle.drive_sets.specs.declared.Refusal.the-variants.{WrongMark, FrameSize, BadSet, TooManySets, TooManyCores, AllDrives}
-use Rattle.drive_sets.specs.Bools.Laws.{clash, by-test, and-intro, and-left, and-right, cond-true, cond-false}
+use Rattle.drive_sets.specs.Bools.Laws.{clash, by-test, and-intro, and-left, and-right, cond-false}
 use Rattle.drive_sets.specs.Lists.{all, elem, ordered}
 use Rattle.drive_sets.specs.Lists.Laws.{elem-some, elem-head, elem-tail, elem-none, elem-cases, all-elem}
 use Rattle.drive_sets.specs.Lists.Places.{getD-elem}
 use Rattle.drive_sets.specs.Masks.{has, single, full, common, subset, meets, Below}
 use Rattle.drive_sets.specs.Masks.Laws.{full-lt, full-has, full-subset, has-some, has-bounds, has-meets}
-use Rattle.drive_sets.specs.Refusals.{Outcome, refused, result, refuseIf, andThen}
+use Rattle.drive_sets.specs.Refusals.{Outcome, refused, result, refuseIf}
 use Rattle.drive_sets.specs.Refusals.Laws.{refused-no-result, passed, refused-by, same-result, first-result, first-refused}
 use Rattle.survivor_tables.specs.declared.frames.MaskKind.{MaskKind}
 use Rattle.survivor_tables.specs.declared.frames.MaskKind.the-variants.{SurvivorSet, FaultGroup}

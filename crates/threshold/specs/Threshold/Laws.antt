@@ -9,7 +9,7 @@ use native.Mathlib.Omega.{arith}
 use lib.Pow.{pow-mono}
 use lib.Dec.{leb, ltb}
 use lib.ListN.{length, getD}
-use borrow.Author.Tests.{ne-eqb, lt-ltb, ltb-true, ltb-false, le-leb, leb-true, leb-false, le-ltb, not-false}
+use borrow.Author.Tests.{ne-eqb, lt-ltb, ltb-true, ltb-false, le-leb, leb-true, leb-false, not-false}
 use Rattle.drive_sets.specs.Bools.Laws.{clash, by-test, same-test, and-intro, and-left, and-right, true-of}
 use Rattle.drive_sets.specs.Lists.{all, any, elem, ordered}
 use Rattle.drive_sets.specs.Lists.Laws.{elem-head, elem-tail, any-elem, any-intro, all-elem, all-intro}

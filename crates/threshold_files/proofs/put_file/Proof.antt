@@ -1,6 +1,7 @@
 -- The file that was written, or the line of its refusal.
 use native.Mathlib.Omega.{arith}
 use borrow.Author.Needs.{needs}
+use Rattle.text.proofs.Prints.{answer-printed}
 use Rattle.threshold_files.specs.ThresholdFiles.{asked, thresholdProgram}
 use Rattle.threshold_files.proofs.Prints.{program-length}
 use Rattle.threshold_files.proofs.put_file.Statement.{statement}
@@ -12,4 +13,4 @@ put-file-spec =
     tie.close
     (tie.spec
     (λ c κs. search needs) (λ c κs. search needs) (λ c. search needs)
-    (λ c. let s = c .before .before .before .before .before .before .before .before .before .before .args .input .now in c .before .before .put-written .ensures (asked s) _ (omega (arith, program-length s, c .before .before .before .before .before .before .before .before .before .before .pre)) (search needs) (c .before .before .before .before .before .before .write-asked .ensures)))
+    (λ c. let s = c .before .before .before .before .before .before .before .before .before .before .args .input .now in answer-printed (asked s) (omega (arith, program-length s, c .before .before .before .before .before .before .before .before .before .before .pre)) (search needs) (c .before .before .before .before .before .before .write-asked .ensures) (c .before .before .put-written .ensures)))
