@@ -5,16 +5,15 @@ use Prim.Native.Nat.{ℕ}
 use Rattle.drive_sets.specs.declared.Answer.{Answer}
 use Rattle.drive_sets.specs.declared.Answer.the-variants.{Accepted, Refused}
 use Rattle.drive_sets.specs.declared.Refusal.{Refusal}
-use Rattle.drive_sets.specs.Refusals.{Outcome, refused, result, andThen, number, outcomeOf}
+use Rattle.drive_sets.specs.Refusals.{Outcome, refused, andThen, number, outcomeOf}
 use Rattle.complete_tables.specs.declared.TableWithCores.{TableWithCores}
 use Rattle.complete_tables.specs.Complete.{Complete, setsOf, withCores, completeOutcome}
-use Rattle.table_files.specs.Files.{ReadTable, readWhole, tableBytes}
+use Rattle.table_files.specs.Files.{ReadTable, readWhole}
 use Rattle.table_files.specs.WithCores.{readWholeComplete}
 use Rattle.table_files.proofs.TableReads.{read-refused, read-accepted}
-use Rattle.fault_lists.specs.FaultLists.{tableFromFaults}
 use Rattle.fault_files.specs.declared.FaultsRead.{FaultsRead}
-use Rattle.fault_files.specs.FaultFiles.{readFaults, writeTableFaults, faultsOutcome}
-use Rattle.convert_files.specs.ConvertFiles.{tableFile, faultFile}
+use Rattle.fault_files.specs.FaultFiles.{readFaults, writeFaultsFrom, faultsOutcome}
+use Rattle.convert_files.specs.ConvertFiles.{writeTableFrom, tableFile, faultFile}
 
 -- ---- a fault list
 
@@ -23,30 +22,25 @@ module _ (r : FaultsRead) (s : List ℕ) (e : faultsOutcome r ≡ readFaults s) 
   unfolding faultsOutcome
   said f = sym e ∙ ap (λ (a : Answer). outcomeOf a (record { n = r .list .n; sets = setsOf (r .list); rest = [] })) f
 
-  abbrev fileOf : ReadTable → Outcome (List ℕ)
-  fileOf l = andThen (tableFromFaults (l .n) (l .sets)) (λ table. result (tableBytes (l .n) table))
-
   pub faults-refused : {q : Refusal} → r .answer ≡ Refused q → tableFile s ≡ refused (number q)
   unfolding tableFile
-  faults-refused f = ap (λ (o : Outcome ReadTable). andThen o fileOf) (said f)
+  faults-refused f = ap (λ (o : Outcome ReadTable). andThen o (λ l. writeTableFrom (l .n) (l .sets))) (said f)
 
-  pub faults-given : r .answer ≡ Accepted → {part : List ℕ} → part ≡ setsOf (r .list)
-      → andThen (tableFromFaults (r .list .n) part) (λ table. result (tableBytes (r .list .n) table)) ≡ tableFile s
+  pub faults-given : r .answer ≡ Accepted → {part : List ℕ} → part ≡ setsOf (r .list) → writeTableFrom (r .list .n) part ≡ tableFile s
   unfolding tableFile
   faults-given f g =
-      ap (λ (l : List ℕ). andThen (tableFromFaults (r .list .n) l) (λ table. result (tableBytes (r .list .n) table))) g
-      ∙ sym (ap (λ (o : Outcome ReadTable). andThen o fileOf) (said f))
+      ap (writeTableFrom (r .list .n)) g ∙ sym (ap (λ (o : Outcome ReadTable). andThen o (λ l. writeTableFrom (l .n) (l .sets))) (said f))
 
 -- ---- a table
 
 module _ (t : TableWithCores) (s : List ℕ) (e : completeOutcome t ≡ readWholeComplete s) where
   pub table-refused : {q : Refusal} → t .answer ≡ Refused q → faultFile s ≡ refused (number q)
   unfolding faultFile readWholeComplete
-  table-refused f = ap (λ (o : Outcome ReadTable). andThen o (λ u. writeTableFaults (u .n) (u .sets))) (read-refused t (readWhole s) e f)
+  table-refused f = ap (λ (o : Outcome ReadTable). andThen o (λ u. writeFaultsFrom (u .n) (u .sets))) (read-refused t (readWhole s) e f)
 
-  pub table-given : t .answer ≡ Accepted → {part : List ℕ} → part ≡ setsOf (t .table) → writeTableFaults (t .table .n) part ≡ faultFile s
+  pub table-given : t .answer ≡ Accepted → {part : List ℕ} → part ≡ setsOf (t .table) → writeFaultsFrom (t .table .n) part ≡ faultFile s
   unfolding faultFile readWholeComplete withCores
   table-given f g =
       let w = read-accepted t (readWhole s) e f in
-      ap (writeTableFaults (t .table .n)) g
-      ∙ sym (ap (λ (o : Outcome ReadTable). andThen o (λ u. writeTableFaults (u .n) (u .sets))) (w .1) ∙ ap (λ (c : Complete). writeTableFaults (c .n) (c .sets)) (w .2))
+      ap (writeFaultsFrom (t .table .n)) g
+      ∙ sym (ap (λ (o : Outcome ReadTable). andThen o (λ u. writeFaultsFrom (u .n) (u .sets))) (w .1) ∙ ap (λ (c : Complete). writeFaultsFrom (c .n) (c .sets)) (w .2))

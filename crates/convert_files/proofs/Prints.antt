@@ -15,16 +15,16 @@ use Rattle.table_files.specs.Files.{readWhole, fileBytes, tableBytes}
 use Rattle.table_writing.proofs.Writes.{length-file}
 use Rattle.fault_lists.specs.FaultLists.{rests, tableFromFaults, faultsFromTable}
 use Rattle.fault_lists.specs.FaultLists.Laws.{from-faults, table-list, list-again}
-use Rattle.fault_files.specs.FaultFiles.{readFaults, faultBytes, writeTableFaults}
+use Rattle.fault_files.specs.FaultFiles.{readFaults, faultBytes, writeFaultsFrom}
 use Rattle.text.specs.Printing.{printed}
 use Rattle.text.proofs.Lengths.{refusal-length}
-use Rattle.convert_files.specs.ConvertFiles.{isFaultList, tableFile, faultFile, convertFile, convertProgram}
+use Rattle.convert_files.specs.ConvertFiles.{isFaultList, writeTableFrom, tableFile, faultFile, convertFile, convertProgram}
 
 short : (kind : MaskKind) (n : ℕ) (masks : List ℕ) {file : List ℕ} → fileBytes kind n masks ≡ file → length masks ≤ maxSets → length file ≤ maxText
 short kind n masks e few = omega (arith, ap length e, length-file kind n masks, few)
 
 table-short : (s : List ℕ) {file : List ℕ} → tableFile s ≡ result file → length file ≤ maxText
-unfolding tableFile
+unfolding tableFile writeTableFrom
 table-short s e =
     let read = first-result (readFaults s) _ e in
     let l = read .0 in
@@ -33,7 +33,7 @@ table-short s e =
     short SurvivorSet (l .n) (made .0) (same-result (made .2)) (omega (arith, ap length (w .is), accepted-normal (l .n) (rests (l .n) (l .sets)) (w .accepted) .most))
 
 fault-short : (s : List ℕ) {file : List ℕ} → faultFile s ≡ result file → length file ≤ maxText
-unfolding faultFile writeTableFaults
+unfolding faultFile writeFaultsFrom
 fault-short s e =
     let read = first-result (readWhole s) _ e in
     let t = read .0 in

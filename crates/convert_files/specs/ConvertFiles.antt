@@ -9,7 +9,7 @@ use Rattle.records.specs.declared.Kind.the-variants.{Fault}
 use Rattle.records.specs.Marks.{isKind, kindAt}
 use Rattle.table_files.specs.Files.{readWhole, tableBytes}
 use Rattle.fault_lists.specs.FaultLists.{tableFromFaults}
-use Rattle.fault_files.specs.FaultFiles.{readFaults, faultBytes, writeTableFaults}
+use Rattle.fault_files.specs.FaultFiles.{readFaults, faultBytes, writeFaultsFrom}
 use Rattle.text.specs.Printing.{printed}
 pub mod Laws
 
@@ -17,13 +17,17 @@ pub mod Laws
 unfoldable pub isFaultList : List ℕ → Bool
 isFaultList s = isKind Fault (kindAt (drop 3 s))
 
+-- the bytes of the normal table of a fault list
+unfoldable pub writeTableFrom : ℕ → List ℕ → Outcome (List ℕ)
+writeTableFrom n groups = andThen (tableFromFaults n groups) (λ table. result (tableBytes n table))
+
 -- the file of the normal table of a fault list
 unfoldable pub tableFile : List ℕ → Outcome (List ℕ)
-tableFile s = andThen (readFaults s) (λ l. andThen (tableFromFaults (l .n) (l .sets)) (λ table. result (tableBytes (l .n) table)))
+tableFile s = andThen (readFaults s) (λ l. writeTableFrom (l .n) (l .sets))
 
 -- the file of the fault list of a table
 unfoldable pub faultFile : List ℕ → Outcome (List ℕ)
-faultFile s = andThen (readWhole s) (λ t. writeTableFaults (t .n) (t .sets))
+faultFile s = andThen (readWhole s) (λ t. writeFaultsFrom (t .n) (t .sets))
 
 unfoldable pub convertFile : List ℕ → Outcome (List ℕ)
 convertFile s =

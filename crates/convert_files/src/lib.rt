@@ -5,15 +5,12 @@ ghost use Prim.Native.Nat.{_≤_};
 ghost use lib.ListN.{length};
 ghost use Rattle.drive_sets.specs.Filled.{Filled};
 ghost use Rattle.drive_sets.specs.Limits.{maxText};
-ghost use Rattle.drive_sets.specs.Refusals.{result, andThen};
 ghost use Rattle.lent_bytes.specs.LentBuffers.{WrittenIfRoom};
 ghost use Rattle.text.specs.Printing.{Printed};
-ghost use Rattle.table_files.specs.Files.{tableBytes};
-ghost use Rattle.fault_lists.specs.FaultLists.{tableFromFaults};
-ghost use Rattle.convert_files.specs.ConvertFiles.{isFaultList, tableFile, faultFile, convertFile, convertProgram};
+ghost use Rattle.convert_files.specs.ConvertFiles.{isFaultList, writeTableFrom, tableFile, faultFile, convertFile, convertProgram};
 use drive_sets::Answer;
 use fault_files::read_faults;
-use fault_files::write_table_faults;
+use fault_files::write_faults_from;
 use fault_lists::table_from_faults;
 use lent_bytes::Writing;
 use records::Due;
@@ -35,7 +32,7 @@ fn is_fault_list(s: &[u8]) -> bool
 
 // The normal table of a fault list over the first bytes of the buffer.
 fn write_table_from(n: u8, groups: &[u64], buf: &mut [u8]) -> Writing
-    ensures { λ r. ⌜ WrittenIfRoom (andThen (tableFromFaults n (now (groups .entry))) (λ table. result (tableBytes n table))) 0 (now (buf .entry)) (now (buf .exit)) r ⌝ }
+    ensures { λ r. ⌜ WrittenIfRoom (writeTableFrom n (now (groups .entry))) 0 (now (buf .entry)) (now (buf .exit)) r ⌝ }
 {
     let t = table_from_faults(n, groups);
     let answer = t.answer;
@@ -74,7 +71,7 @@ fn write_fault_file(input: &[u8], buf: &mut [u8]) -> Writing
     let count = table.count;
     match answer {
         Answer::Refused(r) => Writing::Refused(r),
-        Answer::Accepted => write_table_faults(table.n, &sets[0..count], buf, 0),
+        Answer::Accepted => write_faults_from(table.n, &sets[0..count], buf, 0),
     }
 }
 

@@ -3,8 +3,8 @@ use mathlib.Core.List.{List}
 use Prim.Native.Nat.{ℕ}
 use lib.ListN.{length}
 use Rattle.drive_sets.specs.Lent.{fitting}
-use Rattle.drive_sets.specs.Lent.Laws.{fitting-numbered}
-use Rattle.drive_sets.specs.Refusals.{Outcome, andThen}
+use Rattle.drive_sets.specs.Lent.Laws.{put-numbered}
+use Rattle.drive_sets.specs.Refusals.{andThen}
 use Rattle.drive_sets.specs.Refusals.Numbered.{Numbered, result-numbered, then-numbered}
 use Rattle.survivor_tables.specs.declared.frames.MaskKind.the-variants.{FaultGroup}
 use Rattle.survivor_tables.specs.Tables.{withinCoreLimit}
@@ -23,10 +23,6 @@ accepted-numbered t = then-numbered (withinCoreLimit (rests (t .n) (t .sets))) _
 pub read-numbered : (s old : List ℕ) → Numbered (fittingTable old (readFaults s))
 unfolding readFaults
 read-numbered s old = table-numbered old (readFaults s) (all-numbered FaultGroup acceptedFaults accepted-numbered s)
-
--- what is put into a lent list or buffer, 14 last
-put-numbered : (o : Outcome (List ℕ)) → Numbered o → (start room : ℕ) → Numbered (andThen o (fitting start room))
-put-numbered o h start room = then-numbered o (fitting start room) h (fitting-numbered start room)
 
 pub write-numbered : (n : ℕ) (groups : List ℕ) (start room : ℕ) → Numbered (andThen (writeFaults n groups) (fitting start room))
 unfolding writeFaults

@@ -34,8 +34,8 @@ unfoldable pub writeFaults : ℕ → List ℕ → Outcome (List ℕ)
 writeFaults n groups = andThen (faultList n groups) (λ list. result (faultBytes n list))
 
 -- the bytes of the fault list of a table, after the refusals of a call given n and sets
-unfoldable pub writeTableFaults : ℕ → List ℕ → Outcome (List ℕ)
-writeTableFaults n sets = andThen (faultsFromTable n sets) (λ list. result (faultBytes n list))
+unfoldable pub writeFaultsFrom : ℕ → List ℕ → Outcome (List ℕ)
+writeFaultsFrom n sets = andThen (faultsFromTable n sets) (λ list. result (faultBytes n list))
 
 -- ---- what an answer says
 

@@ -5,7 +5,7 @@ ghost use Rattle.drive_sets.specs.Refusals.{refused, result, andThen, number};
 ghost use Rattle.lent_bytes.specs.LentBuffers.{WrittenIfRoom};
 ghost use Rattle.tables.specs.Answers.{listOutcome, ListWithin};
 ghost use Rattle.fault_lists.specs.FaultLists.{faultList};
-ghost use Rattle.fault_files.specs.FaultFiles.{readFaults, faultBytes, writeFaults, writeTableFaults, faultsOutcome, FaultsWithin};
+ghost use Rattle.fault_files.specs.FaultFiles.{readFaults, faultBytes, writeFaults, writeFaultsFrom, faultsOutcome, FaultsWithin};
 ghost use Rattle.fault_files.specs.FaultFiles.Laws.{listRead};
 use drive_sets::Answer;
 use drive_sets::Refusal;
@@ -102,8 +102,8 @@ pub fn write_faults(n: u8, groups: &[u64], buf: &mut [u8], start: usize) -> Writ
 }
 
 // The same of a table, given as n and sets: the fault list that it is converted to. 3, 2, 5, 4, 13, then 14.
-pub fn write_table_faults(n: u8, sets: &[u64], buf: &mut [u8], start: usize) -> Writing
-    ensures { λ r. ⌜ WrittenIfRoom (writeTableFaults n (now (sets .entry))) start (now (buf .entry)) (now (buf .exit)) r ⌝ }
+pub fn write_faults_from(n: u8, sets: &[u64], buf: &mut [u8], start: usize) -> Writing
+    ensures { λ r. ⌜ WrittenIfRoom (writeFaultsFrom n (now (sets .entry))) start (now (buf .entry)) (now (buf .exit)) r ⌝ }
 {
     write_groups(n, faults_from_table(n, sets), buf, start)
 }

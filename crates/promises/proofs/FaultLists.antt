@@ -8,9 +8,9 @@ use lib.Dec.{eqb}
 use lib.ListN.{take, drop}
 use lib.Seq.{take-at}
 use borrow.Author.Tests.{eqb-true, eqb-false}
-use Rattle.drive_sets.specs.Bools.Laws.{true-of}
-use Rattle.drive_sets.specs.Lists.{any, elem}
-use Rattle.drive_sets.specs.Masks.{outside, subset, Below}
+use Rattle.drive_sets.specs.Bools.Laws.{true-of, cond-true, cond-false}
+use Rattle.drive_sets.specs.Lists.{elem}
+use Rattle.drive_sets.specs.Masks.{outside, Below}
 use Rattle.drive_sets.specs.Refusals.{Outcome, result, andThen}
 use Rattle.drive_sets.specs.Refusals.Laws.{first-result, same-result}
 use Rattle.survivor_tables.specs.Executions.{Describes}
@@ -18,17 +18,19 @@ use Rattle.survivor_tables.specs.Order.{normal}
 use Rattle.survivor_tables.specs.Tables.{normalTable, Accepted}
 use Rattle.survivor_tables.specs.Tables.Laws.{table-accepted, accepted-table, accepted-normal, sets-below}
 use Rattle.complete_tables.specs.Complete.{Complete, withCores, completeTable}
+use Rattle.table_files.specs.Files.{ReadTable, tableBytes}
 use Rattle.fault_lists.specs.FaultLists.{rests, largest, tableFromFaults, completeFromFaults, faultList, faultsFromTable}
 use Rattle.fault_lists.specs.FaultLists.Rests.{rests-below, rests-rests}
 use Rattle.fault_lists.specs.FaultLists.Largest.{largest-elem, largest-alone, alone-largest, largest-rising, largest-rests, rests-largest}
 use Rattle.fault_lists.specs.FaultLists.Laws.{groups-below, from-faults, faults-back, table-back, normal-largest}
 use Rattle.fault_lists.specs.FailureModels.{CanFail, RestHolds}
-use Rattle.fault_lists.specs.FailureModels.Laws.{fail-prone, one-model, same-model, held-normal, fails-described}
-use Rattle.fault_files.specs.FaultFiles.{readFaults, writeFaults, faultBytes}
+use Rattle.fault_lists.specs.FailureModels.Laws.{fail-prone, model-told, one-model, same-model, core-for, for-core, held-normal, fails-described}
+use Rattle.fault_files.specs.FaultFiles.{readFaults, writeFaults, writeFaultsFrom, faultBytes}
 use Rattle.fault_files.specs.FaultFiles.Laws.{faults-written, faults-read}
-use Rattle.convert_files.specs.ConvertFiles.Laws.{there-and-back}
+use Rattle.convert_files.specs.ConvertFiles.{writeTableFrom, tableFile, faultFile, convertFile}
+use Rattle.convert_files.specs.ConvertFiles.Laws.{faults-made, table-made, there-and-back}
 use Rattle.promises.specs.Cores.{CoresOfCall}
-use Rattle.promises.specs.FaultLists.{FaultsThereAndBack, TablesThereAndBack, FilesThereAndBack, LargestOf, LargestOfFaults, LargestOfTable, WrittenFaultsReadBack, ReadFaultsWritten, FaultsFailProne, TablesFailProne, SameModel, LargestTell, CoresOfFaults}
+use Rattle.promises.specs.FaultLists.{FaultsThereAndBack, TablesThereAndBack, FilesThereAndBack, FaultsConverted, TablesConverted, LargestOf, LargestOfFaults, LargestOfTable, WrittenFaultsReadBack, ReadFaultsWritten, FaultsFailProne, TablesFailProne, FaultsSameModel, TablesSameModel, NormalSameModel, CoresOfModel, LargestTell, CoresOfFaults}
 use Rattle.promises.proofs.Cores.{cores-of-call}
 use Rattle.promises.proofs.RoundTrip.{stands}
 
@@ -45,6 +47,20 @@ tables-there-and-back = table-back
 pub files-there-and-back : FilesThereAndBack
 unfolding FilesThereAndBack
 files-there-and-back = there-and-back
+
+-- ---- what a file is converted to
+
+pub faults-converted : FaultsConverted
+unfolding FaultsConverted convertFile tableFile
+faults-converted s l is read =
+    let made = faults-made s l read in
+    (made .0, tableBytes (l .n) (made .0), made .1, cond-true _ _ is ∙ (ap (λ (o : Outcome ReadTable). andThen o (λ u. writeTableFrom (u .n) (u .sets))) read ∙ made .2), made .3, made .4)
+
+pub tables-converted : TablesConverted
+unfolding TablesConverted convertFile faultFile
+tables-converted s t other read =
+    let made = table-made s t read in
+    (made .0, faultBytes (t .n) (made .0), made .1, cond-false _ _ other ∙ (ap (λ (o : Outcome ReadTable). andThen o (λ u. writeFaultsFrom (u .n) (u .sets))) read ∙ made .2), made .3, made .4)
 
 -- ---- the largest groups
 
@@ -114,17 +130,20 @@ tables-fail-prone n sets list e =
     (same-model (λ f. subst (λ (l : List ℕ). CanFail (rests n sets) f ↔ RestHolds n l f) (rests-rests n (a .high) sets (sets-below n sets a)) (one-model n (rests n sets) (rests-below n sets) (a .high) f))
     (fail-prone n (rests n sets) (rests-below n sets)))
 
-pub same-models : SameModel
-unfolding SameModel
-same-models n groups table e f =
+-- a survivor set of the normal table or of the sets that it is made of
+rest-normal : (n : ℕ) (sets : List ℕ) → n ≤ 64 → Below n sets → (f : ℕ) → RestHolds n (normal sets) f ↔ RestHolds n sets f
+rest-normal n sets high below f =
+    let held = held-normal n high sets below (outside n f) in
+    ((λ r. (r .0, sym held ∙ r .1)), (λ r. (r .0, held ∙ r .1)))
+
+pub faults-same-model : FaultsSameModel
+unfolding FaultsSameModel
+faults-same-model n groups table e f =
     let w = from-faults n groups e in
-    let a = w .accepted in
-    let one = one-model n groups (groups-below n groups (w .checked)) (a .high) f in
-    let held = held-normal n (a .high) (rests n groups) (rests-below n groups) (outside n f) in
-    rw (w .is) (
-      (λ can. let r = one .0 can in (r .0, held ∙ r .1)),
-      (λ r. one .1 (r .0, sym held ∙ r .1)),
-    )
+    let high = w .accepted .high in
+    let one = one-model n groups (groups-below n groups (w .checked)) high f in
+    let normal-table = rest-normal n (rests n groups) high (rests-below n groups) f in
+    rw (w .is) ((λ can. normal-table .1 (one .0 can)), (λ r. one .1 (normal-table .0 r)))
 
 -- a list in normal form, whose rests are the normal table of the groups' rests
 record Listed (n : ℕ) (groups list : List ℕ) : Type 0 where
@@ -148,23 +167,36 @@ listed n groups list e =
       table = ap (rests n) (is ∙ largest-rests n (a .high) groups below) ∙ rests-rests n (a .high) (normal (rests n groups)) (sets-below n (normal (rests n groups)) (accepted-normal n (rests n groups) a));
     }
 
+pub normal-same-model : NormalSameModel
+unfolding NormalSameModel
+normal-same-model n groups list e f =
+    let l = listed n groups list e in
+    let high = l .accepted .high in
+    let one = one-model n groups (l .below) high f in
+    let other : CanFail list f ↔ RestHolds n (normal (rests n groups)) f =
+    subst (λ (s : List ℕ). CanFail list f ↔ RestHolds n s f) (l .table) (one-model n list (λ g h. l .below g (l .own g h)) high f) in
+    let normal-table = rest-normal n (rests n groups) high (rests-below n groups) f in
+    ((λ can. other .1 (normal-table .1 (one .0 can))), (λ can. one .1 (normal-table .0 (other .0 can))))
+
+pub tables-same-model : TablesSameModel
+unfolding TablesSameModel
+tables-same-model n sets list e f =
+    let a = table-given n sets list e .0 in
+    let below = sets-below n sets a in
+    let list-normal = table-given n sets list e .1 ∙ rests-largest n (a .high) sets below in
+    let table = ap (rests n) list-normal ∙ rests-rests n (a .high) (normal sets) (sets-below n (normal sets) (accepted-normal n sets a)) in
+    let one : CanFail list f ↔ RestHolds n (normal sets) f =
+    subst (λ (s : List ℕ). CanFail list f ↔ RestHolds n s f) table (one-model n list (subst (Below n) (sym list-normal) (rests-below n (normal sets))) (a .high) f) in
+    let normal-table = rest-normal n sets (a .high) below f in
+    ((λ can. normal-table .0 (one .0 can)), (λ r. one .1 (normal-table .1 r)))
+
 pub largest-tell : LargestTell
-unfolding LargestTell
+unfolding LargestTell NormalSameModel
 largest-tell n groups list e Φ faulty told = record {
   within = told .within;
-  in-group = λ φ.
-      let f = faulty φ in
-      let held = one-model n groups (l .below) high f .0 (told .in-group φ) in
-      one-model n list (λ g h. l .below g (l .own g h)) high f .1
-      (held .0, ap (any (λ s. subset s (outside n f))) (l .table) ∙ (held-normal n high (rests n groups) (rests-below n groups) (outside n f) ∙ held .1));
-  occurs = λ g h. told .occurs g (l .own g h);
+  in-group = λ φ. normal-same-model n groups list e (faulty φ) .0 (told .in-group φ);
+  occurs = λ g h. told .occurs g (listed n groups list e .own g h);
 }
-  where
-    l : Listed n groups list
-    l = listed n groups list e
-
-    high : n ≤ 64
-    high = l .accepted .high
 
 pub cores-of-faults : CoresOfFaults
 unfolding CoresOfFaults CoresOfCall completeFromFaults completeTable withCores
@@ -176,3 +208,13 @@ cores-of-faults n groups list t e made Φ faulty told =
     let given : completeTable n sets ≡ result t = ap (λ (o : Outcome (List ℕ)). andThen o (λ table. result (withCores n table))) (accepted-table n sets (l .accepted)) ∙ ap result (sym is) in
     let described = fails-described n list (λ g h. l .below g (l .own g h)) (l .accepted .high) faulty told in
     cores-of-call n sets t given Φ (λ φ. outside n (faulty φ)) (subst (λ (s : List ℕ). Describes n s (λ φ. outside n (faulty φ))) (l .table ∙ sym (ap (λ (c : Complete). c .sets) is)) described)
+
+pub cores-of-model : CoresOfModel
+unfolding CoresOfModel CoresOfFaults LargestTell completeFromFaults faultList
+cores-of-model n groups t made c =
+    let first = first-result (tableFromFaults n groups) (λ table. result (withCores n table)) made in
+    let w = from-faults n groups (first .1) in
+    let e = ap (λ (o : Outcome (List ℕ)). andThen o (λ table. result (largest groups))) (first .1) in
+    let told = largest-tell n groups (largest groups) e _ _ (model-told n groups (groups-below n groups (w .checked))) in
+    let says = cores-of-faults n groups (largest groups) t e made _ _ told .cores c in
+    ((λ h. core-for n (w .accepted .high) (CanFail groups) c (says .0 h)), (λ core. says .1 (for-core n (w .accepted .high) (CanFail groups) c core)))

@@ -2,7 +2,7 @@
 -- the frame. We convert both ways; the list written holds the largest fault groups, by mask rising. (..) Converting
 -- there and back gives the normal form of what came in, a fault list's being its largest groups."
 use mathlib.Core.Path.{_≡_}
-use mathlib.Core.Bool.{true}
+use mathlib.Core.Bool.{true, false}
 use mathlib.Core.List.{List, []}
 use mathlib.Core.Logic.{_↔_}
 use Prim.Native.Nat.{ℕ}
@@ -15,11 +15,11 @@ use Rattle.lent_bytes.specs.LentBuffers.{writingOutcome, WrittenIfRoom}
 use Rattle.survivor_tables.specs.Order.{byMask}
 use Rattle.survivor_tables.specs.Tables.{normalTable}
 use Rattle.complete_tables.specs.Complete.{Complete}
-use Rattle.table_files.specs.Files.{ReadTable}
+use Rattle.table_files.specs.Files.{ReadTable, readWhole}
 use Rattle.fault_lists.specs.FaultLists.{rests, tableFromFaults, completeFromFaults, faultList, faultsFromTable}
-use Rattle.fault_lists.specs.FailureModels.{FailProne, CanFail, RestHolds, FailsAs}
+use Rattle.fault_lists.specs.FailureModels.{FailProne, CoreFor, CanFail, RestHolds, FailsAs}
 use Rattle.fault_files.specs.FaultFiles.{readFaults, writeFaults, faultBytes}
-use Rattle.convert_files.specs.ConvertFiles.{convertFile, normalFile}
+use Rattle.convert_files.specs.ConvertFiles.{isFaultList, convertFile, normalFile}
 use Rattle.promises.specs.Cores.{TableSays}
 
 -- ---- there and back, for every n and every groups, sets or bytes: a refusal of the first way is one of both
@@ -32,6 +32,19 @@ TablesThereAndBack = (n : ℕ) (sets : List ℕ) → andThen (faultsFromTable n 
 
 unfoldable pub FilesThereAndBack : Type 0
 FilesThereAndBack = (s : List ℕ) → andThen (convertFile s) convertFile ≡ normalFile s
+
+-- ---- the file that is made is of the other kind, and reads back as the table of the fault list that was read, or as
+-- the fault list of the table
+
+unfoldable pub FaultsConverted : Type 0
+FaultsConverted = (s : List ℕ) (l : ReadTable) → isFaultList s ≡ true → readFaults s ≡ result l
+    → (table file : List ℕ) × (tableFromFaults (l .n) (l .sets) ≡ result table) × (convertFile s ≡ result file)
+    × (isFaultList file ≡ false) × (readWhole file ≡ result (record { n = l .n; sets = table; rest = [] }))
+
+unfoldable pub TablesConverted : Type 0
+TablesConverted = (s : List ℕ) (t : ReadTable) → isFaultList s ≡ false → readWhole s ≡ result t
+    → (groups file : List ℕ) × (faultsFromTable (t .n) (t .sets) ≡ result groups) × (convertFile s ≡ result file)
+    × (isFaultList file ≡ true) × (readFaults file ≡ result (record { n = t .n; sets = groups; rest = [] }))
 
 -- ---- the largest fault groups, by mask rising
 
@@ -69,9 +82,20 @@ FaultsFailProne = (n : ℕ) (groups list : List ℕ) → faultList n groups ≡ 
 unfoldable pub TablesFailProne : Type 0
 TablesFailProne = (n : ℕ) (sets list : List ℕ) → faultsFromTable n sets ≡ result list → FailProne (RestHolds n sets) list
 
--- some drives can fail together exactly if the rest of the frame holds a survivor set
-unfoldable pub SameModel : Type 0
-SameModel = (n : ℕ) (groups table : List ℕ) → tableFromFaults n groups ≡ result table → (f : ℕ) → CanFail groups f ↔ RestHolds n table f
+-- some drives can fail together exactly if the rest of the frame holds a survivor set: of the table of a fault list,
+-- and of the fault list of a table; and the normal form changes nothing
+unfoldable pub FaultsSameModel : Type 0
+FaultsSameModel = (n : ℕ) (groups table : List ℕ) → tableFromFaults n groups ≡ result table → (f : ℕ) → CanFail groups f ↔ RestHolds n table f
+
+unfoldable pub TablesSameModel : Type 0
+TablesSameModel = (n : ℕ) (sets list : List ℕ) → faultsFromTable n sets ≡ result list → (f : ℕ) → CanFail list f ↔ RestHolds n sets f
+
+unfoldable pub NormalSameModel : Type 0
+NormalSameModel = (n : ℕ) (groups list : List ℕ) → faultList n groups ≡ result list → (f : ℕ) → CanFail groups f ↔ CanFail list f
+
+-- the cores of the table are the cores of the sets that can fail, by document 002's Definition 4
+unfoldable pub CoresOfModel : Type 0
+CoresOfModel = (n : ℕ) (groups : List ℕ) (t : Complete) → completeFromFaults n groups ≡ result t → (c : ℕ) → (elem c (t .cores) ≡ true) ↔ CoreFor n (CanFail groups) c
 
 -- where the listed groups tell of the executions, the list in normal form does, which asks for less: a group that it
 -- drops need not fail as a whole

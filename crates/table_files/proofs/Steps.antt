@@ -22,7 +22,7 @@ use Rattle.records.specs.Marks.Laws.{head-present, kind-is}
 use Rattle.records.specs.RecordLists.{ReadList, stepOf, readList}
 use Rattle.records.proofs.Lists.{Reading, reading-start, reading-stop, reading-end, end-within, step-taken, reading-own}
 use Rattle.table_files.specs.declared.reading.Step.{Step}
-use Rattle.table_files.specs.declared.reading.Step.the-variants.{Set, End, Stop}
+use Rattle.table_files.specs.declared.reading.Step.the-variants.{Mask, End, Stop}
 use Rattle.drive_sets.specs.Limits.{maxSets}
 use Rattle.survivor_tables.specs.declared.frames.MaskKind.{MaskKind}
 use Rattle.table_files.specs.Files.{ReadTable, recordOf, dueAfter, takenMask, maskList, listedTable}
@@ -61,7 +61,7 @@ listing-start kind s n sets e h = record { few = omega arith; room = e; reading 
 
 module _ {kind : MaskKind} {s : List ℕ} {n : ℕ} {sets : List ℕ} {count at : ℕ} (l : Listing kind s n sets count at) {step : Step}
     (says : (listed : List ℕ) → length listed ≡ count → stepOutcome listed step ≡ stepOf (maskList kind n) listed (take (length s - at) (drop at s))) where
-  -- what the step makes of the sets in the array
+  -- what the step makes of the masks in the array
   said : (x : Step) → step ≡ x → stepOutcome (take count sets) x ≡ stepOf (maskList kind n) (take count sets) (take (length s - at) (drop at s))
   said x e = ap (stepOutcome (take count sets)) (sym e) ∙ says (take count sets) (length-take-le count sets (omega (arith, l .few, l .room)))
 
@@ -79,28 +79,28 @@ module _ {kind : MaskKind} {s : List ℕ} {n : ℕ} {sets : List ℕ} {count at 
         ap (λ (o : Outcome (ReadList (List ℕ))). andThen o (λ t. result (listedTable n t)))
         (reading-end (maskList kind n) (listBehind kind n s) s (take count sets) at (l .reading) refl (said End e))
 
-  module _ {m : ℕ} (e : step ≡ Set m) where
+  module _ {m : ℕ} (e : step ≡ Mask m) where
     next : Reading (maskList kind n) (listBehind kind n s) s (take count sets ++ (m ∷ [])) (at + 10)
     next =
         subst (λ (width : ℕ). Reading (maskList kind n) (listBehind kind n s) s (take count sets ++ (m ∷ [])) (at + (2 + width))) (mask-width kind)
-        (reading-own (maskList kind n) (listBehind kind n s) s (take count sets) at (l .reading) refl (said (Set m) e) (recordOf kind) (own-mask kind n))
+        (reading-own (maskList kind n) (listBehind kind n s) s (take count sets) at (l .reading) refl (said (Mask m) e) (recordOf kind) (own-mask kind n))
 
-    set-within : (count < maxSets) × (at + 10 ≤ length s)
+    mask-within : (count < maxSets) × (at + 10 ≤ length s)
     unfolding takenMask
-    set-within =
-        let taken = step-taken (maskList kind n) (listBehind kind n s) s (take count sets) at (l .reading) refl (said (Set m) e) in
+    mask-within =
+        let taken = step-taken (maskList kind n) (listBehind kind n s) s (take count sets) at (l .reading) refl (said (Mask m) e) in
         let few = leb-false maxSets (length (take count sets)) (passed (leb maxSets (length (take count sets))) TooManySets _ taken .0) in
         (omega (arith, length-take-le count sets (omega (arith, l .few, l .room))), next .within)
 
     pub listing-turn : Listing kind s n (set sets count m) (count + 1) (at + 10)
     listing-turn = record {
-      few = omega (arith, set-within .0);
+      few = omega (arith, mask-within .0);
       room = length-set sets count m ∙ l .room;
       reading = subst (λ (x : List ℕ). Reading (maskList kind n) (listBehind kind n s) s x (at + 10)) (sym more) next;
     }
       where
         more : take (count + 1) (set sets count m) ≡ take count sets ++ (m ∷ [])
-        more = ap (λ (k : ℕ). take k (set sets count m)) (add-one count) ∙ take-suc-set sets count m (omega (arith, set-within .0, l .room))
+        more = ap (λ (k : ℕ). take k (set sets count m)) (add-one count) ∙ take-suc-set sets count m (omega (arith, mask-within .0, l .room))
 
 -- ---- the frame
 

@@ -7,7 +7,7 @@ use Rattle.drive_sets.specs.declared.Answer.the-variants.{Refused}
 use Rattle.drive_sets.specs.declared.Refusal.{Refusal}
 use Rattle.drive_sets.specs.Refusals.{Outcome, refused, result, number, outcomeOf, Alone}
 use Rattle.table_files.specs.declared.reading.Step.{Step}
-use Rattle.table_files.specs.declared.reading.Step.the-variants.{Set, End, Stop}
+use Rattle.table_files.specs.declared.reading.Step.the-variants.{Mask, End, Stop}
 use Rattle.complete_tables.specs.Complete.{setsOf}
 use Rattle.table_files.specs.declared.reading.TableRead.{TableRead}
 use Rattle.drive_sets.specs.Limits.{maxSets}
@@ -31,8 +31,8 @@ pub record ReadWithin (r : TableRead) (s : List ℕ) : Type 0 where
 
 -- ---- a record at a time
 
--- what a step makes of the sets listed
+-- what a step makes of the masks listed
 abbrev pub stepOutcome : List ℕ → Step → Outcome (Option (List ℕ))
 stepOutcome listed (Stop r) = refused (number r)
 stepOutcome listed End = result none
-stepOutcome listed (Set m) = result (some (listed ++ (m ∷ [])))
+stepOutcome listed (Mask m) = result (some (listed ++ (m ∷ [])))

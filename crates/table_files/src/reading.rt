@@ -31,7 +31,7 @@ pub struct TableRead {
 
 // What stands where a mask or the end is due.
 enum Step {
-    Set(u64),
+    Mask(u64),
     End,
     Stop(Refusal),
 }
@@ -88,7 +88,7 @@ fn next_step(s: &[u8], kind: MaskKind, n: u8, count: usize) -> Step
             let checked = check_mask(kind, n, mask);
             match checked {
                 Answer::Refused(r) => Step::Stop(r),
-                Answer::Accepted => Step::Set(mask),
+                Answer::Accepted => Step::Mask(mask),
             }
         }
     }
@@ -114,7 +114,7 @@ fn read_masks(s: &[u8], kind: MaskKind, n: u8) -> TableRead
                     used: at + END_WIDTH,
                 };
             }
-            Step::Set(mask) => {
+            Step::Mask(mask) => {
                 sets[count] = mask;
                 count += 1;
                 at += MASK_RECORD_WIDTH;

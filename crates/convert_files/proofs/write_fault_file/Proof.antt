@@ -17,7 +17,7 @@ returns-2 : tie.Need-returns-2
 returns-2 c =
     let r = c .before .before .before .before .before .before .before .before .before .before .read-whole in
     written-as (ap (λ (o : Outcome (List ℕ)). andThen o (fitting 0 (length (c .before .before .before .before .before .before .before .before .before .before .before .before .before .args .buf .now)))) (table-given (r .result) _ (r .ensures .0) (c .before .before .before .before .before .before .enum-told .given .1) (first-taken (r .result .table))))
-    (c .before .before .write-table-faults .ensures)
+    (c .before .before .write-faults-from .ensures)
 
 pub write-fault-file-spec : {M : Type 1} → statement M
 write-fault-file-spec =

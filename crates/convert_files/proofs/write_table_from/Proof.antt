@@ -14,11 +14,12 @@ use Rattle.complete_tables.proofs.Accepts.{due-refused, due-given}
 use Rattle.complete_tables.proofs.Completes.{first-taken}
 use Rattle.table_writing.proofs.Writes.{list-due}
 use Rattle.fault_lists.specs.FaultLists.{tableFromFaults, completeFromFaults}
+use Rattle.convert_files.specs.ConvertFiles.{writeTableFrom}
 use Rattle.convert_files.proofs.write_table_from.Statement.{statement}
 use Rattle.convert_files.proofs.write_table_from.Tie as tie
 
 returns-2 : tie.Need-returns-2
-unfolding completeFromFaults setsOf
+unfolding writeTableFrom completeFromFaults setsOf
 returns-2 c =
     let a = c .before .before .before .before .before .before .before .before .before .before .before .before .before .args in
     let t = c .before .before .before .before .before .before .before .before .before .before .table-from-faults in
@@ -28,7 +29,7 @@ returns-2 c =
     (c .before .before .write-list .ensures)
 
 pub write-table-from-spec : {M : Type 1} → statement M
-unfolding completeFromFaults
+unfolding writeTableFrom completeFromFaults
 write-table-from-spec =
     tie.close
     (tie.spec

@@ -11,8 +11,8 @@ use lib.Seq.{take-at, drop-at, drop-drop, take-append-add, drop-append-add, leng
 use borrow.Author.Tests.{le-leb, lt-leb, leb-true, leb-false}
 use Rattle.drive_sets.specs.Bools.Laws.{by-test, cond-true, cond-false}
 use Rattle.drive_sets.specs.declared.Refusal.the-variants.{NoRoom}
-use Rattle.drive_sets.specs.Refusals.{Outcome, refused, result, number}
-use Rattle.drive_sets.specs.Refusals.Numbered.{Numbered, result-numbered, if-numbered}
+use Rattle.drive_sets.specs.Refusals.{Outcome, refused, result, andThen, number}
+use Rattle.drive_sets.specs.Refusals.Numbered.{Numbered, result-numbered, if-numbered, then-numbered}
 use Rattle.drive_sets.specs.Lent.{written, writtenAt, fitting, bufferAfter}
 
 pub written-fits : (new old : List ℕ) → length new ≤ length old → written new old ≡ new ++ drop (length new) old
@@ -86,6 +86,9 @@ module _ (start room : ℕ) (list : List ℕ) where
 pub fitting-numbered : (start room : ℕ) (list : List ℕ) → Numbered (fitting start room list)
 unfolding fitting
 fitting-numbered start room list = if-numbered (not (leb (start + length list) room)) 14 refl result-numbered
+
+pub put-numbered : (o : Outcome (List ℕ)) → Numbered o → (start room : ℕ) → Numbered (andThen o (fitting start room))
+put-numbered o h start room = then-numbered o (fitting start room) h (fitting-numbered start room)
 
 module _ (old list : List ℕ) where
   -- the first places of a slice with a list over them

@@ -1,28 +1,28 @@
 -- A fault list as a failure model: its largest groups are the fail-prone system that it gives, some drives can fail
 -- together exactly if the rest holds a survivor set, and the executions that it tells of are those that the table of
 -- its rests describes.
-use mathlib.Core.Path.{_≡_, sym, ap, _∙_}
-use mathlib.Core.Bool.{true}
+use mathlib.Core.Path.{_≡_, refl, sym, ap, _∙_}
+use mathlib.Core.Bool.{true, not}
 use mathlib.Core.List.{List}
 use mathlib.Core.Logic.{_↔_}
 use Prim.Native.Nat.{ℕ, _^_, _≤_, _<_}
 use lib.Dec.{eqb}
 use lib.Pow.{pow-mono}
 use native.Mathlib.Nat.{lt-of-lt-of-le}
-use borrow.Author.Tests.{eqb-true, eqb-false}
+use borrow.Author.Tests.{eqb-true, eqb-false, not-true, not-false}
 use Rattle.drive_sets.specs.Bools.Laws.{true-of, same-test}
 use Rattle.drive_sets.specs.Lists.{any, elem}
 use Rattle.drive_sets.specs.Lists.Laws.{any-elem, any-intro}
-use Rattle.drive_sets.specs.Masks.{outside, subset, Below}
-use Rattle.drive_sets.specs.Masks.Laws.{subset-refl, subset-trans, subset-antisym, subset-lt}
-use Rattle.drive_sets.specs.Masks.Outside.{outside-lt}
-use Rattle.survivor_tables.specs.Executions.{Describes}
+use Rattle.drive_sets.specs.Masks.{single, minus, outside, subset, meets, Below}
+use Rattle.drive_sets.specs.Masks.Laws.{minus-lt, subset-refl, subset-trans, subset-antisym, subset-lt, meets-sym}
+use Rattle.drive_sets.specs.Masks.Outside.{outside-lt, meets-outside}
+use Rattle.survivor_tables.specs.Executions.{Core, Describes}
 use Rattle.survivor_tables.specs.Order.{normal}
 use Rattle.survivor_tables.specs.Order.Normal.{normal-elem, holds-normal}
 use Rattle.fault_lists.specs.FaultLists.{rests, largest}
 use Rattle.fault_lists.specs.FaultLists.Rests.{rest-subset, elem-rests, rests-elem}
 use Rattle.fault_lists.specs.FaultLists.Largest.{largest-elem, largest-alone, alone-largest}
-use Rattle.fault_lists.specs.FailureModels.{Model, Maximal, FailProne, CanFail, RestHolds, FailsAs}
+use Rattle.fault_lists.specs.FailureModels.{Model, Maximal, FailProne, CoreFor, CanFail, RestHolds, FailsAs}
 
 module _ (n : ℕ) (groups : List ℕ) (below : Below n groups) where
   -- ---- the fail-prone system
@@ -55,6 +55,14 @@ module _ (n : ℕ) (groups : List ℕ) (below : Below n groups) where
   pub fail-prone : FailProne (CanFail groups) (largest groups)
   fail-prone = record { monotone = part-can; maximal = λ a. (largest-maximal a, maximal-largest a) }
 
+  -- the sets that can fail are executions of which the list tells
+  pub model-told : FailsAs {Φ = (f : ℕ) × CanFail groups f} n groups (λ φ. φ .0)
+  model-told = record {
+    within = λ φ. let g = any-elem (subset (φ .0)) groups (φ .1) in subset-lt n (φ .0) (g .0) (g .2) (below (g .0) (g .1));
+    in-group = λ φ. φ .1;
+    occurs = λ g e. ((g, group-can g e), refl);
+  }
+
   -- ---- the rest holds a survivor set
 
   module _ (frame : n ≤ 64) where
@@ -85,6 +93,34 @@ module _ (n : ℕ) (groups : List ℕ) (below : Below n groups) where
           let w = told .occurs (g .0) (g .1) in
           (w .0, ap (outside n) (w .1) ∙ sym (g .2));
     }
+
+-- the cores of the sets that can fail, taken as executions, are those of the model
+module _ (n : ℕ) (frame : n ≤ 64) (F : Model) where
+  abbrev correct : (f : ℕ) × F f → ℕ
+  correct φ = outside n (φ .0)
+
+  -- what meets the rest is no part of the set
+  meets-rest : (m f : ℕ) → m < 2 ^ n → meets (outside n f) m ≡ not (subset m f)
+  meets-rest m f lt = meets-sym (outside n f) m ∙ meets-outside n m f frame lt
+
+  pub core-for : (c : ℕ) → Core n correct c → CoreFor n F c
+  core-for c core = record {
+    within = core .within;
+    some-missing = λ f can. not-true (subset c f) (sym (meets-rest c f (core .within)) ∙ core .some-correct (f, can));
+    none-to-spare = λ p own.
+        let w = core .none-to-spare p own in
+        let rest = minus c (single p) in
+        (w .0 .0, w .0 .1, not-false (subset rest (w .0 .0)) (sym (meets-rest rest (w .0 .0) (minus-lt n c (single p) (core .within))) ∙ w .1));
+  }
+
+  pub for-core : (c : ℕ) → CoreFor n F c → Core n correct c
+  for-core c core = record {
+    within = core .within;
+    some-correct = λ φ. meets-rest c (φ .0) (core .within) ∙ ap not (core .some-missing (φ .0) (φ .1));
+    none-to-spare = λ p own.
+        let w = core .none-to-spare p own in
+        ((w .0, w .1), meets-rest (minus c (single p)) (w .0) (minus-lt n c (single p) (core .within)) ∙ ap not (w .2));
+  }
 
 -- models that are one have one fail-prone system
 pub same-model : {F G : Model} {list : List ℕ} → ((f : ℕ) → F f ↔ G f) → FailProne F list → FailProne G list

@@ -7,7 +7,7 @@ use lib.Dec.{leb, ltb}
 use lib.ListN.{length}
 use Rattle.drive_sets.specs.declared.Position.{Position}
 use Rattle.drive_sets.specs.Lent.{fitting}
-use Rattle.drive_sets.specs.Lent.Laws.{fitting-numbered}
+use Rattle.drive_sets.specs.Lent.Laws.{put-numbered}
 use Rattle.drive_sets.specs.Limits.{maxSets}
 use Rattle.drive_sets.specs.Refusals.{Outcome, refused, result, andThen}
 use Rattle.drive_sets.specs.Refusals.Numbered.{Numbered, result-numbered, if-numbered, then-numbered}
@@ -28,10 +28,6 @@ missed-refusal (refused r) = refl
 missed-refusal (result p) = refl
 
 -- ---- the calls given n and sets, or groups
-
--- what is put into a lent list, 14 last
-pub put-numbered : (o : Outcome (List ℕ)) → Numbered o → (start room : ℕ) → Numbered (andThen o (fitting start room))
-put-numbered o h start room = then-numbered o (fitting start room) h (fitting-numbered start room)
 
 pub cores-put-numbered : (n : ℕ) (sets old : List ℕ) → Numbered (andThen (coreList n sets) (fitting 0 (length old)))
 cores-put-numbered n sets old = put-numbered (coreList n sets) (cores-numbered n sets) 0 (length old)

@@ -7,13 +7,13 @@ use borrow.Author.Needs.{needs}
 use Rattle.drive_sets.specs.Lent.{fitting}
 use Rattle.drive_sets.specs.Refusals.{Outcome, result, andThen}
 use Rattle.lent_bytes.proofs.Buffers.{written-as}
-use Rattle.fault_files.specs.FaultFiles.{faultBytes, writeTableFaults}
-use Rattle.fault_files.proofs.write_table_faults.Statement.{statement}
-use Rattle.fault_files.proofs.write_table_faults.Tie as tie
+use Rattle.fault_files.specs.FaultFiles.{faultBytes, writeFaultsFrom}
+use Rattle.fault_files.proofs.write_faults_from.Statement.{statement}
+use Rattle.fault_files.proofs.write_faults_from.Tie as tie
 
-pub write-table-faults-spec : {M : Type 1} → statement M
-unfolding writeTableFaults
-write-table-faults-spec =
+pub write-faults-from-spec : {M : Type 1} → statement M
+unfolding writeFaultsFrom
+write-faults-from-spec =
     tie.close
     (tie.spec
     (λ c κs. search needs) (λ c κs. c .before .faults-from-table .ensures .1) (λ c. search needs)
