@@ -220,7 +220,7 @@ def conversions(work: Path) -> Iterator[Case]:
 def libraries(work: Path) -> Iterator[Case]:
     """The library for C: the archives of its crates, joined, and made again only where they have changed."""
     copy, env = copy_of_repository(work)
-    made = copy / "target" / "libregdulyn.a"
+    made, archives = copy / "target" / "libregdulyn.a", len(tool.LIBRARY)
 
     def members() -> list[str]:
         listed = subprocess.run(["ar", "t", made], capture_output=True, text=True)
@@ -236,22 +236,23 @@ def libraries(work: Path) -> Iterator[Case]:
     yield "library", (status, printed, members()), (
         0, f"{made}\n".encode(), [f"member of {crate}" for crate in sorted(tool.LIBRARY)])
     yield "library, second use", (regdulyn("library", root=copy, env=env), calls(copy), len(members())), (
-        (0, f"{made}\n".encode(), ""), 3, 3)
+        (0, f"{made}\n".encode(), ""), archives, archives)
     made.unlink()
-    yield "library, removed", (regdulyn("library", root=copy, env=env)[0], calls(copy), len(members())), (0, 3, 3)
+    yield "library, removed", (regdulyn("library", root=copy, env=env)[0], calls(copy), len(members())), (
+        0, archives, archives)
 
     # several at once, with an `ar` that takes its time; of a library that stands, too
     slow = work / "bin" / "ar"
     slow.write_text(f'#!/bin/sh\n{shutil.which("ar")} "$@" && sleep 0.5\n')
     slow.chmod(0o755)
-    for changed, made_again in (("for several", 3), ("for several", 0)):
+    for changed, made_again in (("for several", archives), ("for several", 0)):
         (copy / "crates/complete_tables/src/lib.rt").write_text(changed)
         before = calls(copy)
         started = [subprocess.Popen([copy / "regdulyn", "library"], env=env, stdout=subprocess.PIPE,
                                     stderr=subprocess.PIPE) for _ in range(4)]
         ended = [(process.communicate(timeout=SECONDS)[0], process.returncode) for process in started]
         yield f"several libraries at once, {made_again} built", (ended, calls(copy) - before, len(members())), (
-            [(f"{made}\n".encode(), 0)] * 4, made_again, 3)
+            [(f"{made}\n".encode(), 0)] * 4, made_again, archives)
     made.unlink()
     made.mkdir()
     status, printed, said = regdulyn("library", root=copy, env=env)
