@@ -251,12 +251,20 @@ static void send(void)
     print_written(refusal, size, room);
 }
 
-static void write_table(void)
+/* A call that writes the file of n and some masks. */
+typedef regdulyn_size_reply file_writer(uint8_t, const uint64_t *, size_t, uint8_t *, size_t, size_t);
+
+static void write_file(file_writer *call)
 {
     uint8_t n = byte();
     size_t room = room_within(MOST_WRITTEN), start = (size_t)field(8), count = list();
-    regdulyn_size_reply reply = regdulyn_write_table(n, masks, count, buffer, room, start);
+    regdulyn_size_reply reply = call(n, masks, count, buffer, room, start);
     print_written(reply.refusal, reply.size, room);
+}
+
+static void write_table(void)
+{
+    write_file(regdulyn_write_table);
 }
 
 static void back(void)
@@ -320,24 +328,27 @@ static void read_faults(void)
 
 static void write_faults(void)
 {
+    write_file(regdulyn_write_faults);
+}
+
+/* A call that gives other masks for n and some. */
+typedef regdulyn_size_reply converter(uint8_t, const uint64_t *, size_t, uint64_t *, size_t);
+
+static void convert(converter *call)
+{
     uint8_t n = byte();
-    size_t room = room_within(MOST_WRITTEN), start = (size_t)field(8), count = list();
-    regdulyn_size_reply reply = regdulyn_write_faults(n, masks, count, buffer, room, start);
-    print_written(reply.refusal, reply.size, room);
+    size_t room = places(), count = list();
+    print_sets("found", call(n, masks, count, lent, room));
 }
 
 static void table_from_faults(void)
 {
-    uint8_t n = byte();
-    size_t room = places(), count = list();
-    print_sets("found", regdulyn_table_from_faults(n, masks, count, lent, room));
+    convert(regdulyn_table_from_faults);
 }
 
 static void faults_from_table(void)
 {
-    uint8_t n = byte();
-    size_t room = places(), count = list();
-    print_sets("found", regdulyn_faults_from_table(n, masks, count, lent, room));
+    convert(regdulyn_faults_from_table);
 }
 
 static void simulate_file(void)

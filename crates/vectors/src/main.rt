@@ -9,6 +9,9 @@ use libc::STDIN_FILENO;
 use libc::STDOUT_FILENO;
 use text::printing::MAX_TEXT;
 
+// How many bytes of stored inputs are read.
+const MAX_STORED: usize = 131072;
+
 // How many bytes the input at the start has.
 fn width(s: &[u8]) -> usize
     ensures { λ r. ⌜ r ≤ 65535 ⌝ }
@@ -49,7 +52,7 @@ fn print_all(s: &[u8]) {
 }
 
 fn main() {
-    let mut input = io::large_buffer();
+    let mut input = [0u8; MAX_STORED];
     let n = io::read_full(STDIN_FILENO, &mut input);
     print_all(&input[..n]);
 }
