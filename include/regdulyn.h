@@ -580,9 +580,10 @@ regdulyn_size_reply regdulyn_faults_from_table(uint8_t n, const uint64_t *sets, 
 
 /*
  * The cores of the table of n drives and `count` sets into the first places of `cores`, which has `room` places:
- * REGDULYN_MAX_CORES are always enough. They come by their number of drives, then by their masks; the first is the
- * chosen core, the one that an exchange uses. The reply's size is how many there are. The other places stay as they
- * were.
+ * REGDULYN_MAX_CORES are always enough. They come by their number of drives; of two with as many the one comes first
+ * that holds the lowest drive that only one of the two holds, so that 9, drives 1 and 4, comes before 6, drives 2 and
+ * 3. The first is the chosen core, the one that an exchange uses. The reply's size is how many there are. The other
+ * places stay as they were.
  *
  * Refusals: 3 n is not 1 to 64; 2 no sets; 5 more than 128; 4 a set that is 0 or has a drive above n; 13 more than
  * 1024 cores; 14 more cores than `room`.

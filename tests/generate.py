@@ -7,8 +7,9 @@ are accepted. Run files have PR and PW for every drive, for core drives alone, o
 for some listeners too. Inputs of the convert program are tables and fault lists,
 at times with SV and FL in one file. `long_tables`, `long_runs` and `long_converts`
 yield inputs about as long as the programs' buffers, and longer, `hard_tables` tables
-on which the search for cores goes far, `small_tables` tables of small frames, and
-`small_converts` tables and fault lists of these. `threshold_inputs` yields n and t
+on which the search for cores goes far, `small_tables` tables of small frames,
+`small_converts` tables and fault lists of these, and `crossed_runs` run files on tables
+whose chosen core is not the lowest as a mask. `threshold_inputs` yields n and t
 around every limit, and `fixed_thresholds` a few, with every refusal.
 """
 
@@ -18,8 +19,8 @@ from typing import Iterator
 
 from inputs import faults
 from inputs.damage import FAULT_DAMAGE, RUN_DAMAGE, TABLE_DAMAGE, damaged
-from inputs.frames import (PAIRS, Frame, accepted_table, crowded_table, full, hard_frames,
-                           normal_tables)
+from inputs.frames import (CROSSED, PAIRS, Frame, accepted_table, choices_of, crowded_table, full,
+                           hard_frames, normal_tables, places)
 from inputs.records import (MARKS, UNKNOWN_MARKS, Crash, Records, crash, fault, fault_list,
                             fault_records, frame, proposal, run, run_records, survivor, table,
                             table_records)
@@ -66,6 +67,12 @@ def fixed_frames() -> Iterator[Frame]:
                for taken in product((0, 1), repeat=7)]
     yield 64, [1 << place for place in range(64)]
     yield 9, [sum(1 << i for i in taken) for taken in combinations(range(9), 4)]
+    yield from crossed_frames()
+
+
+def crossed_frames() -> Iterator[Frame]:
+    """Those of which the chosen core is not the lowest as a mask."""
+    return (choices_of(n, *groups) for n, groups in CROSSED)
 
 
 def fixed_refused() -> Iterator[bytes]:
@@ -203,6 +210,20 @@ def fixed_runs() -> Iterator[bytes]:
     yield table(22, [3 << 2 * pair for pair in range(11)]) + run([1], [])
     yield table(22, [3 << 2 * pair for pair in range(11)])
     yield from (table(1, [1]) + run([number], [], 1) for number in EDGES)
+
+
+def crossed_runs() -> Iterator[bytes]:
+    """Where the chosen core is not the lowest as a mask: numbers of all drives, and of one core's
+    alone; each drive of the first two cores stops, in each round and in one too many, with no sends,
+    some, and one too many; then all of a core's."""
+    for n, cores in CROSSED:
+        first, falling = table(*choices_of(n, *cores)), list(range(100 + n, 100, -1))
+        yield first + run(falling, [])
+        yield from (first + run(falling, [], 0, full(n) & ~core) for core in cores)
+        rounds = range(1, cores[0].bit_count() + 2)
+        for place, round_number, sends in product(places(cores[0] | cores[1]), rounds, (0, 1, n - 1, n)):
+            yield first + run(falling, [Crash(place + 1, round_number, sends)])
+        yield from (first + run(falling, [Crash(place + 1, 1, 0) for place in places(core)]) for core in cores)
 
 
 def fixed_run_refusals() -> Iterator[bytes]:

@@ -4,8 +4,9 @@ Slow and short: each is the sentence itself, so that the reference's searches
 and calls can be checked against it for small frames.
 """
 
+from functools import cmp_to_key
 from itertools import combinations_with_replacement, product
-from typing import Optional
+from typing import Iterable, Optional
 
 
 def meets(group: int, sets: list[int]) -> bool:
@@ -45,9 +46,24 @@ def normal(sets: list[int]) -> list[int]:
                    if not any(other != mask and other & mask == other for other in sets)})
 
 
+def core_order(a: int, b: int) -> int:
+    """Negative where core a comes before core b: a is smaller, or holds the lowest drive that only
+    one of the two holds."""
+    sizes = [bin(core).count("1") for core in (a, b)]
+    if sizes[0] != sizes[1]:
+        return sizes[0] - sizes[1]
+    for place in range(64):
+        if (a >> place & 1) != (b >> place & 1):
+            return -1 if a >> place & 1 else 1
+    return 0
+
+
+def in_core_order(groups: Iterable[int]) -> list[int]:
+    return sorted(groups, key=cmp_to_key(core_order))
+
+
 def cores(n: int, sets: list[int]) -> list[int]:
-    """By size, then by mask."""
-    return sorted(smallest_meeting(n, sets), key=lambda core: (bin(core).count("1"), core))
+    return in_core_order(smallest_meeting(n, sets))
 
 
 def first_sharing_none(sets: list[int], k: int) -> Optional[tuple[int, ...]]:

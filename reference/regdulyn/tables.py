@@ -11,7 +11,7 @@ from functools import lru_cache
 from typing import Callable, Sequence
 
 from .hitting import minimal_hitting_sets
-from .masks import MAX_DRIVES, all_drives, is_part, size, smallest
+from .masks import MAX_DRIVES, all_drives, drives, is_part, size, smallest
 from .records import END, FRAME, MASK_WIDTH, SURVIVOR, Reader, field, fill, number
 from .refusals import Refusal
 
@@ -21,9 +21,10 @@ MAX_CORES = 1024
 
 # What a table means
 
-def core_order(core: int) -> tuple[int, int]:
-    """Cores are ordered by size, then by mask."""
-    return size(core), core
+def core_order(core: int) -> tuple[int, tuple[int, ...]]:
+    """Cores are ordered by size; those of one size by their drives, rising and compared left to
+    right, so that the lowest drive that only one of the two holds decides (document 02, request vii)."""
+    return size(core), drives(core)
 
 
 def first_missed(sets: Sequence[int], group: int) -> int | None:

@@ -7,7 +7,7 @@ from typing import Iterator
 
 import plain
 import regdulyn
-from inputs.frames import accepted_table, full, group, normal_tables
+from inputs.frames import CROSSED, accepted_table, choices_of, full, group, normal_tables
 from inputs.records import table
 
 from . import Case, refusal
@@ -84,7 +84,7 @@ def wide_tables() -> Iterator[Case]:
         groups = plain.set_by_set(sorted(plain.normal(sets), key=int.bit_count), 500)
         if groups is None:
             continue
-        expected = sorted(groups, key=lambda core: (core.bit_count(), core))
+        expected = plain.in_core_order(groups)
         name = f"n {n} sets {sets}"
         yield f"cores: {name}", regdulyn.cores(n, sets), expected
         if len(expected) <= 100:
@@ -92,13 +92,15 @@ def wide_tables() -> Iterator[Case]:
 
 
 def large_tables() -> Iterator[Case]:
-    """Known lists of cores on frames near the limits."""
+    """Known lists of cores, on frames where low drives decide and on frames near the limits."""
+    for n, groups in CROSSED:
+        yield f"low drives first: n {n} cores {groups}", regdulyn.cores(*choices_of(n, *groups)), groups
     pairs = [3 << 2 * pair for pair in range(32)]
     masters = [1 << m | 3 << 2 + 2 * part for m in (0, 1) for part in range(31)]
     yield "32 pairs and 2 4 6", refusal(regdulyn.cores, 64, pairs + [0b101010]), 13
     yield "two masters, 31 clusters", refusal(regdulyn.cores, 64, masters), 13
     missing_one = [full(45) & ~(1 << place) for place in range(45)]
-    twos = sorted(1 << a | 1 << b for a, b in combinations(range(45), 2))
+    twos = [1 << a | 1 << b for a, b in combinations(range(45), 2)]
     yield "44 of 45", regdulyn.cores(45, missing_one), twos
     yield "44 of 45 back", regdulyn.back(45, twos), sorted(missing_one)
     yield "45 of 46", refusal(regdulyn.cores, 46, [full(46) & ~(1 << p) for p in range(46)]), 13

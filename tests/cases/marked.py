@@ -46,8 +46,8 @@ set 7
 set b
 set c
 core 5
-core 6
 core 9
+core 6
 core a
 core c
 chosen 5

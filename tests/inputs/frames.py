@@ -118,16 +118,26 @@ def cluster_choices(rng: Random) -> Frame:
     return span(sets), sets
 
 
+def choices_of(n: int, *groups: int) -> Frame:
+    """One drive of each of these groups, in every way: the groups are the cores where none holds another."""
+    taken = product(*map(places, groups))
+    return n, sorted({sum(1 << place for place in set(one)) for one in taken})
+
+
+# n, and groups of one size in the order of cores, of which the first is not the lowest as a mask.
+CROSSED = [(4, [0b1001, 0b0110]), (6, [0b100001, 0b010010, 0b001100]), (6, [0b100011, 0b001101]),
+           (6, [0b100011, 0b010101, 0b111000]), (64, [1 << 63 | 3, 0b11100]), (64, [0b1001 << 60, 0b0110 << 60])]
+
+
 def overlapping_choices(rng: Random) -> Frame:
     """One drive of each of some overlapping groups, in every way."""
     n = rng.randint(3, MAX_DRIVES)
-    groups: list[list[int]] = []
+    groups: list[int] = []
     for _ in range(rng.randint(1, 7)):
-        new = places(group(rng, n, rng.randint(1, min(n, 5))))
-        if prod(map(len, groups)) * len(new) <= MAX_SETS:
+        new = group(rng, n, rng.randint(1, min(n, 5)))
+        if prod(map(int.bit_count, groups)) * new.bit_count() <= MAX_SETS:
             groups.append(new)
-    sets = {sum(1 << place for place in set(taken)) for taken in product(*groups)}
-    return n, sorted(sets)
+    return choices_of(n, *groups)
 
 
 def joined_clusters(rng: Random) -> Frame:

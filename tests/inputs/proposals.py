@@ -38,6 +38,8 @@ def single(n: int, *drives: int) -> Cored:
 CASE_A = Cored(6, [1, 2, 0x3C], 7)
 SECOND_AND_FOURTH = single(5, 2, 4)
 LAST = single(4, 4)
+# Drives 1 and 4 before drives 2 and 3, which are a core too.
+FIRST_AND_LAST = Cored(4, [0b0011, 0b0101, 0b1010, 0b1100], 0b1001)
 ALL_THREE = single(3, 1, 2, 3)
 
 
@@ -67,7 +69,7 @@ STOP = crash(1, 1, 0)
 
 def accepted() -> Iterator[Sample]:
     """PR or PW for the core drives, rising; and in its place for any listener."""
-    for frame in (CASE_A, SECOND_AND_FOURTH, LAST, ALL_THREE):
+    for frame in (CASE_A, SECOND_AND_FOURTH, LAST, FIRST_AND_LAST, ALL_THREE):
         for more in subsets(frame.listeners):
             drives = sorted([*frame.drives, *more])
             for records in (pr(*drives), pw(*drives), pr(*drives[:-1]) + pw(drives[-1])):
@@ -157,6 +159,19 @@ def behind_the_core() -> Iterator[Sample]:
             (crash(1, 1, 6), 10), (crash(4, 1, 1), 10), (STOP + crash(2, 1, 0) + crash(3, 1, 0) + end(3), 11)))
 
 
+def of_the_lower_core() -> Iterator[Sample]:
+    """Among cores of one size the one with the lower drives counts: its records are owed, its size
+    bounds the rounds, and a drive of the other core is a listener."""
+    for records, due in ((pr(), 2), (pr(1), 2), (pr(1, 2, 3), 2), (pr(2, 3), 8), (pr(3), 8), (pr(4), 8)):
+        yield FIRST_AND_LAST, records + end(0), due
+    for stops, due in ((crash(1, 1, 3), 0), (crash(4, 2, 3), 0), (crash(1, 1, 4), 10), (crash(4, 2, 4), 10),
+                       (crash(1, 3, 0), 9), (crash(2, 3, 0), 9), (crash(2, 1, 1), 10), (crash(3, 2, 1), 10),
+                       (crash(2, 1, 0), 0), (crash(3, 2, 0), 0)):
+        yield FIRST_AND_LAST, pr(1, 4) + stops + end(1), due
+    for one, other, due in ((1, 4, 11), (2, 3, 11), (1, 2, 0), (1, 3, 0), (2, 4, 0), (3, 4, 0)):
+        yield FIRST_AND_LAST, pr(1, 4) + crash(one, 1, 0) + crash(other, 1, 0) + end(2), due
+
+
 # One or two of each, which are stored.
 FEW: list[Sample] = [
     (CASE_A, pr(1, 2, 3) + end(0), 0), (CASE_A, pw(1, 2, 3) + pr(5) + STOP + end(1), 0),
@@ -171,6 +186,7 @@ FEW: list[Sample] = [
     (CASE_A, pr(1, 2, 3, 6) + b"PW", 2), (CASE_A, pr(1, 2, 3, 6, 7), 2), (LAST, pr(4) + pw(4), 2),
     (LAST, pr(4) + b"P", 1), (CASE_A, pr(1, 2, 3) + crash(4, 1, 0) + pr(4), 2),
     (CASE_A, pr(1, 2, 3) + end(0) + pr(4), 7), (CASE_A, pr(1, 2, 3) + b"PR\7", 1),
+    *of_the_lower_core(), (FIRST_AND_LAST, pr(1, 4) + end(0), 0), (FIRST_AND_LAST, pr(1, 2, 3, 4) + end(0), 0),
 ]
 
 

@@ -4,7 +4,7 @@ use mathlib.Core.Path.{_≡_}
 use mathlib.Core.Bool.{Bool, true, false, not, cond}
 use mathlib.Core.List.{List, [], _∷_}
 use Prim.Native.Nat.{ℕ, zero, suc, _-_, _/_, _%_, _^_, _<_, min}
-use lib.Bits.{bitAnd, bitOr}
+use lib.Bits.{bitAnd, bitOr, bitXor}
 use lib.Count.{onesIn, trailingZeros}
 use lib.Dec.{eqb, ltb}
 use Rattle.drive_sets.specs.Lists.{range, filter, elem}
@@ -31,7 +31,7 @@ single (suc i) = cond (ltb i 64) (2 ^ i) 0
 unfoldable pub full : ℕ → ℕ
 full n = 2 ^ min n 64 - 1
 
--- the drives of a or b, of a and b, of a and not of b
+-- the drives of a or b, of a and b, of a and not of b, of only one of the two
 unfoldable pub union : ℕ → ℕ → ℕ
 union a b = bitOr a b
 
@@ -40,6 +40,9 @@ common a b = bitAnd a b
 
 unfoldable pub minus : ℕ → ℕ → ℕ
 minus a b = a - bitAnd a b
+
+unfoldable pub onlyOne : ℕ → ℕ → ℕ
+onlyOne a b = bitXor a b
 
 -- the drives 1 to n outside m
 unfoldable pub outside : ℕ → ℕ → ℕ
@@ -64,6 +67,10 @@ size m = onesIn 64 m
 -- the lowest drive of m; 65 where m is empty
 unfoldable pub lowest : ℕ → ℕ
 lowest m = suc (trailingZeros 64 m)
+
+-- the set of that drive alone: m - 1 has the other drives of m and not this one. Empty where m is
+unfoldable pub lowestAlone : ℕ → ℕ
+lowestAlone m = minus m (m - 1)
 
 -- the drives of m, rising, and the set of a list of drives
 unfoldable pub drives : ℕ → List ℕ

@@ -3,7 +3,7 @@
 ghost use mathlib.Core.Path.{_≡_};
 ghost use lib.Dec.{eqb};
 ghost use Rattle.drive_sets.specs.Counts.{isDrive, isRound};
-ghost use Rattle.drive_sets.specs.Masks.{has, single, full, union, minus, outside, meets, subset, size, lowest};
+ghost use Rattle.drive_sets.specs.Masks.{has, single, full, union, minus, outside, meets, subset, size, lowest, lowestAlone};
 ghost use Rattle.drive_sets.specs.Positions.{positionNumber};
 ghost use Rattle.drive_sets.specs.Refusals.{number};
 
@@ -228,6 +228,16 @@ pub fn without_lowest(m: u64) -> u64
         return 0;
     }
     m & (m - 1)
+}
+
+// The set of the lowest drive of m; an empty set has none.
+pub fn lowest_alone(m: u64) -> u64
+    ensures { λ r. ⌜ r ≡ lowestAlone m ⌝ }
+{
+    if m == 0 {
+        return 0;
+    }
+    minus(m, m - 1)
 }
 
 // m has one drive.

@@ -72,7 +72,7 @@ marked =
     ∷ record {
       program = tableProgram;
       input = fileC;
-      output = ascii "drives 4\nset 7\nset b\nset c\ncore 5\ncore 6\ncore 9\ncore a\ncore c\nchosen 5\nk 2 yes\nk 3 no sets 1 2 3 blocks 8 4 3\nk 4 few\n";
+      output = ascii "drives 4\nset 7\nset b\nset c\ncore 5\ncore 9\ncore 6\ncore a\ncore c\nchosen 5\nk 2 yes\nk 3 no sets 1 2 3 blocks 8 4 3\nk 4 few\n";
     }
     ∷ record {
       program = tableProgram;

@@ -1,17 +1,14 @@
 -- The cores and survivor sets that the calls list are those of the executions that the table describes: the normal
 -- table describes them too, and its minimal hitting sets are their cores.
 use mathlib.Core.Path.{_≡_, refl, sym, ap, subst}
-use mathlib.Core.Bool.{true, _&&_}
-use mathlib.Core.List.{List, [], _∷_}
+use mathlib.Core.Bool.{true}
+use mathlib.Core.List.{List}
 use mathlib.Core.Logic.{_⊎_, inl, inr, ⊎-elim, _↔_}
 use Prim.Native.Nat.{ℕ, _≤_}
 use native.Mathlib.Omega.{arith}
-use lib.Dec.{eqb, ltb}
-use lib.ListN.{getD}
-use borrow.Author.Tests.{eqb-true, ltb-true}
-use Rattle.drive_sets.specs.Bools.Laws.{clash, and-left, or-cases}
-use Rattle.drive_sets.specs.Lists.{all, elem, ordered}
-use Rattle.drive_sets.specs.Lists.Laws.{elem-none, elem-cases, all-elem, any-elem, any-intro}
+use Rattle.drive_sets.specs.Bools.Laws.{same-test}
+use Rattle.drive_sets.specs.Lists.{elem}
+use Rattle.drive_sets.specs.Lists.Laws.{any-elem, any-intro, ordered-unique}
 use Rattle.drive_sets.specs.Lists.Distinct.{ordered-distinct}
 use Rattle.drive_sets.specs.Lists.Places.{getD-elem}
 use Rattle.drive_sets.specs.Masks.{subset, size}
@@ -20,28 +17,30 @@ use Rattle.survivor_tables.specs.Executions.{Core, Survivor, Describes}
 use Rattle.survivor_tables.specs.Executions.Laws.{core-hitting, hitting-core, survivor-set, set-survivor, survivors-describe}
 use Rattle.survivor_tables.specs.Hitting.Laws.{minimal-lt}
 use Rattle.survivor_tables.specs.Order.{bySize, normal}
-use Rattle.survivor_tables.specs.Order.Strict.{bySize-strict, strict-irr}
+use Rattle.survivor_tables.specs.Order.Lowest.{lowest-first, first-lowest}
+use Rattle.survivor_tables.specs.Order.Strict.{bySize-strict, bySize-cases, strict-irr}
 use Rattle.survivor_tables.specs.Order.Normal.{normal-elem, antichain-normal, holds-normal}
 use Rattle.survivor_tables.specs.Tables.{coreOrder, cores, chosen, Accepted}
-use Rattle.survivor_tables.specs.Tables.Laws.{core-given, sets-below, sets-word, accepted-normal, core-minimal, minimal-core, cores-ordered, some-core}
+use Rattle.survivor_tables.specs.Tables.Laws.{core-given, sets-below, sets-word, accepted-normal, core-minimal, minimal-core, cores-ordered, chosen-first, some-core}
 use Rattle.complete_tables.specs.Complete.{Complete, withCores}
-use Rattle.promises.specs.Cores.{TableSays, FirstCore, ListingDescribes, CoresOfCall, ChosenOfCall, CoresOfRead, CoresOfWhole, CoresOfSurvivors}
+use Rattle.promises.specs.Cores.{OrderOfCores, StrictOrder, TableSays, FirstCore, ListingDescribes, CoresOfCall, ChosenOfCall, CoresOfRead, CoresOfWhole, CoresOfSurvivors}
 use Rattle.promises.proofs.Tables.{call-table, read-table, whole-read}
 
--- ---- the first of an ordered list
+-- ---- the order of cores
 
-head-first : (l : List ℕ) (c : ℕ) → ordered coreOrder l ≡ true → elem c l ≡ true → (getD l 0 0 ≡ c) ⊎ (coreOrder (getD l 0 0) c ≡ true)
-unfolding ordered
-head-first [] c o e = absurd (clash e (elem-none c))
-head-first (x ∷ l) c o e =
-    ⊎-elim (λ same. inl (sym same)) (λ later. inr (all-elem (coreOrder x) l c (and-left (all (coreOrder x) l) (ordered coreOrder l) o) later)) (elem-cases c x l e)
+pub order-of-cores : OrderOfCores
+unfolding OrderOfCores
+order-of-cores x y = (
+  λ h. ⊎-elim (λ less. inl less) (λ same. inr (same .0, lowest-first x y (same .1))) (bySize-cases x y .0 h),
+  ⊎-elim (λ less. bySize-cases x y .1 (inl less)) (λ same. bySize-cases x y .1 (inr (same .0, first-lowest x y (same .1 .0) (same .1 .1)))),
+)
+
+pub strict-order : StrictOrder
+unfolding StrictOrder
+strict-order = bySize-strict
 
 size-le : (x y : ℕ) → coreOrder x y ≡ true → size x ≤ size y
-unfolding bySize
-size-le x y h =
-    ⊎-elim (λ less. omega (arith, ltb-true (size x) (size y) less))
-    (λ same. omega (arith, eqb-true (size x) (size y) (and-left (eqb (size x) (size y)) (ltb x y) same)))
-    (or-cases (ltb (size x) (size y)) (eqb (size x) (size y) && ltb x y) h)
+size-le x y h = ⊎-elim (λ less. omega (arith, less)) (λ same. omega (arith, same .0)) (bySize-cases x y .0 h)
 
 -- ---- the normal table describes the executions that the sets describe
 
@@ -80,6 +79,9 @@ module _ {Φ : Type 0} (n : ℕ) (sets : List ℕ) (a : Accepted n sets) (correc
           cores = λ c. (listed-core c, core-listed c);
           by-size = order;
           once = ordered-distinct bySize (strict-irr bySize-strict) (cores (normal sets)) order;
+          only = λ l exactly o.
+              ordered-unique bySize (bySize-strict .asym) l (cores (normal sets)) o order
+              (λ c. same-test (elem c l) (elem c (cores (normal sets))) (λ h. core-listed c (exactly c .0 h)) (λ h. exactly c .1 (listed-core c h)));
           sets = λ s. (
             set-survivor n (a .high) (normal sets) correct described (antichain-normal sets) s,
             survivor-set n (a .high) (normal sets) correct described s,
@@ -88,16 +90,15 @@ module _ {Φ : Type 0} (n : ℕ) (sets : List ℕ) (a : Accepted n sets) (correc
 
     -- ---- the first of them
 
-    chosen-first : (c : ℕ) → Core n correct c → (chosen (normal sets) ≡ c) ⊎ (coreOrder (chosen (normal sets)) c ≡ true)
-    unfolding chosen
-    chosen-first c core = head-first (cores (normal sets)) c (cores-ordered (normal sets) (sets-word n (normal sets) table)) (core-listed c core)
+    first : (c : ℕ) → Core n correct c → (chosen (normal sets) ≡ c) ⊎ (coreOrder (chosen (normal sets)) c ≡ true)
+    first c core = chosen-first (normal sets) (sets-word n (normal sets) table) c (core-listed c core)
 
     first-core : FirstCore n correct (chosen (normal sets))
     unfolding chosen
     first-core = record {
       is-core = listed-core (chosen (normal sets)) (getD-elem (cores (normal sets)) 0 (some-core n (normal sets) table));
-      first = chosen-first;
-      smallest = λ c core. ⊎-elim (λ e. omega (arith, ap size e)) (size-le (chosen (normal sets)) c) (chosen-first c core);
+      first = first;
+      smallest = λ c core. ⊎-elim (λ e. omega (arith, ap size e)) (size-le (chosen (normal sets)) c) (first c core);
     }
 
 -- ---- the promises

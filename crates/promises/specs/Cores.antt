@@ -1,6 +1,7 @@
 -- The cores and survivor sets that the calls list, by executions: Junqueira and Marzullo, document 004, Definitions 1
 -- and 2. Document 01: "A core is a group that meets every survivor set and of which no smaller part does. Cores are
--- ordered by size, then by mask. (..) The chosen core is the first."
+-- ordered by size, (..) The chosen core is the first." Document 02: "Cores of one size are from now on ordered by the
+-- lowest drive that only one of the two holds: the one holding it comes first."
 use mathlib.Core.Path.{_≡_}
 use mathlib.Core.Bool.{true}
 use mathlib.Core.List.{List}
@@ -11,17 +12,33 @@ use Rattle.drive_sets.specs.Masks.{size}
 use Rattle.drive_sets.specs.Refusals.{result}
 use Rattle.survivor_tables.specs.Executions.{Core, Survivor, Describes}
 use Rattle.survivor_tables.specs.Order.{normal}
+use Rattle.survivor_tables.specs.Order.Lowest.{HoldsLowest}
+use Rattle.survivor_tables.specs.Order.Strict.{Strict}
 use Rattle.survivor_tables.specs.Tables.{coreOrder, Accepted, chosenCore}
 use Rattle.complete_tables.specs.Complete.{Complete, completeTable}
 use Rattle.table_files.specs.WithCores.{ReadComplete, readComplete, readWholeComplete}
 
+-- ---- the order of cores
+
+-- one comes before another exactly if it has fewer drives, or as many and holds the lowest drive that only one of the
+-- two holds
+unfoldable pub OrderOfCores : Type 0
+OrderOfCores = (x y : ℕ) → (coreOrder x y ≡ true) ↔ ((size x < size y) ⊎ ((size x ≡ size y) × ((d : ℕ) × HoldsLowest x y d)))
+
+-- so that of two different ones exactly one comes before the other
+unfoldable pub StrictOrder : Type 0
+StrictOrder = Strict coreOrder
+
+-- ---- what is said of executions
+
 -- what a table with its cores says of executions of which `correct` gives the correct processes
 pub record TableSays {Φ : Type 0} (n : ℕ) (correct : Φ → ℕ) (t : Complete) : Type 0 where
   pub drives : t .n ≡ n
-  -- the list of cores has exactly the cores, each once, by size, then by mask
+  -- the list of cores has exactly the cores, each once and in their order, and is the only such list
   pub cores : (c : ℕ) → (elem c (t .cores) ≡ true) ↔ Core n correct c
   pub by-size : ordered coreOrder (t .cores) ≡ true
   pub once : distinct (t .cores) ≡ true
+  pub only : (l : List ℕ) → ((c : ℕ) → (elem c l ≡ true) ↔ Core n correct c) → ordered coreOrder l ≡ true → l ≡ t .cores
   -- and its sets are exactly the survivor sets
   pub sets : (s : ℕ) → (elem s (t .sets) ≡ true) ↔ Survivor correct s
 

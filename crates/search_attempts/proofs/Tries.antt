@@ -4,16 +4,14 @@ use mathlib.Core.Bool.{Bool, true, false}
 use mathlib.Core.List.{List}
 use Prim.Native.Nat.{ℕ, _≤_, _<_}
 use native.Mathlib.Omega.{arith}
-use lib.ListN.{length, take, drop}
-use lib.Seq.{take-at, length-take-le}
+use lib.ListN.{length, take}
 use Rattle.drive_sets.specs.Bools.Laws.{clash}
 use Rattle.drive_sets.specs.Filled.{Filled}
 use Rattle.drive_sets.specs.Filled.Laws.{filled-over}
 use Rattle.survivor_tables.specs.Hitting.{minimals}
 use Rattle.survivor_tables.specs.Order.{sort}
-use Rattle.survivor_tables.specs.Order.Sort.{length-sort}
 use Rattle.set_orders.specs.Sorting.{sortFirst}
-use Rattle.set_orders.specs.Sorting.Laws.{sortFirst-fits}
+use Rattle.set_orders.specs.Sorting.Laws.{take-sortFirst}
 use Rattle.hitting_sets.specs.Fuel.{Searched}
 use Rattle.search_attempts.specs.Attempts.{Attempted}
 
@@ -38,9 +36,7 @@ module _ {limited : Bool} {fuel : ℕ} (before : ℕ → ℕ → Bool) (sets out
   pub tried-all : (new : List ℕ) → r ≤ length mid → (left ≡ 0 → ⊥) → new ≡ sortFirst before r mid → Attempted before sets (length out) new true r
   tried-all new h some e = record {
     total = λ _. omega (arith, filled .total);
-    listed = λ _ p q.
-        ap (take r) (e ∙ sortFirst-fits before r mid q h)
-        ∙ (take-at (sort before (take r mid)) (drop r mid) r (length-sort before (take r mid) ∙ length-take-le r mid h) ∙ ap (sort before) (filled .kept p));
+    listed = λ _ p q. ap (take r) e ∙ (take-sortFirst before r mid q h ∙ ap (sort before) (filled .kept p));
   }
     where
       filled : Filled out mid 0 r (minimals sets)

@@ -32,7 +32,7 @@ unfoldable pub isEmpty : List ℕ → Bool
 isEmpty [] = true
 isEmpty (x ∷ l) = false
 
--- the order of the cores: by size, then by mask
+-- the order of the cores: by size, then by the lowest drive that only one of the two holds
 abbrev pub coreOrder : ℕ → ℕ → Bool
 coreOrder = bySize
 

@@ -1,4 +1,4 @@
--- Groups put into a lent slice: one, and those without a drive followed by those with it.
+-- Groups put into a lent slice: one, and those without a drive followed by those with it; and put in order there.
 use mathlib.Core.Path.{_≡_, refl, sym, ap, _∙_, subst}
 use mathlib.Core.List.{List, [], _∷_, _++_, map, map-append, map-map, map-id}
 use Prim.Native.Nat.{ℕ, zero, suc, _+_, _-_, _≤_, _<_}
@@ -10,6 +10,12 @@ use Rattle.drive_sets.specs.Filled.Laws.{filled-one, filled-then, filled-same}
 use Rattle.drive_sets.specs.Lists.Places.{map-same}
 use Rattle.drive_sets.specs.Masks.{single, full, union}
 use Rattle.drive_sets.specs.Masks.Laws.{union-none, union-assoc}
+use Rattle.drive_sets.specs.Limits.{maxCores}
+use Rattle.survivor_tables.specs.Order.{sort}
+use Rattle.survivor_tables.specs.Tables.{coreOrder}
+use Rattle.set_orders.specs.declared.sorting.Order.the-variants.{BySize}
+use Rattle.set_orders.specs.Sorting.{precedes, sortFirst}
+use Rattle.set_orders.specs.Sorting.Laws.{take-sortFirst}
 use Rattle.threshold.specs.Groups.{groups, groupCount}
 use Rattle.threshold.specs.Groups.Laws.{count-zero, count-sum, count-all, all-group}
 
@@ -94,3 +100,9 @@ unfolding groupCount
 filled-groups n k out out' r room filled =
     let count : r ≡ length (groups k n) = omega (arith, filled .total, room, length-map (groups k n) (union 0)) in
     (count, filled .kept (omega (arith, count, room)) ∙ none-added (groups k n))
+
+-- and put in the order of cores
+pub sorted-groups : (n k r : ℕ) (out sorted : List ℕ) → r ≤ maxCores → r ≤ length out → take r out ≡ groups k n → sorted ≡ sortFirst (precedes BySize) r out
+    → take r sorted ≡ sort coreOrder (groups k n)
+unfolding precedes
+sorted-groups n k r out sorted few room e s = ap (take r) s ∙ (take-sortFirst coreOrder r out few room ∙ ap (sort coreOrder) e)

@@ -8,7 +8,8 @@ use Rattle.drive_sets.specs.declared.Refusal.the-variants.{FrameSize, Threshold
 use Rattle.drive_sets.specs.Limits.{maxSets}
 use Rattle.drive_sets.specs.Masks.{outside, size}
 use Rattle.drive_sets.specs.Refusals.{Outcome, result, refuseIf, andThen}
-use Rattle.survivor_tables.specs.Tables.{isFrame}
+use Rattle.survivor_tables.specs.Order.{sort}
+use Rattle.survivor_tables.specs.Tables.{isFrame, coreOrder}
 use Rattle.complete_tables.specs.Complete.{Complete, completeTable}
 use Rattle.threshold.specs.Groups.{groups}
 pub mod Laws
@@ -37,6 +38,9 @@ unfoldable pub thresholdList : ℕ → ℕ → Outcome (List ℕ)
 thresholdList n t = andThen (thresholdTable n t) (λ table. result (table .sets))
 
 -- what it gives where it refuses nothing (`threshold-by-counts`): the sets are the normal table, and the cores are all
--- groups of t + 1 drives
+-- groups of t + 1 drives, in their order
+unfoldable pub thresholdCores : ℕ → ℕ → List ℕ
+thresholdCores n t = sort coreOrder (groups (t + 1) n)
+
 unfoldable pub thresholdComplete : ℕ → ℕ → Complete
-thresholdComplete n t = record { n = n; sets = thresholdSets n t; cores = groups (t + 1) n }
+thresholdComplete n t = record { n = n; sets = thresholdSets n t; cores = thresholdCores n t }

@@ -6,6 +6,8 @@ ghost use Rattle.threshold.specs.Threshold.{thresholdList, thresholdTabl
 use complete_tables::TableWithCores;
 use drive_sets::Answer;
 use drive_sets::Refusal;
+use set_orders::sorting;
+use set_orders::sorting::Order;
 use survivor_tables::MAX_CORES;
 use survivor_tables::MAX_SETS;
 use survivor_tables::frames::Table;
@@ -44,7 +46,7 @@ pub fn threshold_sets(n: u8, t: u8) -> SetList
     }
 }
 
-// The table of these sets with its cores, which are all groups of t + 1 drives.
+// The table of these sets with its cores, which are all groups of t + 1 drives, in the cores' order.
 pub fn threshold_table(n: u8, t: u8) -> TableWithCores
     ensures { λ r. ⌜ completeOutcome r ≡ thresholdTable n t ⌝ }
     ensures within { λ r. ⌜ CompleteWithin r ⌝ }
@@ -58,6 +60,7 @@ pub fn threshold_table(n: u8, t: u8) -> TableWithCores
         Answer::Accepted => {
             let mut cores = [0u64; MAX_CORES];
             let found = groups::fill_groups(n, t + 1, &mut cores);
+            sorting::sort(Order::BySize, &mut cores, found);
             TableWithCores {
                 answer: Answer::Accepted,
                 table: Table { n, count, sets },

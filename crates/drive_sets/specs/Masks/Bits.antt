@@ -9,7 +9,7 @@ use borrow.Author.Tests.{eqb-true, eqb-false}
 use Rattle.drive_sets.specs.Bools.Laws.{by-test}
 use lib.Arith.{lt-one, digits-mod}
 use lib.Pow.{shr-lt, pow-mono}
-use lib.Bits.{bitAnd, bitOr, and-le-l, and-step, or-step, and-shr, or-shr}
+use lib.Bits.{bitAnd, bitOr, bitXor, differ, and-le-l, and-step, or-step, xor-step, and-shr, or-shr, xor-shr}
 use lib.Dec.{eqb, ltb, eqb·zero-suc, eqb·suc-zero, eqb·suc-suc, leb·zero, leb·suc-zero, leb·suc-suc}
 
 -- the digit i of m, lowest first
@@ -43,7 +43,7 @@ bit-ext (suc k) a b ha hb h =
     let high : a / 2 ≡ b / 2 = bit-ext k (a / 2) (b / 2) (half-lt k ha) (half-lt k hb) (λ i p. sym (bit-suc i a) ∙ h (suc i) (suc-le-suc p) ∙ bit-suc i b) in
     omega arith
 
--- ---- and, or, difference: the last digit, the rest, then every digit
+-- ---- and, or, exclusive or, difference: the last digit, the rest, then every digit
 
 pub and-odd : (a b : ℕ) → bitAnd a b % 2 ≡ min (a % 2) (b % 2)
 and-odd a b =
@@ -55,6 +55,16 @@ or-odd a b =
     ap (λ (x : ℕ). x % 2) (or-step a b)
     ∙ digits-mod (bitOr (a / 2) (b / 2)) (omega (arith, mod-lt a (zero-lt-suc 1), mod-lt b (zero-lt-suc 1)))
 
+xor-odd : (a b : ℕ) → bitXor a b % 2 ≡ differ (a % 2) (b % 2)
+xor-odd a b =
+    ap (λ (x : ℕ). x % 2) (xor-step a b)
+    ∙ digits-mod (bitXor (a / 2) (b / 2)) (differ-lt (a % 2) (b % 2) (mod-lt a (zero-lt-suc 1)) (mod-lt b (zero-lt-suc 1)))
+  where
+    differ-lt : (x y : ℕ) → x < 2 → y < 2 → differ x y < 2
+    differ-lt zero y hx hy = hy
+    differ-lt (suc x) zero hx hy = hx
+    differ-lt (suc x) (suc y) hx hy = differ-lt x y (omega arith) (omega arith)
+
 pub and-half : (a b : ℕ) → bitAnd a b / 2 ≡ bitAnd (a / 2) (b / 2)
 and-half a b = omega (arith, and-step a b)
 
@@ -63,6 +73,9 @@ bit-and i a b = ap (λ (x : ℕ). x % 2) (and-shr a b i) ∙ and-odd (a / 2 ^ i)
 
 pub bit-or : (i a b : ℕ) → bit i (bitOr a b) ≡ max (bit i a) (bit i b)
 bit-or i a b = ap (λ (x : ℕ). x % 2) (or-shr a b i) ∙ or-odd (a / 2 ^ i) (b / 2 ^ i)
+
+pub bit-xor : (i a b : ℕ) → bit i (bitXor a b) ≡ differ (bit i a) (bit i b)
+bit-xor i a b = ap (λ (x : ℕ). x % 2) (xor-shr a b i) ∙ xor-odd (a / 2 ^ i) (b / 2 ^ i)
 
 pub minus-half : (a b : ℕ) → (a - bitAnd a b) / 2 ≡ a / 2 - bitAnd (a / 2) (b / 2)
 minus-half a b = omega (arith, and-step a b, and-le-l (a / 2) (b / 2))

@@ -1,17 +1,17 @@
 -- Membership in each set of drives, when sets are equal, are part of one another, and share a drive.
 use mathlib.Core.Path.{_≡_, refl, sym, ap, _∙_, subst}
-use mathlib.Core.Bool.{Bool, true, false, not, _&&_, _||_, or-assoc}
+use mathlib.Core.Bool.{Bool, true, false, not, _&&_, _||_, Bool·beq, or-assoc}
 use Prim.Native.Nat.{ℕ, zero, suc, _+_, _-_, _/_, _%_, _^_, _≤_, _<_, min, max, zero-le, suc-le-suc}
 use native.Mathlib.Nat.{lt-of-le-of-lt, sub-le, zero-lt-suc, pow-suc}
 use native.Mathlib.Omega.{arith}
 use lib.Arith.{lt-one}
 use lib.Pow.{pow-lt, pow-pos, pow-mono, ones-lt}
-use lib.Bits.{bitAnd, and-le-l, and-le-r, and-comm, and-self, and-zero-l, or-lt, or-zero-r, or-add-and}
+use lib.Bits.{bitAnd, differ, and-le-l, and-le-r, and-comm, and-self, and-zero-l, or-lt, or-zero-r, or-add-and}
 use lib.Dec.{eqb, ltb, leb}
 use borrow.Author.Tests.{eqb-true, eqb-false, eq-eqb, ne-eqb, lt-ltb, le-leb, leb-true, leb-false, not-true, not-false}
 use Rattle.drive_sets.specs.Bools.Laws.{clash, by-test, false-of, true-of, same-test, and-intro, and-left, and-right, or-left, cond-true}
-use Rattle.drive_sets.specs.Masks.{has, single, full, union, common, minus, meets, subset}
-use Rattle.drive_sets.specs.Masks.Bits.{bit, bit-lt, bit-zero, bit-suc, bit-none, bit-above, half-lt, bit-ext, bit-and, bit-or, bit-minus, bit-one, bit-ones, on-digits, digit-ext}
+use Rattle.drive_sets.specs.Masks.{has, single, full, union, common, minus, onlyOne, meets, subset}
+use Rattle.drive_sets.specs.Masks.Bits.{bit, bit-lt, bit-zero, bit-suc, bit-none, bit-above, half-lt, bit-ext, bit-and, bit-or, bit-xor, bit-minus, bit-one, bit-ones, on-digits, digit-ext}
 
 -- ---- membership
 
@@ -38,6 +38,13 @@ has-minus zero a b = refl
 has-minus (suc i) a b =
     ap (λ (x : ℕ). eqb x 1) (bit-minus i a b)
     ∙ on-digits (λ x y. x - min x y) (λ p q. p && not q) refl refl refl refl (bit i a) (bit i b) (bit-lt i a) (bit-lt i b)
+
+pub has-onlyOne : (d a b : ℕ) → has d (onlyOne a b) ≡ not (Bool·beq (has d a) (has d b))
+unfolding has onlyOne
+has-onlyOne zero a b = refl
+has-onlyOne (suc i) a b =
+    ap (λ (x : ℕ). eqb x 1) (bit-xor i a b)
+    ∙ on-digits differ (λ p q. not (Bool·beq p q)) refl refl refl refl (bit i a) (bit i b) (bit-lt i a) (bit-lt i b)
 
 pub has-single : (d e : ℕ) → 1 ≤ e → e ≤ 64 → has d (single e) ≡ eqb d e
 unfolding has single
@@ -138,7 +145,7 @@ none-has n a h f = has-ext n a 0 h (pow-pos n) (λ d p q. f d ∙ sym (has-none 
 
 -- ---- union
 
-power-above : (n : ℕ) → n < 2 ^ n
+pub power-above : (n : ℕ) → n < 2 ^ n
 power-above zero = pow-pos 0
 power-above (suc n) = omega (arith, pow-suc 2 n, power-above n, pow-pos n)
 

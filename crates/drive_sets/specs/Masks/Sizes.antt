@@ -135,14 +135,23 @@ trailing-least (suc k) (suc i) m h e = go (m % 2) (trailing-least k i (m / 2) (o
     go zero le = suc-le-suc le
     go (suc r) le = zero-le
 
+-- of a number of k digits: the digit above the zeros is a drive's, and the lowest
+pub trailing-has : (k m : ℕ) → m < 2 ^ k → (m ≡ 0 → ⊥) → has (suc (trailingZeros k m)) m ≡ true
+unfolding has
+trailing-has k m h ne = eq-eqb (bit (trailingZeros k m) m) 1 (trailing-bit k m h ne)
+
+pub trailing-lowest : (k m : ℕ) → m < 2 ^ k → (d : ℕ) → has d m ≡ true → suc (trailingZeros k m) ≤ d
+unfolding has
+trailing-lowest k m h zero e = absurd (clash e refl)
+trailing-lowest k m h (suc i) e = suc-le-suc (trailing-least k i m (has-bounds k (suc i) m h e .1) (eqb-true (bit i m) 1 e))
+
 pub lowest-has : (m : ℕ) → m < 2 ^ 64 → (m ≡ 0 → ⊥) → has (lowest m) m ≡ true
-unfolding lowest has
-lowest-has m h ne = eq-eqb (bit (trailingZeros 64 m) m) 1 (trailing-bit 64 m h ne)
+unfolding lowest
+lowest-has m h ne = trailing-has 64 m h ne
 
 pub lowest-least : (d m : ℕ) → m < 2 ^ 64 → has d m ≡ true → lowest m ≤ d
-unfolding lowest has
-lowest-least zero m h e = absurd (clash e refl)
-lowest-least (suc i) m h e = suc-le-suc (trailing-least 64 i m (has-bounds 64 (suc i) m h e .1) (eqb-true (bit i m) 1 e))
+unfolding lowest
+lowest-least d m h e = trailing-lowest 64 m h d e
 
 -- where no drive of the set is below d, neither is the lowest; that of the empty set is none
 pub lowest-from : (m d : ℕ) → m < 2 ^ 64 → d ≤ 64 → ((e : ℕ) → has e m ≡ true → d ≤ e) → d ≤ lowest m

@@ -1,15 +1,15 @@
 -- Theorems of tables: the list of cores is THE list of Junqueira and Marzullo's cores, Back lists what it should and of
 -- a table's cores is the table, and what holds of the chosen core of every accepted table.
 use mathlib.Core.Path.{_≡_, refl, sym, ap, _∙_, subst}
-use mathlib.Core.Bool.{true, false, not}
-use mathlib.Core.Logic.{⊎-elim}
+use mathlib.Core.Bool.{Bool, true, false, not}
+use mathlib.Core.Logic.{_⊎_, inl, inr, ⊎-elim}
 use mathlib.Core.List.{List, [], _∷_}
 use Prim.Native.Nat.{ℕ, _^_, _≤_, _<_}
 use native.Mathlib.Nat.{lt-of-lt-of-le}
 use native.Mathlib.Omega.{arith}
 use lib.Pow.{pow-mono}
 use lib.Dec.{eqb, leb, ltb}
-use lib.ListN.{length}
+use lib.ListN.{length, getD}
 use borrow.Author.Tests.{leb-true, le-leb, ltb-false, le-ltb, eqb-false, ne-eqb, not-true, not-false}
 use Rattle.drive_sets.specs.declared.Refusal.the-variants.{WrongMark, FrameSize, BadSet, TooManySets, TooManyCores, AllDrives}
 use Rattle.drive_sets.specs.Bools.Laws.{clash, by-test, and-intro, and-left, and-right, cond-false}
@@ -33,7 +33,7 @@ use Rattle.survivor_tables.specs.Hitting.Listed.{listed-minimal, minimal
 use Rattle.survivor_tables.specs.Order.Normal.{normal-elem, ordered-normal, antichain-normal, normal-idempotent, normal-some, length-normal}
 use Rattle.survivor_tables.specs.Hitting.Normal.{hits-normal}
 use Rattle.drive_sets.specs.Limits.{maxDrives, maxSets, maxCores}
-use Rattle.survivor_tables.specs.Tables.{Accepted, isFrame, isSet, isEmpty, cores, chosen, dual, withinCoreLimit, checkedMask, eachMask, checkedMasks, checkedSets, normalTable, survivorSets, chosenCore}
+use Rattle.survivor_tables.specs.Tables.{Accepted, isFrame, isSet, isEmpty, coreOrder, cores, chosen, dual, withinCoreLimit, checkedMask, eachMask, checkedMasks, checkedSets, normalTable, survivorSets, chosenCore}
 
 -- ---- n and the number of masks
 
@@ -251,7 +251,7 @@ module _ (sets : List ℕ) (word : Below 64 sets) where
   unfolding cores
   minimal-core = minimal-listed bySize sets word
 
-  -- strictly by size, then by mask: each core once
+  -- strictly in their order: each core once
   pub cores-ordered : ordered bySize (cores sets) ≡ true
   unfolding cores
   cores-ordered = listed-ordered bySize sets word bySize-strict
@@ -330,6 +330,17 @@ some-core n sets a =
         let d = has-some n s lt (set-some n s (a .good s h)) in
         let b = has-bounds n (d .0) s lt (d .1) in
         has-meets (d .0) s (full n) (d .1) (full-has (d .0) n (a .high) (b .0) (b .1))
+
+-- and the chosen one stands before all others
+first-before : (before : ℕ → ℕ → Bool) (l : List ℕ) (c : ℕ) → ordered before l ≡ true → elem c l ≡ true → (getD l 0 0 ≡ c) ⊎ (before (getD l 0 0) c ≡ true)
+unfolding ordered
+first-before before [] c o e = absurd (clash e (elem-none c))
+first-before before (x ∷ l) c o e =
+    ⊎-elim (λ same. inl (sym same)) (λ later. inr (all-elem (before x) l c (and-left (all (before x) l) (ordered before l) o) later)) (elem-cases c x l e)
+
+pub chosen-first : (sets : List ℕ) → Below 64 sets → (c : ℕ) → elem c (cores sets) ≡ true → (chosen sets ≡ c) ⊎ (coreOrder (chosen sets) c ≡ true)
+unfolding chosen
+chosen-first sets word c = first-before coreOrder (cores sets) c (cores-ordered sets word)
 
 -- what the exchange rests on: the chosen core of an accepted table lies within the frame, meets every listed set, and
 -- each of its drives is alone in it in some listed set

@@ -2,52 +2,47 @@
 -- cores are all groups of t + 1 drives; and the numbers of groups tell 32 and 13.
 use mathlib.Core.Path.{_≡_, refl, sym, ap, _∙_}
 use mathlib.Core.Bool.{Bool, true, false, not}
-use mathlib.Core.List.{List, [], _∷_}
+use mathlib.Core.List.{List}
+use mathlib.Core.Logic.{⊎-elim}
 use Prim.Native.Nat.{ℕ, _+_, _-_, _^_, _≤_, _<_}
 use native.Mathlib.Nat.{lt-of-lt-of-le}
 use native.Mathlib.Omega.{arith}
 use lib.Pow.{pow-mono}
 use lib.Dec.{leb, ltb}
-use lib.ListN.{length, getD}
+use lib.ListN.{length}
 use borrow.Author.Tests.{ne-eqb, lt-ltb, ltb-true, ltb-false, le-leb, leb-true, leb-false, not-false}
-use Rattle.drive_sets.specs.Bools.Laws.{clash, by-test, same-test, and-intro, and-left, and-right, true-of}
-use Rattle.drive_sets.specs.Lists.{all, any, elem, ordered}
-use Rattle.drive_sets.specs.Lists.Laws.{elem-head, elem-tail, any-elem, any-intro, all-elem, all-intro}
+use Rattle.drive_sets.specs.Bools.Laws.{clash, by-test, same-test, and-intro, true-of}
+use Rattle.drive_sets.specs.Lists.{any, elem}
+use Rattle.drive_sets.specs.Lists.Laws.{elem-some, any-elem, any-intro}
+use Rattle.drive_sets.specs.Lists.Distinct.{ordered-distinct}
+use Rattle.drive_sets.specs.Lists.Places.{getD-elem}
 use Rattle.drive_sets.specs.declared.Refusal.the-variants.{FrameSize, TooManyCores, Threshold, TooManyGroups}
 use Rattle.drive_sets.specs.Refusals.{result, refuseIf, andThen}
 use Rattle.drive_sets.specs.Refusals.Laws.{passed, same-result, then-refuse}
 use Rattle.drive_sets.specs.Limits.{maxDrives, maxSets, maxCores}
 use Rattle.drive_sets.specs.Masks.{full, outside, meets, subset, size, Below}
-use Rattle.drive_sets.specs.Masks.Laws.{subset-lt, subset-full}
+use Rattle.drive_sets.specs.Masks.Laws.{full-lt, subset-lt, subset-full}
 use Rattle.drive_sets.specs.Masks.Frames.{below-more}
 use Rattle.drive_sets.specs.Masks.Outside.{outside-lt, subset-outside, size-outside}
-use Rattle.drive_sets.specs.Masks.Sizes.{part-of-size, size-none, size-subset, subset-size}
+use Rattle.drive_sets.specs.Masks.Sizes.{part-of-size, size-none, size-full, size-subset, subset-size}
 use Rattle.survivor_tables.specs.Executions.{Core, Describes}
 use Rattle.survivor_tables.specs.Executions.Laws.{core-hitting, hitting-core}
 use Rattle.survivor_tables.specs.Hitting.{hits, Minimal}
 use Rattle.survivor_tables.specs.Hitting.Laws.{hits-meets, meets-hits, minimal-lt}
-use Rattle.survivor_tables.specs.Order.{byMask, bySize, normal}
+use Rattle.survivor_tables.specs.Order.{byMask, sort, normal}
+use Rattle.survivor_tables.specs.Order.Lowest.{full-lowest}
 use Rattle.survivor_tables.specs.Order.Normal.{normal-fixed}
-use Rattle.survivor_tables.specs.Order.Strict.{equal, byMask-strict}
+use Rattle.survivor_tables.specs.Order.Sort.{elem-sort, length-sort, ordered-sort}
+use Rattle.survivor_tables.specs.Order.Strict.{byMask-strict, bySize-strict, bySize-cases, strict-irr}
 use Rattle.survivor_tables.specs.declared.frames.MaskKind.the-variants.{SurvivorSet}
-use Rattle.survivor_tables.specs.Tables.{isFrame, isSet, cores, chosen, withinCoreLimit, normalTable}
-use Rattle.survivor_tables.specs.Tables.Laws.{frame-high, cores-unique, set-mask, Checked, checked-masks}
+use Rattle.survivor_tables.specs.Tables.{isFrame, isSet, coreOrder, cores, chosen, withinCoreLimit, normalTable}
+use Rattle.survivor_tables.specs.Tables.Laws.{frame-high, core-minimal, minimal-core, cores-unique, chosen-first, set-mask, Checked, checked-masks}
 use Rattle.complete_tables.specs.Complete.{withCores, completeTable}
 use Rattle.threshold.specs.Groups.{groups, groupCount}
-use Rattle.threshold.specs.Groups.Laws.{groups-sound, groups-complete, groups-ordered, some-groups, first-group, count-others}
-use Rattle.threshold.specs.Threshold.{AtMost, thresholdSets, thresholdTable, thresholdComplete, thresholdList}
+use Rattle.threshold.specs.Groups.Laws.{groups-sound, groups-complete, groups-ordered, some-groups, count-others}
+use Rattle.threshold.specs.Threshold.{AtMost, thresholdSets, thresholdTable, thresholdCores, thresholdComplete, thresholdList}
 
 -- ---- sets by their sizes
-
--- sets of one size that rise as masks stand in the order of cores
-same-size-ordered : (k : ℕ) (l : List ℕ) → ((x : ℕ) → elem x l ≡ true → size x ≡ k) → ordered ltb l ≡ true → ordered bySize l ≡ true
-unfolding ordered bySize byMask
-same-size-ordered k [] f h = refl
-same-size-ordered k (x ∷ l) f h =
-    and-intro
-    (all-intro (bySize x) l (λ y e.
-    equal byMask byMask-strict x y (f x (elem-head x l) ∙ sym (f y (elem-tail y x l e))) (all-elem (ltb x) l y (and-left (all (ltb x) l) (ordered ltb l) h) e)))
-    (same-size-ordered k l (λ y e. f y (elem-tail y x l e)) (and-right (all (ltb x) l) (ordered ltb l) h))
 
 module _ (n : ℕ) (frame : n ≤ 64) (m : ℕ) (lt : m < 2 ^ n) where
   word : m < 2 ^ 64
@@ -94,6 +89,9 @@ module _ (n : ℕ) (frame : n ≤ 64) (t : ℕ) (below : t < n) where
   unfolding thresholdSets
   sets-below s e = groups-sound (n - t) n s frame e .0
 
+  sets-word : Below 64 (thresholdSets n t)
+  sets-word = below-more n (thresholdSets n t) frame sets-below
+
   -- a group of t + 1 drives is a core, and each core is one
   pub group-core : (c : ℕ) → elem c (groups (t + 1) n) ≡ true → Minimal (thresholdSets n t) c
   group-core c e =
@@ -112,12 +110,14 @@ module _ (n : ℕ) (frame : n ≤ 64) (t : ℕ) (below : t < n) where
       let same = min .no-part (g .0) (g .1) (more-than-hits (g .0) (subset-lt n (g .0) c (g .1) lt) ∙ lt-ltb t (size (g .0)) (omega (arith, g .2))) in
       groups-complete (t + 1) n c frame lt (ap size (sym same) ∙ g .2)
 
-  -- so the list of cores is all groups of t + 1 drives
-  pub threshold-cores : cores (thresholdSets n t) ≡ groups (t + 1) n
+  -- so the list of cores is all groups of t + 1 drives, in order
+  pub threshold-cores : cores (thresholdSets n t) ≡ thresholdCores n t
+  unfolding thresholdCores byMask
   threshold-cores =
-      sym (cores-unique (thresholdSets n t) (below-more n (thresholdSets n t) frame sets-below) (groups (t + 1) n)
-      (same-size-ordered (t + 1) (groups (t + 1) n) (λ c e. groups-sound (t + 1) n c frame e .1) (groups-ordered (t + 1) n frame))
-      group-core core-group)
+      sym (cores-unique (thresholdSets n t) sets-word (sort coreOrder (groups (t + 1) n))
+      (ordered-sort coreOrder bySize-strict (groups (t + 1) n) (ordered-distinct ltb (strict-irr byMask-strict) (groups (t + 1) n) (groups-ordered (t + 1) n frame)))
+      (λ c e. group-core c (sym (elem-sort coreOrder c (groups (t + 1) n)) ∙ e))
+      (λ c min. elem-sort coreOrder c (groups (t + 1) n) ∙ core-group c min))
 
   -- The table describes the executions in which at most t of the n drives drop out; so their cores, by Junqueira and
   -- Marzullo's definition, are the groups of t + 1 drives.
@@ -162,12 +162,26 @@ module _ (n : ℕ) (frame : n ≤ 64) (t : ℕ) (below : t < n) where
   -- the chosen core: drives 1 to t + 1
   pub threshold-chosen : chosen (thresholdSets n t) ≡ full (t + 1)
   unfolding chosen
-  threshold-chosen = ap (λ (l : List ℕ). getD l 0 0) threshold-cores ∙ first-group (t + 1) n (omega (arith, below)) frame
+  threshold-chosen =
+      let core = groups-sound (t + 1) n (chosen (thresholdSets n t)) frame (core-group _ (core-minimal (thresholdSets n t) sets-word _ (getD-elem (cores (thresholdSets n t)) 0 some))) in
+      ⊎-elim (λ same. same)
+      (λ before.
+      let e = core .1 ∙ sym (size-full (t + 1) (omega arith)) in
+      ⊎-elim (λ less. absurd (omega (arith, less, e))) (λ same. absurd (full-lowest (t + 1) (chosen (thresholdSets n t)) (omega arith) (word n frame _ (core .0)) (core .1) (same .1))) (bySize-cases _ _ .0 before))
+      (chosen-first (thresholdSets n t) sets-word (full (t + 1)) first)
+    where
+      first : elem (full (t + 1)) (cores (thresholdSets n t)) ≡ true
+      first =
+          minimal-core (thresholdSets n t) sets-word (full (t + 1))
+          (group-core (full (t + 1)) (groups-complete (t + 1) n (full (t + 1)) frame (omega (arith, full-lt (t + 1), pow-mono {i = t + 1} {j = n} (omega (arith, below)))) (size-full (t + 1) (omega (arith, below)))))
+
+      some : 1 ≤ length (cores (thresholdSets n t))
+      some = elem-some (full (t + 1)) (cores (thresholdSets n t)) first
 
   -- 128 sets at most: the table is accepted, where it has 1024 cores at most
   threshold-complete : length (thresholdSets n t) ≤ maxSets
       → completeTable n (thresholdSets n t) ≡ refuseIf (ltb maxCores (groupCount (t + 1) n)) TooManyCores (result (thresholdComplete n t))
-  unfolding thresholdSets completeTable normalTable withinCoreLimit isFrame thresholdComplete withCores groupCount
+  unfolding thresholdSets thresholdCores completeTable normalTable withinCoreLimit isFrame thresholdComplete withCores groupCount
   threshold-complete few =
       let checked : Checked SurvivorSet n (thresholdSets n t) = record {
         frame = and-intro (le-leb 1 n (omega (arith, below))) (le-leb n maxDrives frame);
@@ -175,7 +189,7 @@ module _ (n : ℕ) (frame : n ≤ 64) (t : ℕ) (below : t < n) where
         most = few;
         good = λ s e. set-mask n s (threshold-set s e);
       } in
-      rw (checked-masks SurvivorSet n (thresholdSets n t) checked, threshold-normal, threshold-cores)
+      rw (checked-masks SurvivorSet n (thresholdSets n t) checked, threshold-normal, threshold-cores, length-sort)
       (then-refuse (ltb maxCores (length (groups (t + 1) n))) TooManyCores (thresholdSets n t) (λ table. result (withCores n table))
       ∙ ap (λ (l : List ℕ). refuseIf (ltb maxCores (length (groups (t + 1) n))) TooManyCores (result (record { n = n; sets = thresholdSets n t; cores = l }))) threshold-cores)
 
