@@ -11,8 +11,7 @@ use Rattle.drive_sets.specs.Lists.{elem, ordered, distinct}
 use Rattle.drive_sets.specs.Masks.{size}
 use Rattle.drive_sets.specs.Refusals.{result}
 use Rattle.survivor_tables.specs.Executions.{Core, Survivor, Describes}
-use Rattle.survivor_tables.specs.Order.{normal}
-use Rattle.survivor_tables.specs.Order.Lowest.{HoldsLowest}
+use Rattle.survivor_tables.specs.Order.{HoldsLowest, normal}
 use Rattle.survivor_tables.specs.Order.Strict.{Strict}
 use Rattle.survivor_tables.specs.Tables.{coreOrder, Accepted, chosenCore}
 use Rattle.complete_tables.specs.Complete.{Complete, completeTable}

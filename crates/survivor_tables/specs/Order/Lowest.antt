@@ -14,13 +14,7 @@ use Rattle.drive_sets.specs.Masks.{has, full, minus, onlyOne, meets, size, lowe
 use Rattle.drive_sets.specs.Masks.Laws.{has-onlyOne, has-bounds, full-has, full-lt, has-subset}
 use Rattle.drive_sets.specs.Masks.Sizes.{size-full, subset-size}
 use Rattle.drive_sets.specs.Masks.Lowest.{lowest-alone, none-alone}
-use Rattle.survivor_tables.specs.Order.{byMask, byLowest, bySize}
-
--- d is the lowest drive that only one of the two holds, and x holds it
-pub record HoldsLowest (x y d : ℕ) : Type 0 where
-  pub holds : has d x ≡ true
-  pub lacks : has d y ≡ false
-  pub same : (e : ℕ) → e < d → has e x ≡ has e y
+use Rattle.survivor_tables.specs.Order.{byMask, byLowest, HoldsLowest, bySize}
 
 module _ (x y : ℕ) where
   none-only : onlyOne x y ≡ 0 → x ≡ y
