@@ -71,7 +71,7 @@ def fixed_frames() -> Iterator[Frame]:
 
 
 def crossed_frames() -> Iterator[Frame]:
-    """Those of which the chosen core is not the lowest as a mask."""
+    """Frames of which the chosen core is not the lowest as a mask."""
     return (choices_of(n, *groups) for n, groups in CROSSED)
 
 
@@ -223,7 +223,8 @@ def crossed_runs() -> Iterator[bytes]:
         rounds = range(1, cores[0].bit_count() + 2)
         for place, round_number, sends in product(places(cores[0] | cores[1]), rounds, (0, 1, n - 1, n)):
             yield first + run(falling, [Crash(place + 1, round_number, sends)])
-        yield from (first + run(falling, [Crash(place + 1, 1, 0) for place in places(core)]) for core in cores)
+        for core in cores:
+            yield first + run(falling, [Crash(place + 1, 1, 0) for place in places(core)])
 
 
 def fixed_run_refusals() -> Iterator[bytes]:

@@ -125,8 +125,9 @@ def choices_of(n: int, *groups: int) -> Frame:
 
 
 # n, and groups of one size in the order of cores, of which the first is not the lowest as a mask.
-CROSSED = [(4, [0b1001, 0b0110]), (6, [0b100001, 0b010010, 0b001100]), (6, [0b100011, 0b001101]),
-           (6, [0b100011, 0b010101, 0b111000]), (64, [1 << 63 | 3, 0b11100]), (64, [0b1001 << 60, 0b0110 << 60])]
+CROSSED = [(4, [0b1001, 0b0110]), (6, [0b001001, 0b000110, 0b110000]), (6, [0b100001, 0b010010, 0b001100]),
+           (6, [0b100011, 0b001101]), (6, [0b100011, 0b010101, 0b111000]), (64, [1 << 63 | 3, 0b11100]),
+           (64, [0b1001 << 60, 0b0110 << 60])]
 
 
 def overlapping_choices(rng: Random) -> Frame:

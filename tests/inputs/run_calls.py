@@ -12,7 +12,7 @@ from regdulyn import Crash
 from . import proposals
 from .calls import Script
 from .damage import RUN_DAMAGE, damaged
-from .frames import MAX_DRIVES, full, places
+from .frames import CROSSED, MAX_DRIVES, choices_of, full, places
 from .records import end, run, run_records
 from .samples import A_SETS, PATTERNS, SAID, refused_runs
 from .scenarios import (EDGES, Scenario, accepted_run, some_left_out, some_wide, spoil_crash,
@@ -61,6 +61,14 @@ def stops_on_others(script: Script, call: Call) -> None:
         sets = [1 << place for place in range(size)]
         for stop in edge_stops(n, size, drives):
             call(script, n, sets, falling(n), [stop])
+
+
+def stops_on_crossed(script: Script, call: Call) -> None:
+    """Drives of two cores, where the chosen one is not the lowest as a mask."""
+    n, groups = CROSSED[1]
+    _, sets = choices_of(n, *groups)
+    for stop in edge_stops(n, 2, (place + 1 for place in places(groups[0] | groups[1]))):
+        call(script, n, sets, falling(n), [stop])
 
 
 def two_stops(script: Script, call: Call) -> None:
@@ -140,7 +148,8 @@ def edge_numbers(script: Script, call: Call) -> None:
     call(script, 64, singles, list(range(65567, 65503, -1)), [Crash(64, 1, 1)])
 
 
-SCENARIOS = (stops_on_tables, stops_on_a, stops_on_others, two_stops, touched_sets, edge_numbers)
+SCENARIOS = (stops_on_tables, stops_on_a, stops_on_others, stops_on_crossed, two_stops, touched_sets,
+             edge_numbers)
 LIMITS = (file_samples, proposal_samples, drive_lists, large_files, numbers_of_listeners,
           *(partial(made, call=call) for call in (play_file, Script.simulate) for made in SCENARIOS))
 

@@ -11,8 +11,8 @@ from typing import Iterable, Iterator
 from regdulyn import Refusal, cores, write_table
 
 from .calls import Script
-from .frames import (CHOICES, MAX_CORES, MAX_SETS, PAIRS, Frame, accepted_table, crowded_table, full,
-                     hard_frames, normal_tables)
+from .frames import (CHOICES, CROSSED, MAX_CORES, MAX_SETS, PAIRS, Frame, accepted_table, choices_of,
+                     crowded_table, full, hard_frames, normal_tables, places)
 
 BUFFER = 1536
 NO_BLOCK_COUNTS = (0, 1, 5, 6, 255)
@@ -116,6 +116,17 @@ def table_cores(n: int, sets: list[int]) -> list[int]:
         return []
 
 
+def crossed_tables(script: Script) -> None:
+    """Cores, the way back from them, and openings of the drives of two cores, where the chosen one is not the
+    lowest as a mask."""
+    for n, groups in CROSSED:
+        _, sets = choices_of(n, *groups)
+        script.cores(n, sets)
+        script.back(n, groups)
+        for place in places(groups[0] | groups[1]):
+            script.open(n, sets, place + 1, 7)
+
+
 def hard_groups(script: Script) -> None:
     """Back of the cores of tables on which the search goes far; where these are
     too many for the reference, of their sets."""
@@ -134,7 +145,7 @@ def thresholds(script: Script, frames: Iterable[int]) -> None:
 
 
 LIMITS = (table_limits, group_limits, missed_positions, verdict_limits, writer_limits,
-          back_limits, hard_groups,
+          back_limits, crossed_tables, hard_groups,
           *(partial(thresholds, frames=COUNTS[place::4]) for place in range(4)))
 
 

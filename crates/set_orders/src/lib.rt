@@ -1,4 +1,4 @@
-// Lists of sets of drives put in order, by mask or by size, and copied.
+// Lists of sets of drives put in order, by mask or in the order of cores, and copied.
 pub mod slices;
 pub mod sorting;
 

@@ -241,6 +241,14 @@ ordered-append before (x ∷ l) m p q f =
     ∙ and-intro (and-left (all (before x) l) (ordered before l) p) (all-intro (before x) m (λ y h. f x y (elem-head x l) h)))
     (ordered-append before l m (and-right (all (before x) l) (ordered before l) p) q (λ y z h k. f y z (elem-tail y x l h) k))
 
+-- the first of an ordered list stands before all others
+pub ordered-first : (before : ℕ → ℕ → Bool) (l : List ℕ) (x : ℕ) → ordered before l ≡ true → elem x l ≡ true
+    → (getD l 0 0 ≡ x) ⊎ (before (getD l 0 0) x ≡ true)
+unfolding ordered
+ordered-first before [] x o e = absurd (clash e (elem-none x))
+ordered-first before (y ∷ l) x o e =
+    ⊎-elim (λ same. inl (sym same)) (λ later. inr (all-elem (before y) l x (and-left (all (before y) l) (ordered before l) o) later)) (elem-cases x y l e)
+
 -- two ordered lists with the same elements are equal
 module _ (before : ℕ → ℕ → Bool) (asym : (x y : ℕ) → before x y ≡ true → before y x ≡ true → ⊥) where
   pub ordered-unique : (l m : List ℕ) → ordered before l ≡ true → ordered before m ≡ true → ((x : ℕ) → elem x l ≡ elem x m) → l ≡ m

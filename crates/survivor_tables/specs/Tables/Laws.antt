@@ -1,20 +1,20 @@
 -- Theorems of tables: the list of cores is THE list of Junqueira and Marzullo's cores, Back lists what it should and of
 -- a table's cores is the table, and what holds of the chosen core of every accepted table.
 use mathlib.Core.Path.{_≡_, refl, sym, ap, _∙_, subst}
-use mathlib.Core.Bool.{Bool, true, false, not}
-use mathlib.Core.Logic.{_⊎_, inl, inr, ⊎-elim}
+use mathlib.Core.Bool.{true, false, not}
+use mathlib.Core.Logic.{_⊎_, ⊎-elim}
 use mathlib.Core.List.{List, [], _∷_}
 use Prim.Native.Nat.{ℕ, _^_, _≤_, _<_}
 use native.Mathlib.Nat.{lt-of-lt-of-le}
 use native.Mathlib.Omega.{arith}
 use lib.Pow.{pow-mono}
 use lib.Dec.{eqb, leb, ltb}
-use lib.ListN.{length, getD}
+use lib.ListN.{length}
 use borrow.Author.Tests.{leb-true, le-leb, ltb-false, le-ltb, eqb-false, ne-eqb, not-true, not-false}
 use Rattle.drive_sets.specs.declared.Refusal.the-variants.{WrongMark, FrameSize, BadSet, TooManySets, TooManyCores, AllDrives}
 use Rattle.drive_sets.specs.Bools.Laws.{clash, by-test, and-intro, and-left, and-right, cond-false}
 use Rattle.drive_sets.specs.Lists.{all, elem, ordered}
-use Rattle.drive_sets.specs.Lists.Laws.{elem-some, elem-head, elem-tail, elem-none, elem-cases, all-elem}
+use Rattle.drive_sets.specs.Lists.Laws.{elem-some, elem-head, elem-tail, elem-none, elem-cases, all-elem, ordered-first}
 use Rattle.drive_sets.specs.Lists.Places.{getD-elem}
 use Rattle.drive_sets.specs.Masks.{has, single, full, common, subset, meets, Below}
 use Rattle.drive_sets.specs.Masks.Laws.{full-lt, full-has, full-subset, has-some, has-bounds, has-meets}
@@ -332,15 +332,9 @@ some-core n sets a =
         has-meets (d .0) s (full n) (d .1) (full-has (d .0) n (a .high) (b .0) (b .1))
 
 -- and the chosen one stands before all others
-first-before : (before : ℕ → ℕ → Bool) (l : List ℕ) (c : ℕ) → ordered before l ≡ true → elem c l ≡ true → (getD l 0 0 ≡ c) ⊎ (before (getD l 0 0) c ≡ true)
-unfolding ordered
-first-before before [] c o e = absurd (clash e (elem-none c))
-first-before before (x ∷ l) c o e =
-    ⊎-elim (λ same. inl (sym same)) (λ later. inr (all-elem (before x) l c (and-left (all (before x) l) (ordered before l) o) later)) (elem-cases c x l e)
-
 pub chosen-first : (sets : List ℕ) → Below 64 sets → (c : ℕ) → elem c (cores sets) ≡ true → (chosen sets ≡ c) ⊎ (coreOrder (chosen sets) c ≡ true)
 unfolding chosen
-chosen-first sets word c = first-before coreOrder (cores sets) c (cores-ordered sets word)
+chosen-first sets word c = ordered-first coreOrder (cores sets) c (cores-ordered sets word)
 
 -- what the exchange rests on: the chosen core of an accepted table lies within the frame, meets every listed set, and
 -- each of its drives is alone in it in some listed set

@@ -1,7 +1,7 @@
 -- The groups of k out of n drives are all sets of the frame with k drives, each once, by mask; how many there are.
 use mathlib.Core.Path.{_≡_, refl, sym, ap, ap₂, _∙_, subst}
 use mathlib.Core.Bool.{true}
-use mathlib.Core.List.{List, [], _∷_, _++_, map}
+use mathlib.Core.List.{List, [], _∷_, map}
 use mathlib.Core.Logic.{⊎-elim}
 use Prim.Native.Nat.{ℕ, zero, suc, _+_, _-_, _*_, _^_, _≤_, _<_}
 use native.Mathlib.Nat.{le-refl, pow-suc}
@@ -10,15 +10,15 @@ use lib.Arith.{lt-one}
 use lib.Pow.{pow-pos, pow-mono}
 use lib.Bits.{or-shifted}
 use lib.Count.{ones, onesIn, ones-cat}
-use lib.Dec.{leb, ltb}
-use lib.ListN.{length, getD, length-append, length-map, List·getD-append}
-use borrow.Author.Tests.{lt-ltb, ltb-true, ltb-false, leb-true, leb-false}
+use lib.Dec.{ltb}
+use lib.ListN.{length, length-append, length-map}
+use borrow.Author.Tests.{lt-ltb, ltb-true, ltb-false}
 use Rattle.drive_sets.specs.Bools.Laws.{clash, by-test, cond-true}
 use Rattle.drive_sets.specs.Lists.{all, elem, ordered}
 use Rattle.drive_sets.specs.Lists.Laws.{ordered-append, elem-none, elem-some, elem-one, elem-head, elem-append-left, elem-append-right, elem-append-cases}
-use Rattle.drive_sets.specs.Lists.Places.{elem-map, map-elem, getD-map, ordered-map}
+use Rattle.drive_sets.specs.Lists.Places.{elem-map, map-elem, ordered-map}
 use Rattle.drive_sets.specs.Masks.{single, full, union, size}
-use Rattle.drive_sets.specs.Masks.Laws.{full-lt, full-is}
+use Rattle.drive_sets.specs.Masks.Laws.{full-lt}
 use Rattle.drive_sets.specs.Masks.Sizes.{ones-size, size-none, none-size, size-full}
 use Rattle.threshold.specs.Groups.{groups, groupCount}
 
@@ -43,14 +43,6 @@ count-above : (k n : ℕ) → n < k → groupCount k n ≡ 0
 count-above zero n h = absurd (omega arith)
 count-above (suc k) zero h = count-none k
 count-above (suc k) (suc n) h = count-sum k n ∙ ap₂ _+_ (count-above (suc k) n (omega arith)) (count-above k n (omega arith))
-
-pub no-groups : (k n : ℕ) → n < k → groups k n ≡ []
-unfolding groupCount
-no-groups k n h = none (groups k n) (count-above k n h)
-  where
-    none : (l : List ℕ) → length l ≡ 0 → l ≡ []
-    none [] e = refl
-    none (x ∷ l) e = absurd (omega (arith, e))
 
 pub count-all : (n : ℕ) → groupCount n n ≡ 1
 count-all zero = count-zero 0
@@ -151,36 +143,19 @@ groups-ordered (suc k) (suc n) frame =
     lt-ltb x y (omega (arith, groups-sound (suc k) n x (omega arith) h .0, m .2, value (m .0) (m .1))))
 
 -- drives 1 to k are one of them
-pub some-groups : (k n : ℕ) → k ≤ n → n ≤ 64 → 1 ≤ length (groups k n)
-some-groups k n most frame =
-    elem-some (full k) (groups k n)
-    (groups-complete k n (full k) frame (omega (arith, full-lt k, pow-mono {i = k} {j = n} most)) (size-full k (omega arith)))
+pub full-group : (k n : ℕ) → k ≤ n → n ≤ 64 → elem (full k) (groups k n) ≡ true
+full-group k n most frame =
+    groups-complete k n (full k) frame (omega (arith, full-lt k, pow-mono {i = k} {j = n} most)) (size-full k (omega arith))
 
--- and the first
-pub first-group : (k n : ℕ) → k ≤ n → n ≤ 64 → getD (groups k n) 0 0 ≡ full k
-unfolding groups
-first-group zero n most frame = sym (full-is 0 (omega arith))
-first-group (suc k) zero most frame = absurd (omega arith)
-first-group (suc k) (suc n) most frame =
-    by-test (leb (suc k) n)
-    (λ e.
-    let fits = leb-true (suc k) n e in
-    List·getD-append (groups (suc k) n) (map (union (single (suc n))) (groups k n)) 0 0 (some-groups (suc k) n fits (omega arith))
-    ∙ first-group (suc k) n fits (omega arith))
-    (λ e.
-    let all : k ≡ n = omega (arith, most, leb-false (suc k) n e) in
-    ap (λ (l : List ℕ). getD (l ++ map (union (single (suc n))) (groups k n)) 0 0) (no-groups (suc k) n (omega (arith, all)))
-    ∙ (getD-map (union (single (suc n))) (groups k n) 0 (some-groups k n (omega arith) (omega arith))
-    ∙ (ap (union (single (suc n))) (first-group k n (omega arith) (omega arith) ∙ ap full all)
-    ∙ (with-last n frame (full n) (full-lt n)
-    ∙ (omega (arith, full-is n (omega arith), full-is (suc n) frame, pow-suc 2 n, pow-pos n) ∙ ap full (ap suc (sym all)))))))
+pub some-groups : (k n : ℕ) → k ≤ n → n ≤ 64 → 1 ≤ length (groups k n)
+some-groups k n most frame = elem-some (full k) (groups k n) (full-group k n most frame)
 
 -- all drives are one group
 pub all-group : (n : ℕ) → n ≤ 64 → groups n n ≡ full n ∷ []
 unfolding groupCount
-all-group n frame = only (groups n n) (count-all n) ∙ ap (λ (g : ℕ). g ∷ []) (first-group n n (le-refl n) frame)
+all-group n frame = only (groups n n) (count-all n) (full-group n n (le-refl n) frame)
   where
-    only : (l : List ℕ) → length l ≡ 1 → l ≡ getD l 0 0 ∷ []
-    only [] e = absurd (omega (arith, e))
-    only (x ∷ []) e = refl
-    only (x ∷ y ∷ l) e = absurd (omega (arith, e))
+    only : (l : List ℕ) → length l ≡ 1 → elem (full n) l ≡ true → l ≡ full n ∷ []
+    only [] e h = absurd (omega (arith, e))
+    only (x ∷ []) e h = ap (λ (g : ℕ). g ∷ []) (sym (elem-one (full n) x h))
+    only (x ∷ y ∷ l) e h = absurd (omega (arith, e))

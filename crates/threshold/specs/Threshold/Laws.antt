@@ -21,7 +21,7 @@ use Rattle.drive_sets.specs.Refusals.{result, refuseIf, andThen}
 use Rattle.drive_sets.specs.Refusals.Laws.{passed, same-result, then-refuse}
 use Rattle.drive_sets.specs.Limits.{maxDrives, maxSets, maxCores}
 use Rattle.drive_sets.specs.Masks.{full, outside, meets, subset, size, Below}
-use Rattle.drive_sets.specs.Masks.Laws.{full-lt, subset-lt, subset-full}
+use Rattle.drive_sets.specs.Masks.Laws.{subset-lt, subset-full}
 use Rattle.drive_sets.specs.Masks.Frames.{below-more}
 use Rattle.drive_sets.specs.Masks.Outside.{outside-lt, subset-outside, size-outside}
 use Rattle.drive_sets.specs.Masks.Sizes.{part-of-size, size-none, size-full, size-subset, subset-size}
@@ -39,7 +39,7 @@ use Rattle.survivor_tables.specs.Tables.{isFrame, isSet, coreOrder, cores, chos
 use Rattle.survivor_tables.specs.Tables.Laws.{frame-high, core-minimal, minimal-core, cores-unique, chosen-first, set-mask, Checked, checked-masks}
 use Rattle.complete_tables.specs.Complete.{withCores, completeTable}
 use Rattle.threshold.specs.Groups.{groups, groupCount}
-use Rattle.threshold.specs.Groups.Laws.{groups-sound, groups-complete, groups-ordered, some-groups, count-others}
+use Rattle.threshold.specs.Groups.Laws.{groups-sound, groups-complete, groups-ordered, full-group, some-groups, count-others}
 use Rattle.threshold.specs.Threshold.{AtMost, thresholdSets, thresholdTable, thresholdCores, thresholdComplete, thresholdList}
 
 -- ---- sets by their sizes
@@ -171,9 +171,7 @@ module _ (n : ℕ) (frame : n ≤ 64) (t : ℕ) (below : t < n) where
       (chosen-first (thresholdSets n t) sets-word (full (t + 1)) first)
     where
       first : elem (full (t + 1)) (cores (thresholdSets n t)) ≡ true
-      first =
-          minimal-core (thresholdSets n t) sets-word (full (t + 1))
-          (group-core (full (t + 1)) (groups-complete (t + 1) n (full (t + 1)) frame (omega (arith, full-lt (t + 1), pow-mono {i = t + 1} {j = n} (omega (arith, below)))) (size-full (t + 1) (omega (arith, below)))))
+      first = minimal-core (thresholdSets n t) sets-word (full (t + 1)) (group-core (full (t + 1)) (full-group (t + 1) n (omega (arith, below)) frame))
 
       some : 1 ≤ length (cores (thresholdSets n t))
       some = elem-some (full (t + 1)) (cores (thresholdSets n t)) first
