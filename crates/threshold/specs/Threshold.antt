@@ -37,10 +37,10 @@ thresholdTable n t =
 unfoldable pub thresholdList : ℕ → ℕ → Outcome (List ℕ)
 thresholdList n t = andThen (thresholdTable n t) (λ table. result (table .sets))
 
--- what it gives where it refuses nothing (`threshold-by-counts`): the sets are the normal table, and the cores are all
--- groups of t + 1 drives, in their order
+-- its cores (`threshold-cores`): all groups of t + 1 drives, in the order of cores
 unfoldable pub thresholdCores : ℕ → ℕ → List ℕ
 thresholdCores n t = sort coreOrder (groups (t + 1) n)
 
+-- what it gives where it refuses nothing (`threshold-by-counts`): the sets, which are the normal table, and these
 unfoldable pub thresholdComplete : ℕ → ℕ → Complete
 thresholdComplete n t = record { n = n; sets = thresholdSets n t; cores = thresholdCores n t }

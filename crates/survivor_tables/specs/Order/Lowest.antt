@@ -86,14 +86,11 @@ lowest-total x y ne =
 pub full-lowest : (k m : ℕ) → k ≤ 64 → m < 2 ^ 64 → size m ≡ k → byLowest m (full k) ≡ true → ⊥
 full-lowest k m frame word e h =
     let w = lowest-first m (full k) h in
-    let higher : (d : ℕ) → has d (full k) ≡ true → d < w .0 = λ d i. above (w .0) d (w .1) (has-bounds k d (full k) (full-lt k) i .1) in
-    let same = subset-size (full k) m word (has-subset k (full k) m (full-lt k) (λ d i. w .1 .same d (higher d i) ∙ i)) (omega (arith, e, size-full k frame)) in
+    let above : k < w .0 = ltb-true k (w .0) (true-of (ltb k (w .0)) (λ t.
+    clash (full-has (w .0) k frame (has-bounds 64 (w .0) m word (w .1 .holds) .0) (ltb-false k (w .0) t)) (w .1 .lacks))) in
+    let part = has-subset k (full k) m (full-lt k) (λ d i. w .1 .same d (omega (arith, above, has-bounds k d (full k) (full-lt k) i .1)) ∙ i) in
+    let same = subset-size (full k) m word part (omega (arith, e, size-full k frame)) in
     clash (ap (has (w .0)) same ∙ w .1 .holds) (w .1 .lacks)
-  where
-    above : (d e : ℕ) → HoldsLowest m (full k) d → e ≤ k → e < d
-    above d e f le =
-        by-test (ltb e d) (ltb-true e d) (λ t.
-        absurd (clash (full-has d k frame (has-bounds 64 d m word (f .holds) .0) (omega (arith, le, ltb-false e d t))) (f .lacks)))
 
 -- document 02: {1, 4} comes before {2, 3}; by mask it was the other way
 pub one-and-four-first : (bySize 9 6 ≡ true) × (byMask 6 9 ≡ true)
