@@ -144,11 +144,6 @@ pub filter-false : (p : ℕ → Bool) (x : ℕ) (l : List ℕ) → p x ≡ false
 unfolding filter
 filter-false p x l h = cond-false _ _ h
 
-pub filter-append : (p : ℕ → Bool) (l m : List ℕ) → filter p (l ++ m) ≡ filter p l ++ filter p m
-unfolding filter
-filter-append p [] m = refl
-filter-append p (x ∷ l) m = by-test (p x) (λ e. rw e (ap (λ (r : List ℕ). x ∷ r) (filter-append p l m))) (λ e. rw e (filter-append p l m))
-
 -- the first that is kept passes the test
 pub first-kept-passes : (p : ℕ → Bool) (l : List ℕ) → any p l ≡ true → p (getD (filter p l) 0 0) ≡ true
 unfolding any

@@ -1,8 +1,8 @@
 -- The normal form of a list of sets: by mask, without repeats, no set part of another. Each set that it drops holds
 -- one that it keeps. Document 01: the normal table drops repeats and each set that holds another.
 use mathlib.Core.Path.{_≡_, refl, sym, ap, _∙_}
-use mathlib.Core.Bool.{Bool, true, false, not, _&&_, _||_, and-false, and-true}
-use mathlib.Core.List.{List, [], _∷_, _++_}
+use mathlib.Core.Bool.{Bool, true, false, not, _&&_, _||_}
+use mathlib.Core.List.{List, [], _∷_}
 use Prim.Native.Nat.{ℕ, zero, suc, _≤_, _<_, zero-le}
 use native.Mathlib.Omega.{arith}
 use lib.Dec.{eqb, leb}
@@ -10,8 +10,7 @@ use lib.ListN.{length}
 use borrow.Author.Tests.{eqb-true, eqb-false, ne-eqb, leb-true, leb-false, not-true}
 use Rattle.drive_sets.specs.Bools.Laws.{clash, by-test, false-of, true-of, same-test, and-intro, and-left, and-right, or-and-not}
 use Rattle.drive_sets.specs.Lists.{filter, any, elem, distinct, ordered}
-use Rattle.drive_sets.specs.Lists.Laws.{elem-some, some-elem, any-elem, any-intro, elem-filter, filter-append, filter-same, length-filter, ordered-unique}
-use Rattle.drive_sets.specs.Lists.Takes.{filter-filter}
+use Rattle.drive_sets.specs.Lists.Laws.{elem-some, some-elem, any-elem, any-intro, elem-filter, length-filter, ordered-unique}
 use Rattle.drive_sets.specs.Lists.Distinct.{distinct-none, distinct-cons, distinct-filter}
 use Rattle.drive_sets.specs.Masks.{subset, size, Below}
 use Rattle.drive_sets.specs.Masks.Laws.{subset-refl, subset-trans}
@@ -50,27 +49,6 @@ pub length-dropRepeats : (l : List ℕ) → length (dropRepeats l) ≤ length l
 unfolding dropRepeats
 length-dropRepeats [] = zero-le
 length-dropRepeats (s ∷ l) = omega (arith, length-filter (λ t. not (eqb t s)) (dropRepeats l), length-dropRepeats l)
-
-neither : (a b : Bool) → (not b && not a) ≡ not (a || b)
-neither true b = and-false (not b)
-neither false b = and-true (not b)
-
--- one set more at the end stays where it is not there yet
-pub dropRepeats-last : (l : List ℕ) (x : ℕ) → dropRepeats (l ++ (x ∷ [])) ≡ dropRepeats l ++ filter (λ t. not (elem t l)) (x ∷ [])
-unfolding dropRepeats elem any filter
-dropRepeats-last [] x = refl
-dropRepeats-last (s ∷ l) x =
-    ap (λ (r : List ℕ). s ∷ r)
-    (ap (filter other) (dropRepeats-last l x)
-    ∙ (filter-append other (dropRepeats l) (filter new (x ∷ []))
-    ∙ ap (λ (r : List ℕ). filter other (dropRepeats l) ++ r)
-    (filter-filter other new (x ∷ []) ∙ filter-same (λ t. new t && other t) (λ t. not (elem t (s ∷ l))) (x ∷ []) (λ t e. neither (eqb t s) (elem t l)))))
-  where
-    other : ℕ → Bool
-    other t = not (eqb t s)
-
-    new : ℕ → Bool
-    new t = not (elem t l)
 
 -- ---- the sets of which a test does not hold
 
