@@ -9,7 +9,6 @@ use lib.Dec.{leb}
 use lib.ListN.{length, take}
 use borrow.Author.Tests.{le-leb, not-true}
 use Rattle.drive_sets.specs.Bools.Laws.{clash}
-use Rattle.drive_sets.specs.Options.Laws.{by-option}
 use Rattle.drive_sets.specs.Lists.{elem}
 use Rattle.drive_sets.specs.Masks.{full}
 use Rattle.drive_sets.specs.Masks.Laws.{full-word, has-some}
@@ -17,12 +16,13 @@ use Rattle.verdict_search.specs.declared.Named.{Named}
 use Rattle.verdict_search.specs.declared.Verdict.{Verdict as Answer}
 use Rattle.splits.specs.Splits.{fillEmpty}
 use Rattle.verdict_search.specs.Verdicts.{Verdict, yes, no, setsAt, disjoint, blocksOf, verdictOn}
-use Rattle.verdict_search.specs.Verdicts.Firsts.{First, disjoint-first, named-from}
+use Rattle.verdict_search.specs.Verdicts.Firsts.{First, disjoint-first}
 use Rattle.verdict_search.specs.Verdicts.Intersection.{none-yes, some-no, no-counts}
 use Rattle.verdict_search.specs.Verdicts.BlockCounts.{block-count-within}
 use Rattle.verdict_search.specs.Verdicts.CommonPart.{every-lt, in-every}
 use Rattle.verdict_search.specs.Meaning.{inEvery}
 use Rattle.verdict_search.specs.Held.{verdictOf, answerOf, withBlocks, inFour, foundIn}
+use Rattle.verdict_search.proofs.Branches.{share-none}
 use Rattle.verdict_search.proofs.Fours.{length-four, take-four}
 use Rattle.verdict_search.proofs.Loops.{found-none, found-some}
 
@@ -68,11 +68,9 @@ module _ (k n : ℕ) (table : List ℕ) (few : k ≤ 4) where
     -- a drive that every set has is in any sets named
     pub answer-every : (c : ℕ) → c ≡ inEvery m table → (c ≡ 0 → ⊥) → answerOf yes ≡ answerOf (verdictOn k n table)
     answer-every c e ne =
-        by-option (disjoint k 1 table (full n)) (λ h. answer-none h)
-        (λ ps h. let w = first-found ps h .names in
         let d = has-some 64 (inEvery (full n) table) (every-lt 64 (full n) table (full-word n)) (λ z. ne (e ∙ (ap (λ (x : ℕ). inEvery x table) is-full ∙ z))) in
         let all = in-every (d .0) (full n) table (d .1) in
-        absurd (w .share-none (d .0, all .0, λ s i. all .1 s (named-from k 1 table (full n) ps w s i))))
+        answer-none (share-none table k 0 (full n) (full-word n) (λ sets count from. (d .0, all .0, λ s i. all .1 s (from s i))))
 
     module _ (found : Named) (is-found : found ≡ foundIn (disjoint k 1 table m)) where
       search-is : found ≡ foundIn (disjoint k 1 table (full n))

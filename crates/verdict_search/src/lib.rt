@@ -11,15 +11,27 @@ ghost use Rattle.verdict_search.specs.Verdicts.{setsAt, disjoint, blocks
 ghost use Rattle.splits.specs.Splits.{fillEmpty};
 ghost use Rattle.verdict_search.specs.Meaning.{inEvery};
 ghost use Rattle.verdict_search.specs.Held.{verdictOf, noVerdict, answerOf, withBlocks, inFour, foundIn};
+ghost use Rattle.verdict_search.specs.Columns.{columnWords, Columns};
 ghost use Rattle.drive_sets.specs.Limits.{maxSets};
+use crate::columns::COLUMN_WORDS;
+use crate::columns::count_lacking;
+use crate::columns::most_lacking;
+use crate::columns::put_lacking;
+use crate::sharing::all_share;
 use drive_sets::Position;
 use survivor_tables::MAX_SETS;
 use survivor_tables::missed::next_missed;
+
+mod columns;
+mod sharing;
 
 // k, the number of blocks.
 pub const MIN_BLOCKS: u8 = 2;
 
 pub const MAX_BLOCKS: u8 = 4;
+
+// From so many sets on the columns are worth their making.
+const MANY_SETS: usize = 8;
 
 // k, the number of blocks, is 2 to 4.
 pub fn is_block_count(k: u8) -> bool
@@ -83,19 +95,32 @@ fn first_pair(table: &[u64], from: usize, shared: u64) -> Named
     nothing()
 }
 
-// The first k positions from the place `from` on, not falling, whose sets have no drive of `shared` in common. The two
-// innermost loops are that of `first_pair` and the walk that it makes, one `and` and one test a set. Where the common
-// part is empty already, each loop ends at its first set.
-fn disjoint(k: u8, table: &[u64], from: usize, shared: u64) -> Named
-    requires { ⌜ (2 ≤ k) × (length (now table) ≤ maxSets) ⌝ }
+// The first k positions from the place `from` on, not falling, whose sets have no drive of `shared` in common. Where any
+// k of all the sets share one, there are none: where there are columns this is asked first, so that of the sets before
+// each position that is found no pair is tried.
+fn disjoint(
+    k: u8,
+    table: &[u64],
+    columns: &[u64],
+    counts: &[u64; 64],
+    most: u32,
+    from: usize,
+    shared: u64,
+) -> Named
+    requires { ⌜ (2 ≤ k) × (length (now table) ≤ maxSets) × (columnWords ≤ length (now columns) → Columns (now table) (now columns) most shared) ⌝ }
     ensures { λ r. ⌜ r ≡ foundIn (disjoint k (suc from) (drop from (now (table .entry))) shared) ⌝ }
 {
+    if COLUMN_WORDS <= columns.len() {
+        if all_share(k, table, columns, counts, most, shared) {
+            return nothing();
+        }
+    }
     if k == 2 {
         return first_pair(table, from, shared);
     }
     let mut i = from;
     while i < table.len() {
-        let rest = disjoint(k - 1, table, i, shared & table[i]);
+        let rest = disjoint(k - 1, table, columns, counts, most, i, shared & table[i]);
         if rest.any {
             let later = rest.positions;
             return Named {
@@ -106,6 +131,26 @@ fn disjoint(k: u8, table: &[u64], from: usize, shared: u64) -> Named
         i += 1;
     }
     nothing()
+}
+
+// The first k positions, not falling, whose sets have no drive of the frame in common. For two positions, or few sets, the
+// columns would cost more than they save.
+fn first_disjoint(k: u8, table: &[u64], frame: u64) -> Named
+    requires { ⌜ (2 ≤ k) × (length (now table) ≤ maxSets) ⌝ }
+    ensures { λ r. ⌜ r ≡ foundIn (disjoint k 1 (now (table .entry)) frame) ⌝ }
+{
+    if k == 2 {
+        return first_pair(table, 0, frame);
+    }
+    if table.len() < MANY_SETS {
+        let counts = [0u64; 64];
+        return disjoint(k, table, &table[0..0], &counts, 0, 0, frame);
+    }
+    let mut columns = [0u64; COLUMN_WORDS];
+    put_lacking(table, frame, &mut columns);
+    let counts = count_lacking(&columns, frame);
+    let most = most_lacking(table, frame);
+    disjoint(k, table, &columns, &counts, most, 0, frame)
 }
 
 // Block i holds the drives outside the i-th named set and in no earlier block.
@@ -161,7 +206,7 @@ fn verdict_within(k: u8, n: u8, table: &[u64]) -> Verdict
 {
     let frame = drive_sets::full(n);
     if in_every(table, frame) == 0 {
-        let found = disjoint(k, table, 0, frame);
+        let found = first_disjoint(k, table, frame);
         if found.any {
             let positions = found.positions;
             return no_at(k, n, table, positions);
