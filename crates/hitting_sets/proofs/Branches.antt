@@ -3,15 +3,14 @@
 use mathlib.Core.Path.{_≡_, sym, ap, ap₂, _∙_, subst}
 use mathlib.Core.Bool.{true, false, not}
 use mathlib.Core.List.{List, [], _∷_, _++_}
-use Prim.Native.Nat.{ℕ, suc, _+_, _-_, _^_, _<_}
-use native.Mathlib.Nat.{sub-zero}
+use Prim.Native.Nat.{ℕ, suc, _+_, _^_, _<_}
 use native.Mathlib.Numerals.{add-one}
 use lib.ListN.{length, getD, take, drop, take-append-drop}
 use lib.Seq.{take-suc, drop-cons}
 use borrow.Author.Tests.{not-true}
 use Rattle.drive_sets.specs.Bools.Laws.{clash, and-left, and-right}
 use Rattle.drive_sets.specs.Masks.{has, single, union, minus, meets, drives, Below}
-use Rattle.drive_sets.specs.Masks.Laws.{has-none, has-minus}
+use Rattle.drive_sets.specs.Masks.Laws.{has-none, has-minus, meets-not}
 use Rattle.drive_sets.specs.Masks.Sizes.{drives-none}
 use Rattle.survivor_tables.specs.Hitting.{Minimal, forEach, search}
 use Rattle.drive_sets.specs.Masks.Frames.{below-places}
@@ -35,8 +34,8 @@ module _ (sets : List ℕ) (i m : ℕ) (words : (k : ℕ) → getD sets k 0 < 2 
   below-here : Below 64 (take i sets ++ (s ∷ []))
   below-here = below-now (take i sets) s (drop (suc i) sets) (subst (λ (l : List ℕ). Below 64 (take i sets ++ l)) (drop-cons sets i 0 inside) below)
 
-  pub free-candidates : (bar r : ℕ) → bar ≡ forbidden (take (i - 0) sets) m (drives m) → r ≡ minus s bar → Candidates sets i m r
-  free-candidates bar r p q = subst (Candidates sets i m) (sym (q ∙ ap (minus s) (p ∙ ap (λ (k : ℕ). forbidden (take k sets) m (drives m)) (sub-zero i)))) (record {
+  pub free-candidates : (r : ℕ) → r ≡ minus s (forbidden (take i sets) m (drives m)) → Candidates sets i m r
+  free-candidates r q = subst (Candidates sets i m) (sym q) (record {
     listed = ap (λ (l : List ℕ). search (take i sets) l m) (drop-cons sets i 0 inside)
         ∙ (search-free (take i sets) s m below-here min missed (drop (suc i) sets)
         ∙ ap₂ (λ (l k : List ℕ). forEach (search l k) m (drives (minus s (forbidden (take i sets) m (drives m))))) (sym now-is) (ap (λ (k : ℕ). drop k sets) (sym (add-one i))));
@@ -46,6 +45,12 @@ module _ (sets : List ℕ) (i m : ℕ) (words : (k : ℕ) → getD sets k 0 < 2 
         (free-minimal (take i sets) s m below-here min missed d (and-left (has d s) (not (has d (forbidden (take i sets) m (drives m)))) both)
         (not-true (has d (forbidden (take i sets) m (drives m))) (and-right (has d s) (not (has d (forbidden (take i sets) m (drives m)))) both)));
   })
+
+  -- s has them, and misses m
+  pub free-new : (r : ℕ) → r ≡ minus s (forbidden (take i sets) m (drives m)) → (d : ℕ) → has d r ≡ true → has d m ≡ false
+  free-new r q d h =
+      let bar = forbidden (take i sets) m (drives m) in
+      meets-not d s m missed (and-left (has d s) (not (has d bar)) (sym (has-minus d s bar) ∙ (ap (has d) (sym q) ∙ h)))
 
   pub cannot-extend-candidates : cannotExtend sets m ≡ true → Candidates sets i m 0
   unfolding forEach

@@ -3,21 +3,23 @@
 use mathlib.Core.Path.{_≡_, refl, sym, ap, _∙_, subst}
 use mathlib.Core.Bool.{Bool, true, false, _&&_}
 use mathlib.Core.List.{List, [], _∷_, _++_}
-use Prim.Native.Nat.{ℕ, suc, _+_, _^_, _≤_, _<_}
+use Prim.Native.Nat.{ℕ, suc, _+_, _-_, _*_, _^_, _≤_, _<_}
 use native.Mathlib.Nat.{le-refl}
 use native.Mathlib.Omega.{arith}
 use lib.Dec.{leb, ltb}
-use lib.ListN.{length, take, set, length-append}
+use lib.ListN.{length, getD, take, drop, set, length-append}
 use borrow.Author.Tests.{leb-true, ltb-true, leb-false, ltb-false}
 use Rattle.drive_sets.specs.Bools.Laws.{by-test, and-left, and-right, and-not}
-use Rattle.drive_sets.specs.Masks.{has, single, union, drives}
+use Rattle.drive_sets.specs.Masks.{has, single, union, common, minus, drives}
 use Rattle.drive_sets.specs.Masks.Sizes.{drives-none}
 use Rattle.drive_sets.specs.Filled.{Filled}
 use Rattle.drive_sets.specs.Filled.Laws.{filled-none, filled-one, filled-over, filled-then, filled-same}
 use Rattle.survivor_tables.specs.Hitting.{Minimal, forEach}
 use Rattle.hitting_sets.specs.Candidates.{Candidates}
 use Rattle.hitting_sets.specs.Fuel.{Searched}
-use Rattle.drive_sets.specs.Loops.Drives.{Taken, taken-has, taken-drives, taken-lt, taken-left}
+use Rattle.drive_sets.specs.Loops.Drives.{Taken, taken-has, taken-bounds, taken-drives, taken-lt, taken-left}
+use Rattle.hitting_sets.specs.Marks.{Tracked}
+use Rattle.hitting_sets.proofs.Tracking.{tracked-more}
 use Rattle.hitting_sets.proofs.Places.{Met, From, Each, from-end, passed-search}
 
 -- ---- no set is missed: m alone is listed, if there is room
@@ -49,6 +51,7 @@ pub record Trying (limited : Bool) (fuel : ℕ) (sets : List ℕ) (m pos p : ℕ
   pub inside : p ≤ length sets
   pub word : rest < 2 ^ 64
   pub minimal : (d : ℕ) → has d rest ≡ true → Minimal (take p sets) (union m (single d))
+  pub new : (d : ℕ) → has d rest ≡ true → has d m ≡ false
   pub bound : found ≤ suc (length out)
   pub room : length out ≡ length out₀
   pub some : found + length (Each sets p m (drives rest)) ≤ count + length (From sets m pos)
@@ -56,14 +59,15 @@ pub record Trying (limited : Bool) (fuel : ℕ) (sets : List ℕ) (m pos p : ℕ
   pub unspent : limited ≡ false → left ≡ fuel
 
 pub try-start : {limited : Bool} {sets : List ℕ} {m pos i p : ℕ} (out : List ℕ) {count left rest : ℕ} → Met sets pos m i → i < length sets → i + 1 ≡ p → Candidates sets i m rest
-    → rest < 2 ^ 64 → count ≤ length out → Trying limited left sets m pos p out out count count left rest
-try-start {sets = sets} {m = m} {pos = pos} {i = i} out {rest = rest} f few e c w le =
+    → ((d : ℕ) → has d rest ≡ true → has d m ≡ false) → rest < 2 ^ 64 → count ≤ length out → Trying limited left sets m pos p out out count count left rest
+try-start {sets = sets} {m = m} {pos = pos} {i = i} out {rest = rest} f few e c fresh w le =
     let same = passed-search sets m pos i f ∙ (c .listed ∙ ap (λ (k : ℕ). Each sets k m (drives rest)) e) in
     record {
       onward = omega (arith, f .from);
       inside = omega arith;
       word = w;
       minimal = λ d h. subst (λ (k : ℕ). Minimal (take k sets) (union m (single d))) e (c .minimal d h);
+      new = fresh;
       bound = omega arith;
       room = refl;
       some = omega (arith, ap length same);
@@ -77,6 +81,15 @@ module _ {limited : Bool} {fuel : ℕ} {sets : List ℕ} {m pos p : ℕ} {out₀
     pub try-minimal : Minimal (take p sets) t
     try-minimal = subst (Minimal (take p sets)) (sym q) (y .minimal d (taken-has w))
 
+    -- the marks once the drive is added
+    pub try-tracked : m < 2 ^ 64 → {n : ℕ} {columns missed once : List ℕ} → Tracked n columns sets m missed once → (column : List ℕ) → column ≡ drop (16 * (d - 1)) columns
+        → (left alone : List ℕ) → n ≤ length left → n ≤ length alone
+        → ((i : ℕ) → i < n → getD left i 0 ≡ minus (getD missed i 0) (getD column i 0))
+        → ((i : ℕ) → i < n → getD alone i 0 ≡ union (minus (getD once i 0) (getD column i 0)) (common (getD missed i 0) (getD column i 0)))
+        → Tracked n columns sets t left alone
+    try-tracked m-lt k column e left alone room room' l r =
+        let b = taken-bounds w in tracked-more k d (b .0) (b .1) m-lt (y .new d (taken-has w)) column e left alone room room' l r t q
+
     lists : Each sets p m (drives rest) ≡ From sets t p ++ Each sets p m (drives next)
     unfolding forEach
     lists = ap (Each sets p m) (taken-drives w) ∙ ap (λ (x : ℕ). From sets x p ++ Each sets p m (drives next)) (sym q)
@@ -88,6 +101,7 @@ module _ {limited : Bool} {fuel : ℕ} {sets : List ℕ} {m pos p : ℕ} {out₀
       inside = y .inside;
       word = taken-lt w 64 (y .word);
       minimal = λ e h. y .minimal e (taken-left w e h);
+      new = λ e h. y .new e (taken-left w e h);
       bound = omega (arith, s .bound);
       room = l ∙ y .room;
       some = omega (arith, y .some, s .some, ap length lists, length-append (From sets t p) (Each sets p m (drives next)));

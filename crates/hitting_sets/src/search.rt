@@ -3,33 +3,33 @@
 ghost use mathlib.Core.Path.{_≡_};
 ghost use mathlib.Core.Bool.{true, false, not, _&&_};
 ghost use Prim.Native.Nat.{ℕ, _+_, _-_, _≤_, _<_};
-ghost use lib.Dec.{leb, ltb};
+ghost use lib.Dec.{eqb, leb, ltb};
 ghost use lib.ListN.{length, getD, take, drop, set};
 ghost use Rattle.drive_sets.specs.Lists.{filter};
-ghost use Rattle.drive_sets.specs.Masks.{meets, drives};
+ghost use Rattle.drive_sets.specs.Masks.{has, common, minus, meets, size, drives};
 ghost use Rattle.survivor_tables.specs.Hitting.{hits, Minimal, critical, search, minimals};
 ghost use Rattle.hitting_sets.specs.LookAhead.{inAll, privates, forbidden, covered, cannotExtend};
 ghost use Rattle.hitting_sets.specs.Candidates.{Candidates};
 ghost use Rattle.hitting_sets.specs.Fuel.{Searched};
-use drive_sets::Drive;
+ghost use Rattle.hitting_sets.specs.Marks.{Marked, Columns, Tracked};
+use crate::marks::COLUMNS;
+use crate::marks::WORDS;
+use crate::marks::apart;
+use crate::marks::column;
+use crate::marks::fill;
+use crate::marks::next_marked;
+use crate::marks::place;
+use crate::marks::shared_quickly;
+use crate::marks::take_drive;
+use crate::marks::words_for;
 use drive_sets::Position;
 use set_orders::MOST_COUNT;
-use survivor_tables::missed::next_missed;
 
 // ---- what is forbidden
 
 // A set for each drive, at its place.
 struct ByDrive {
     of: [u64; 64],
-}
-
-// The place of drive d.
-fn place(d: Drive) -> usize
-    requires { ⌜ (1 ≤ d .0) × (d .0 ≤ 64) ⌝ }
-    ensures { λ r. ⌜ (r ≡ d .0 - 1) × (r < 64) ⌝ }
-{
-    let n = d.0;
-    (n - 1) as usize
 }
 
 // For each drive, the drives that are in every set that is private to it in m.
@@ -116,17 +116,49 @@ fn cannot_extend(sets: &[u64], seen: usize, m: u64) -> bool
 
 // ---- the search
 
+// The drives of the set at `next`, which m misses, that the sets before it do not forbid: by the marks of the private
+// sets of each drive of m, or by the sets themselves where they are too many to be marked.
+fn allowed(sets: &[u64], columns: &[u64], words: usize, next: usize, m: u64, once: &[u64]) -> u64
+    requires { ⌜ (next < length (now sets)) × (words ≤ 16) × Columns (now columns) (now sets) × Marked words (now once) (now sets) (λ s. eqb (size (common s m)) 1) × (meets (getD (now sets) next 0) m ≡ false) ⌝ }
+    ensures { λ r. ⌜ r ≡ minus (getD (now (sets .entry)) next 0) (forbidden (take next (now (sets .entry))) m (drives m)) ⌝ }
+{
+    let mut c = sets[next];
+    if 64 * words < sets.len() {
+        return drive_sets::minus(c, forbidden(&sets[0..next], m));
+    }
+    let mut far = apart(columns, once[0], next, c);
+    let mut rest = m;
+    while rest != 0 {
+        let d = drive_sets::lowest(rest);
+        let all = shared_quickly(&sets[0..next], column(columns, d), once, far, c);
+        if all != 0 {
+            c = drive_sets::minus(c, all);
+            far = apart(columns, once[0], next, c);
+        }
+        rest = drive_sets::without_lowest(rest);
+    }
+    c
+}
+
 // The drives of the set at `next`, which m misses, with which the search goes on from m, a minimal hitting set of the
 // sets before it: those that these sets do not forbid; none where the look-ahead is asked for and finds that m cannot
 // be extended.
-fn candidates(look_ahead: bool, sets: &[u64], next: usize, m: u64) -> u64
-    requires { ⌜ (next < length (now sets)) × Minimal (take next (now sets)) m × (meets (getD (now sets) next 0) m ≡ false) ⌝ }
-    ensures { λ r. ⌜ Candidates (now (sets .entry)) next m r ⌝ }
+fn candidates(
+    look_ahead: bool,
+    sets: &[u64],
+    columns: &[u64],
+    words: usize,
+    next: usize,
+    m: u64,
+    once: &[u64],
+) -> u64
+    requires { ⌜ (next < length (now sets)) × Minimal (take next (now sets)) m × (meets (getD (now sets) next 0) m ≡ false) × (words ≤ 16) × Columns (now columns) (now sets) × Marked words (now once) (now sets) (λ s. eqb (size (common s m)) 1) ⌝ }
+    ensures { λ r. ⌜ Candidates (now (sets .entry)) next m r × ((d : ℕ) → has d r ≡ true → has d m ≡ false) ⌝ }
 {
     if look_ahead && cannot_extend(sets, next, m) {
         return 0;
     }
-    drive_sets::minus(sets[next], forbidden(&sets[0..next], m))
+    allowed(sets, columns, words, next, m, once)
 }
 
 // How a search goes: with look-ahead or without, and whether it spends fuel.
@@ -191,37 +223,45 @@ fn note(ends: &mut [u64], i: usize, drives: u64) {
 
 // The minimal hitting sets that the search lists from m on, a minimal hitting set of the sets before `pos`, put into
 // `out` behind those found; one more than the room says that there are more. Where no fuel is left some may be missing.
-// A set at which no branch goes on is a dead end, and counted as one. A call goes one drive deeper, so the calls are at
-// most 65 deep.
+// The marks, of n words, are of the sets that m misses and of those that it meets once. A set at which no branch goes
+// on is a dead end, and counted as one. A call goes one drive deeper, so the calls are at most 65 deep.
 fn search_from(
     mode: Mode,
     sets: &[u64],
+    columns: &[u64],
+    n: usize,
     pos: usize,
     m: u64,
+    missed: &[u64],
+    once: &[u64],
     out: &mut [u64],
     tally: Tally,
     ends: &mut [u64],
 ) -> Tally
-    requires { ⌜ (pos ≤ length (now sets)) × (tally .found ≤ length (now out)) × Minimal (take pos (now sets)) m ⌝ }
+    requires { ⌜ (pos ≤ length (now sets)) × (tally .found ≤ length (now out)) × Minimal (take pos (now sets)) m × Tracked n (now columns) (now sets) m (now missed) (now once) ⌝ }
     ensures { λ r. ⌜ Searched (mode .limited) (tally .left) (now (out .entry)) (now (out .exit)) (tally .found) (r .found) (r .left) (search (take pos (now (sets .entry))) (drop pos (now (sets .entry))) m) ⌝ }
 {
     let room = out.len();
-    let missed = next_missed(sets, pos, m);
-    let Position::At(at) = missed else {
+    let first = next_marked(sets, n, missed, pos, m);
+    let Position::At(at) = first else {
         return put(out, m, tally);
     };
     let next = at - 1;
     let look_ahead = mode.look_ahead;
-    let mut rest = candidates(look_ahead, sets, next, m);
+    let mut rest = candidates(look_ahead, sets, columns, n, next, m, once);
     note(ends, next, rest);
-    let mut so_far = spend(mode, tally);
-    while rest != 0 && goes_on(so_far, room) {
+    let mut sum = spend(mode, tally);
+    let mut left = [0u64; WORDS];
+    let mut alone = [0u64; WORDS];
+    while rest != 0 && goes_on(sum, room) {
         let d = drive_sets::lowest(rest);
         let t = drive_sets::insert(m, d);
-        so_far = search_from(mode, sets, at, t, out, so_far, ends);
+        let held = column(columns, d);
+        take_drive(held, n, missed, once, &mut left, &mut alone);
+        sum = search_from(mode, sets, columns, n, at, t, &left, &alone, out, sum, ends);
         rest = drive_sets::without_lowest(rest);
     }
-    so_far
+    sum
 }
 
 // The minimal hitting sets of the sets, each once, in the search's order: into `out`, as long as there is room, and
@@ -233,5 +273,22 @@ pub fn search_all(mode: Mode, sets: &[u64], out: &mut [u64], fuel: usize, ends: 
         found: 0,
         left: fuel,
     };
-    search_from(mode, sets, 0, 0, out, none, ends)
+    let words = words_for(sets.len());
+    let mut columns = [0u64; COLUMNS];
+    fill(&mut columns, sets);
+    let missed = [0xffff_ffff_ffff_ffff; WORDS];
+    let once = [0u64; WORDS];
+    search_from(
+        mode,
+        sets,
+        &columns,
+        words,
+        0,
+        0,
+        &missed,
+        &once,
+        out,
+        none,
+        ends,
+    )
 }

@@ -36,7 +36,7 @@ inAll-has x s (y ∷ sets) h e =
     (λ q. inAll-has x s sets (and-right (has x y) (has x (inAll sets)) both) q)
     (elem-cases s y sets e)
 
-inAll-lacks : (x : ℕ) → 1 ≤ x → x ≤ 64 → (sets : List ℕ) → has x (inAll sets) ≡ false → (s : ℕ) × (elem s sets ≡ true) × (has x s ≡ false)
+pub inAll-lacks : (x : ℕ) → 1 ≤ x → x ≤ 64 → (sets : List ℕ) → has x (inAll sets) ≡ false → (s : ℕ) × (elem s sets ≡ true) × (has x s ≡ false)
 unfolding inAll
 inAll-lacks x low high [] h = absurd (clash (full-has x 64 (le-refl 64) low high) h)
 inAll-lacks x low high (y ∷ sets) h =
