@@ -1,50 +1,48 @@
--- The walk over the entries of a message: the lowest drive of what is left of the mask, with the next bytes.
-use mathlib.Core.Path.{_≡_, sym, ap₂, ap, _∙_, subst}
+-- The walk over the entries of a message: the lowest drive of what is left of the mask, with the next of the bytes that
+-- are left.
+use mathlib.Core.Path.{_≡_, sym, ap, _∙_}
 use mathlib.Core.List.{List, [], _∷_}
-use Prim.Native.Nat.{ℕ, _+_, _*_, _^_, _≤_, _<_}
+use Prim.Native.Nat.{ℕ, _-_, min}
 use native.Mathlib.Omega.{arith}
-use lib.ListN.{drop}
-use lib.Seq.{drop-drop}
-use Rattle.drive_sets.specs.Masks.{size, drives}
-use Rattle.drive_sets.specs.Masks.Sizes.{size-le}
-use Rattle.drive_sets.specs.Loops.Drives.{Taken, taken-fewer, Walk, walk-start, walk-next, walk-turn, walk-end}
-use Rattle.drive_sets.specs.Limits.{patternWidth}
-use Rattle.records.specs.declared.Kind.{Kind}
+use lib.Dec.{leb}
+use lib.ListN.{length, take, drop}
+use borrow.Author.Tests.{leb-true, leb-false}
+use Rattle.drive_sets.specs.Bools.Laws.{by-test}
+use Rattle.drive_sets.specs.Masks.{drives}
+use Rattle.drive_sets.specs.Loops.Drives.{Taken, Walk, walk-next, walk-turn, walk-end}
 use Rattle.records.specs.Fields.{fieldAt}
-use Rattle.records.specs.Marks.{numberWidth}
-use Rattle.records.specs.Marks.Laws.{number-most}
-use Rattle.drive_states.specs.Messages.{Entry, longestMessage, entriesFrom}
+use Rattle.records.proofs.Parts.{rest-is, rest-past}
+use Rattle.drive_states.specs.Messages.{Entry, entriesFrom}
 
--- the entries of the drives of m are left, and their numbers stand from a place on: what f makes of them is the whole
-pub record Entries {A : Type 0} (width : ℕ) (s : List ℕ) (whole : A) (f : List Entry → A) (m place : ℕ) : Type 0 where
-  pub near : place + patternWidth * size m ≤ longestMessage
-  pub walk : Walk whole (λ ds. f (entriesFrom width ds (drop place s))) m
+-- a part of the bytes: those behind the first k, or behind all
+pub behind : (k : ℕ) (s : List ℕ) {j : ℕ} → j ≡ min k (length s) → take (length s - j) (drop j s) ≡ drop k s
+behind k s {j} e =
+    by-test (leb k (length s))
+    (λ t. let most = leb-true k (length s) t in part (omega (arith, most, e)) ∙ rest-is s k)
+    (λ t. let past = leb-false k (length s) t in part (omega (arith, past, e)) ∙ rest-past s k past)
+  where
+    part : {i : ℕ} → j ≡ i → take (length s - j) (drop j s) ≡ take (length s - i) (drop i s)
+    part = ap (λ (i : ℕ). take (length s - i) (drop i s))
 
-module _ {A : Type 0} (kind : Kind) (s : List ℕ) (f : List Entry → A) where
-  abbrev width : ℕ
-  width = numberWidth kind
+module _ {A : Type 0} (width : ℕ) where
+  -- what f makes of the entries that are left is the whole
+  abbrev pub Entries : A → (List Entry → A) → List ℕ → ℕ → Type 0
+  Entries whole f values m = Walk whole (λ ds. f (entriesFrom width ds values)) m
 
-  pub entries-start : (mask : ℕ) → mask < 2 ^ 64 → Entries width s (f (entriesFrom width (drives mask) (drop 12 s))) f mask 12
-  entries-start mask h = record { near = omega (arith, size-le mask); walk = walk-start (λ ds. f (entriesFrom width ds (drop 12 s))) mask h }
-
-  module _ {whole : A} {m place : ℕ} (w : Entries width s whole f m place) where
+  module _ {whole : A} (f : List Entry → A) (values : List ℕ) {m : ℕ} (w : Entries whole f values m) where
     pub entries-end : m ≡ 0 → f [] ≡ whole
     unfolding entriesFrom
-    entries-end z = walk-end (w .walk) z
+    entries-end z = walk-end w z
 
     -- one drive taken
-    module _ {d m' : ℕ} (t : Taken m d m') (v : ℕ) (number : v ≡ fieldAt place width s) where
-      first : f (record { drive = d; number = v } ∷ entriesFrom width (drives m') (drop (place + width) s)) ≡ f (entriesFrom width (d ∷ drives m') (drop place s))
+    module _ {d m' : ℕ} (t : Taken m d m') (v : ℕ) (number : v ≡ fieldAt 0 width values) where
+      first : f (record { drive = d; number = v } ∷ entriesFrom width (drives m') (drop width values)) ≡ f (entriesFrom width (d ∷ drives m') values)
       unfolding entriesFrom
-      first = ap f (ap₂ (λ (n : ℕ) (l : List ℕ). record { drive = d; number = n } ∷ entriesFrom width (drives m') l) number (sym (drop-drop width place s)))
+      first = ap (λ (n : ℕ). f (record { drive = d; number = n } ∷ entriesFrom width (drives m') (drop width values))) number
 
-      pub entries-next : f (record { drive = d; number = v } ∷ entriesFrom width (drives m') (drop (place + width) s)) ≡ whole
-      entries-next = first ∙ walk-next (w .walk) t
+      pub entries-next : f (record { drive = d; number = v } ∷ entriesFrom width (drives m') (drop width values)) ≡ whole
+      entries-next = first ∙ walk-next w t
 
-      pub entries-turn : (g : List Entry → A) → ((rest : List Entry) → f (record { drive = d; number = v } ∷ rest) ≡ g rest) → {bytes : ℕ} → bytes ≡ width
-          → Entries width s whole g m' (place + bytes)
-      entries-turn g e same =
-          subst (λ (b : ℕ). Entries width s whole g m' (place + b)) (sym same) (record {
-            near = omega (arith, taken-fewer t, number-most kind, w .near);
-            walk = walk-turn (w .walk) t (λ ds. g (entriesFrom width ds (drop (place + width) s))) (sym first ∙ e (entriesFrom width (drives m') (drop (place + width) s)));
-          })
+      pub entries-turn : (g : List Entry → A) → ((rest : List Entry) → f (record { drive = d; number = v } ∷ rest) ≡ g rest)
+          → {values' : List ℕ} → values' ≡ drop width values → Entries whole g values' m'
+      entries-turn g e same = rw same (walk-turn w t (λ ds. g (entriesFrom width ds (drop width values))) (sym first ∙ e (entriesFrom width (drives m') (drop width values))))

@@ -1,6 +1,7 @@
 // The entries of a message that tells numbers: each drive of its mask, the lowest first, with the next bytes.
 ghost use mathlib.Core.Path.{_≡_};
-ghost use mathlib.Core.Bool.{not, _&&_};
+ghost use mathlib.Core.Bool.{false, not, _&&_};
+ghost use Prim.Native.Nat.{min};
 ghost use lib.Dec.{eqb};
 ghost use lib.ListN.{drop};
 ghost use Rattle.drive_sets.specs.Masks.{has, drives};
@@ -22,43 +23,49 @@ fn conflicts(d: Drive, known: u64, held: Pattern, v: Pattern) -> bool
     held.0 != v.0
 }
 
-// A number of the entries differs from the one known for its drive.
-pub(crate) fn any_differs(kind: Kind, x: Exchange, mask: u64, s: &[u8]) -> bool
-    ensures { λ r. ⌜ r ≡ anyDiffers x (entriesFrom (numberWidth kind) (drives mask) (drop 12 (now (s .entry)))) ⌝ }
-{
-    let numbers = x.numbers;
-    let width = records::number_width(kind);
-    let mut m = mask;
-    let mut at = 12;
-    while m != 0 {
-        let d = drive_sets::lowest(m);
-        let i = d.0;
-        let v = records::pattern_at(s, at, kind);
-        let held = numbers[(i - 1) as usize];
-        if conflicts(d, x.known, held, v) {
-            return true;
-        }
-        m = drive_sets::remove(m, d);
-        at += width;
-    }
-    false
+// What the entries say: whether a number differs from the one known for its drive, and where none does the pattern
+// numbers with those of the entries.
+pub(crate) struct Told {
+    pub differs: bool,
+    pub numbers: [Pattern; 64],
 }
 
-// The pattern numbers with those of the entries.
-pub(crate) fn stored(kind: Kind, numbers: [Pattern; 64], mask: u64, s: &[u8]) -> [Pattern; 64]
-    ensures { λ r. ⌜ r ≡ stored numbers (entriesFrom (numberWidth kind) (drives mask) (drop 12 (now (s .entry)))) ⌝ }
+// The smaller of two sizes.
+fn at_most(a: usize, b: usize) -> usize
+    ensures { λ r. ⌜ r ≡ min a b ⌝ }
 {
+    if a < b { a } else { b }
+}
+
+// The entries in one walk. It goes by what is left of the bytes, which the compiler makes faster than by a place in them.
+pub(crate) fn read_all(kind: Kind, x: Exchange, mask: u64, s: &[u8]) -> Told
+    ensures compared { λ r. ⌜ r .differs ≡ anyDiffers x (entriesFrom (numberWidth kind) (drives mask) (drop 12 (now (s .entry)))) ⌝ }
+    ensures kept { λ r. ⌜ (r .differs ≡ false → r .numbers ≡ stored (x .numbers) (entriesFrom (numberWidth kind) (drives mask) (drop 12 (now (s .entry))))) ⌝ }
+{
+    let mut numbers = x.numbers;
     let width = records::number_width(kind);
-    let mut stored = numbers;
+    let start = at_most(12, s.len());
+    let mut values = &s[start..];
     let mut m = mask;
-    let mut at = 12;
     while m != 0 {
         let d = drive_sets::lowest(m);
         let i = d.0;
-        let v = records::pattern_at(s, at, kind);
-        stored[(i - 1) as usize] = v;
-        m = drive_sets::remove(m, d);
-        at += width;
+        let place = (i - 1) as usize;
+        let v = records::pattern_at(values, 0, kind);
+        let held = x.numbers[place];
+        if conflicts(d, x.known, held, v) {
+            return Told {
+                differs: true,
+                numbers,
+            };
+        }
+        numbers[place] = v;
+        m = drive_sets::without_lowest(m);
+        let next = at_most(width, values.len());
+        values = &values[next..];
     }
-    stored
+    Told {
+        differs: false,
+        numbers,
+    }
 }

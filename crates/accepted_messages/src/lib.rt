@@ -3,21 +3,20 @@
 ghost use mathlib.Core.Path.{_≡_};
 ghost use Rattle.drive_states.specs.Messages.{entriesIn, senderOf, contentOf, messageOf};
 ghost use Rattle.agreement.specs.Calls.{anyDiffers, lower, announcing, accept};
+ghost use Rattle.drive_sets.specs.Refusals.{refuseIf, result};
+ghost use Rattle.exchange.specs.Replies.{Replied};
+use drive_sets::Answer;
 use drive_sets::Drive;
 use drive_sets::Pattern;
+use drive_sets::Refusal;
 use drive_states::Announcement;
 use drive_states::Exchange;
+use exchange::Reply;
+use exchange::refused;
 use messages::reading;
 use records::Kind;
 
 mod entries;
-
-// 25: a pattern number differs from the one known for that drive.
-pub fn differs(kind: Kind, x: Exchange, s: &[u8]) -> bool
-    ensures { λ r. ⌜ r ≡ anyDiffers x (entriesIn (contentOf kind (now (s .entry)))) ⌝ }
-{
-    entries::any_differs(kind, x, reading::mask_in(kind, s), s)
-}
 
 // The announcement of the lower-numbered sender.
 fn lower(announced: Announcement, d: Drive, v: Pattern) -> Announcement
@@ -48,21 +47,24 @@ fn announcing(announced: Announcement, kind: Kind, s: &[u8]) -> Announcement
     )
 }
 
-// The state after an accepted message: every accepted sender counts as heard, a KN or KW adds its drives' numbers, a DC
-// or DW announces a decision.
-pub fn accept(kind: Kind, x: Exchange, s: &[u8]) -> Exchange
-    ensures { λ r. ⌜ r ≡ accept x (messageOf kind (now (s .entry))) ⌝ }
+// A message that meets no earlier refusal: 25 where a pattern number differs from the one known for its drive. Else
+// every accepted sender counts as heard, a KN or KW adds its drives' numbers, a DC or DW announces a decision.
+pub fn accept(kind: Kind, x: Exchange, s: &[u8]) -> Reply
+    ensures { λ r. ⌜ Replied (refuseIf (anyDiffers x (entriesIn (contentOf kind (now (s .entry))))) Refusal.PatternDiffers (result (accept x (messageOf kind (now (s .entry)))))) x r ⌝ }
 {
+    let mask = reading::mask_in(kind, s);
+    let told = entries::read_all(kind, x, mask, s);
+    if told.differs {
+        return refused(x, Refusal::PatternDiffers);
+    }
     let own = x.own;
     let round = x.round;
-    let held = x.numbers;
+    let numbers = told.numbers;
     let before = x.announced;
     let decision = x.decision;
-    let mask = reading::mask_in(kind, s);
-    let numbers = entries::stored(kind, held, mask, s);
     let heard = drive_sets::insert(x.heard, reading::sender_of(s));
     let announced = announcing(before, kind, s);
-    Exchange {
+    let state = Exchange {
         n: x.n,
         own,
         core: x.core,
@@ -75,5 +77,9 @@ pub fn accept(kind: Kind, x: Exchange, s: &[u8]) -> Exchange
         announced,
         decision,
         halted: x.halted,
+    };
+    Reply {
+        answer: Answer::Accepted,
+        state,
     }
 }

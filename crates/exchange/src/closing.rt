@@ -40,12 +40,12 @@ fn smallest_known(known: u64, numbers: [Pattern; 64]) -> Decision
     let first = drive_sets::lowest(known);
     let low = first.0;
     let mut best = numbers[(low - 1) as usize];
-    let mut m = drive_sets::remove(known, first);
+    let mut m = drive_sets::without_lowest(known);
     while m != 0 {
         let d = drive_sets::lowest(m);
         let i = d.0;
         let v = numbers[(i - 1) as usize];
-        m = drive_sets::remove(m, d);
+        m = drive_sets::without_lowest(m);
         if v.0 < best.0 {
             best = v;
         }

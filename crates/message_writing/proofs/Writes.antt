@@ -1,5 +1,5 @@
 -- The two messages written field by field, each over the part behind what is already there.
-use mathlib.Core.Path.{_≡_, refl, sym, ap, _∙_, subst}
+use mathlib.Core.Path.{_≡_, refl, sym, ap, _∙_}
 use mathlib.Core.List.{List, [], _∷_, _++_, map}
 use Prim.Native.Nat.{ℕ, _+_, _*_, _-_, _/_, _^_, _≤_, _<_}
 use native.Mathlib.Omega.{arith}
@@ -7,9 +7,8 @@ use lib.ListN.{length, take, drop, take-append-drop}
 use borrow.Rule.Slice.PartMut.{putMid}
 use Rattle.drive_sets.specs.Limits.{patternWidth}
 use Rattle.drive_sets.specs.Masks.{single, minus, size, lowest, drives}
-use Rattle.drive_sets.specs.Masks.Laws.{minus-lt}
 use Rattle.drive_sets.specs.Masks.Sizes.{drives-none, length-drives}
-use Rattle.drive_sets.specs.Loops.Drives.{removed, taken-drives}
+use Rattle.drive_sets.specs.Loops.Drives.{Taken, taken, taken-lt, taken-drives}
 use Rattle.records.specs.declared.Kind.the-variants.{WideKnown, WideDecide}
 use Rattle.records.specs.Fields.{toBytes}
 use Rattle.drive_sets.specs.Lent.{written, writtenAt}
@@ -50,11 +49,11 @@ module _ (number : ℕ → ℕ) where
   }
 
   pub telling-turn : {mask : ℕ} {old part : List ℕ} {at m : ℕ} (d m' v : ℕ) (back : List ℕ) → Telling mask old part at m → (m ≡ 0 → ⊥) → d ≡ lowest m → v ≡ number d
-      → back ≡ written (toBytes patternWidth v) (take (length part - at) (drop at part)) → m' ≡ minus m (single d)
+      → back ≡ written (toBytes patternWidth v) (take (length part - at) (drop at part)) → m' ≡ minus m (single (lowest m))
       → Telling mask old (putMid at (length part - at) part back) (at + patternWidth) m'
   unfolding entryBytes
   telling-turn {mask} {old} {part} {at} {m} d m' v back t ne e w f g = record {
-    word = subst (λ (x : ℕ). x < 2 ^ 64) (sym g) (minus-lt 64 m (single d) (t .word));
+    word = taken-lt one 64 (t .word);
     fits = omega (arith, t .fits, less);
     long = ap length is ∙ (length-writtenAt at (toBytes patternWidth v) part ∙ t .long);
     same =
@@ -64,11 +63,14 @@ module _ (number : ℕ → ℕ) where
         ∙ (ap (λ (bytes : List ℕ). writtenAt at bytes part) (sym more) ∙ t .same)));
   }
     where
+      one : Taken m d m'
+      one = taken (t .word) ne e g
+
       rest : List ℕ
       rest = told m'
 
       first : drives m ≡ d ∷ drives m'
-      first = taken-drives (removed (t .word) ne e g)
+      first = taken-drives one
 
       less : size m ≡ 1 + size m'
       less = omega (arith, length-drives m, ap length first, length-drives m')

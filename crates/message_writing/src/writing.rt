@@ -31,7 +31,7 @@ fn put_numbers(part: &mut [u8], mask: u64, numbers: [Pattern; 64])
         let i = d.0;
         let v = numbers[(i - 1) as usize];
         lent_bytes::put_field(&mut part[at..], PATTERN_BYTES, v.0 as u64);
-        m = drive_sets::remove(m, d);
+        m = drive_sets::without_lowest(m);
         at += PATTERN_BYTES;
     }
 }

@@ -8,8 +8,6 @@ ghost use Rattle.drive_states.specs.Messages.{messageOf, checked};
 ghost use Rattle.agreement.specs.Calls.{outsideCore, admitting, receiving};
 ghost use Rattle.exchange.specs.Replies.{Replied};
 use accepted_messages::accept;
-use accepted_messages::differs;
-use drive_sets::Answer;
 use drive_sets::Refusal;
 use drive_states::Exchange;
 use exchange::Reply;
@@ -53,14 +51,7 @@ fn admit(kind: Kind, x: Exchange, s: &[u8]) -> Reply
     if drive_sets::has(sender, x.heard) {
         return refused(x, Refusal::AlreadyAccepted);
     }
-    if differs(kind, x, s) {
-        return refused(x, Refusal::PatternDiffers);
-    }
-    let state = accept(kind, x, s);
-    Reply {
-        answer: Answer::Accepted,
-        state,
-    }
+    accept(kind, x, s)
 }
 
 // A message of this kind, from its sender on: 8, 15, values cut (1), 7, and what follows.

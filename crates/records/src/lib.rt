@@ -183,16 +183,23 @@ pub fn number_width(k: Kind) -> usize
     }
 }
 
-// The pattern number at a place in a record of this kind. The usual width has a call of its own, since a loop over a
-// constant number of bytes is faster.
+// One more than the largest number of two bytes.
+const NARROW_NUMBERS: u32 = 0x1_0000;
+
+// The pattern number at a place in a record of this kind. Four bytes are read in any case, since a loop over a constant
+// number of bytes is faster, and two of them kept where a number has two.
 pub fn pattern_at(s: &[u8], at: usize, k: Kind) -> Pattern
     ensures { λ r. ⌜ r .0 ≡ fieldAt at (numberWidth k) (now (s .entry)) ⌝ }
 {
     let width = number_width(k);
+    let x = field(s, at, PATTERN_BYTES) as u32;
     if width == PATTERN_BYTES {
-        return Pattern(field(s, at, PATTERN_BYTES) as u32);
+        return Pattern(x);
     }
-    Pattern(field(s, at, width) as u32)
+    if width == NARROW_PATTERN_BYTES {
+        return Pattern(x % NARROW_NUMBERS);
+    }
+    Pattern(0)
 }
 
 // What follows the mark where a pattern number does: a drive, or a sender and a round, and the number.

@@ -5,6 +5,7 @@ use mathlib.Core.List.{List}
 use Prim.Native.Nat.{ℕ, suc, _+_, _-_, _≤_, _<_}
 use native.Mathlib.Numerals.{add-one}
 use native.Mathlib.Omega.{arith}
+use borrow.Author.Tests.{ne-eqb}
 use Rattle.drive_sets.specs.Masks.{size}
 use Rattle.drive_states.specs.declared.Exchange.{Exchange}
 use Rattle.drive_states.specs.declared.Decision.{Decision}
@@ -16,10 +17,11 @@ use Rattle.runs.specs.Scenario.{Scenario, coreOf}
 use Rattle.agreement.specs.RoundEndings.{Ending, decides, undecided, stopped}
 use Rattle.agreement.specs.Canonical.{openingCalls, roundCalls, roundsFrom, canonicalRounds, endingOn, firstDecision, canonicalEnding}
 use Rattle.drive_crashes.specs.declared.Crashes.{Crashes}
+use Rattle.drive_crashes.specs.Crashes.{roundAt}
 use Rattle.simulated_decisions.specs.declared.noting.Notes.{Notes}
 use Rattle.simulated_sends.specs.States.{stateAt, worldOf}
 use Rattle.simulated_rounds.specs.Rounds.{Says}
-use Rattle.simulated_decisions.specs.Endings.{foundOf, nothingFound, orLater}
+use Rattle.simulated_decisions.specs.Endings.{endingBy, foundOf, nothingFound, orLater}
 use Rattle.simulated_decisions.proofs.FirstDecisions.{nothing-found}
 use Rattle.simulated_sends.proofs.Worlds.{world-at}
 
@@ -37,6 +39,10 @@ or-on (decides v q) decision r later = refl
 or-on stopped decision r later = refl
 or-on undecided Undecided r later = refl
 or-on undecided (Decided v) r later = refl
+
+or-decided : (round number : ℕ) (later : Ending) → (round ≡ 0 → ⊥) → orLater (endingBy round number) later ≡ endingBy round number
+unfolding orLater endingBy
+or-decided round number later some = rw (ne-eqb round 0 some)
 
 -- ---- the rounds to come
 
@@ -96,6 +102,12 @@ module _ (n core : ℕ) (c : Crashes) (states₀ : List Exchange) where
       let none : 0 ≡ size core - done = omega (arith, h) in
       sym (or-none (foundOf found d))
       ∙ (ap (λ (k : ℕ). orLater (foundOf found d) (given s d k (suc done) (worldOf n states))) none ∙ g .same s t d i)
+
+  -- a drive that has decided ends as it was found
+  pub run-decided : (states : List Exchange) (found : Notes) (done : ℕ) → Running states found done
+      → (s : Scenario) → Says n core c s → (d : ℕ) → isDrive n d ≡ true → (roundAt (found .rounds) d ≡ 0 → ⊥) → foundOf found d ≡ given s d (size core) 1 (worldOf n states₀)
+  unfolding foundOf
+  run-decided states found done g s t d i some = sym (or-decided _ _ _ some) ∙ g .same s t d i
 
 -- all rounds from the opened world are the canonical ones
 pub all-given : (core : ℕ) (s : Scenario) (d : ℕ) → coreOf s ≡ core → (w : World) → w ≡ applyAll nothingOpen (openingCalls s)

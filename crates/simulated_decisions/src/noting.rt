@@ -5,6 +5,7 @@ ghost use Prim.Native.Nat.{ℕ, _≤_};
 ghost use Rattle.drive_sets.specs.Counts.{isDrive};
 ghost use Rattle.agreement.specs.RoundEndings.{undecided};
 ghost use Rattle.agreement.specs.Canonical.{endingOn};
+ghost use Rattle.drive_crashes.specs.Crashes.{roundAt};
 ghost use Rattle.simulated_sends.specs.States.{stateAt};
 ghost use Rattle.simulated_decisions.specs.Endings.{endingBy, foundOf, nothingFound, orLater};
 use drive_sets::Pattern;
@@ -73,4 +74,20 @@ pub(crate) fn note_all(found: Notes, states: [Exchange; 64], n: u8, round: Round
         i += 1;
     }
     Notes { rounds, numbers }
+}
+
+// Each of the drives 1 to n has decided.
+pub(crate) fn all_decided(rounds: [Round; 64], n: u8) -> bool
+    requires { ⌜ n ≤ 64 ⌝ }
+    ensures { λ r. ⌜ (r ≡ true → (d : ℕ) → isDrive n d ≡ true → roundAt rounds d ≡ 0 → ⊥) ⌝ }
+{
+    let mut i = 0u8;
+    while i < n {
+        let round = rounds[i as usize];
+        if round.0 == 0 {
+            return false;
+        }
+        i += 1;
+    }
+    true
 }

@@ -16,7 +16,8 @@ use drive_sets::Pattern;
 use drive_sets::Round;
 use simulated_rounds::rounds;
 
-// The first decisions of the drives 1 to n, where the table has this chosen core.
+// The first decisions of the drives 1 to n, where the table has this chosen core. Where all have decided, the rounds to
+// come change nothing.
 fn run(n: u8, core: u64, numbers: [Pattern; 64], crashes: Crashes) -> Notes
     requires { ⌜ (n ≤ 64) × (core < 2 ^ n) ⌝ }
     ensures { λ r. ⌜ ((s : Scenario) → Told n core numbers crashes s → (d : ℕ) → isDrive n d ≡ true → foundOf r d ≡ canonicalEnding s d) ⌝ }
@@ -29,6 +30,10 @@ fn run(n: u8, core: u64, numbers: [Pattern; 64], crashes: Crashes) -> Notes
         let round = Round(done + 1);
         let next = rounds::one_round(states, n, core, crashes, round);
         let noted = noting::note_all(found, next, n, round);
+        let rounds = noted.rounds;
+        if noting::all_decided(rounds, n) {
+            return noted;
+        }
         states = next;
         found = noted;
         done += 1;

@@ -1,4 +1,4 @@
--- Laws of the code: the world of the array of states, the messages of a sender, and what a send writes.
+-- Laws of the code: the world of the array of states, what is left of a list, and what a send writes.
 pub mod Worlds
-pub mod Deliveries
+pub mod DueLists
 pub mod SentBytes

@@ -21,9 +21,7 @@ use Rattle.drive_states.specs.declared.Exchange.{Exchange}
 use Rattle.drive_states.specs.State.{inCore, broken}
 use Rattle.drive_states.specs.Messages.{messageBytes}
 use Rattle.agreement.specs.Calls.{outgoing, sending}
-use Rattle.runs.specs.World.{delivers, World}
-use Rattle.agreement.specs.Document01.{applyAll}
-use Rattle.runs.specs.World as worlds
+use Rattle.runs.specs.World.{delivers}
 use Rattle.agreement.specs.Canonical.{deliveries}
 
 -- the bytes that a send wrote
@@ -67,19 +65,8 @@ module _ (x : Exchange) (old new : List ℕ) (r : Writing) (sent : Written (send
       none (refused p) h = refl
       none (result bytes) h = absurd (refused-no-result (sym h))
 
--- ---- the calls that a send makes due
-
--- none where it was refused
-pub world-unsent : (w : World) (due : Outcome (List ℕ)) (es : List ℕ) → deliveries due es ≡ [] → w ≡ applyAll w (deliveries due es)
-unfolding worlds.applyAll
-world-unsent w due es e = ap (applyAll w) (sym e)
-
--- the bytes read back from the buffer, to each drive of the list
-pub world-sent : (x : Exchange) (room size : ℕ) (new : List ℕ) → Wrote x room size new
-    → (w w' : World) (es : List ℕ) → w' ≡ applyAll w (map (λ e. delivers e (take (size - 0) new)) es) → w' ≡ applyAll w (deliveries (sending x room 0) es)
+-- the calls that a send makes due: the bytes read back from the buffer, to each drive of the list
+pub wrote-calls : (x : Exchange) (room size : ℕ) (new : List ℕ) → Wrote x room size new → (es : List ℕ)
+    → map (λ e. delivers e (take size new)) es ≡ deliveries (sending x room 0) es
 unfolding deliveries
-world-sent x room size new g w w' es f =
-    let whole : size - 0 ≡ size = omega arith in
-    f
-    ∙ ap (applyAll w) (ap (λ (bytes : List ℕ). map (λ d. delivers d bytes) es) (ap (λ (k : ℕ). take k new) whole ∙ g .read)
-    ∙ ap (λ due. deliveries due es) (sym (g .given)))
+wrote-calls x room size new g es = ap (λ (bytes : List ℕ). map (λ d. delivers d bytes) es) (g .read) ∙ ap (λ due. deliveries due es) (sym (g .given))

@@ -35,7 +35,7 @@ pub(crate) fn check_all(n: u8, core: u64, crashes: Crashes) -> Answer
         match answer {
             Answer::Refused(r) => return Answer::Refused(r),
             Answer::Accepted => {
-                rest = drive_sets::remove(rest, d);
+                rest = drive_sets::without_lowest(rest);
                 last = d;
             }
         }

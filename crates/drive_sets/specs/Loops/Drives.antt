@@ -1,6 +1,5 @@
 -- The drives of a mask gone through from the lowest on, `while m != 0 { let d = lowest(m); .. m = without_lowest(m);
--- }`, or with remove(m, d): what f makes of the drives that are left is the whole. A turn may change f, as where the
--- loop gathers something.
+-- }`: what f makes of the drives that are left is the whole. A turn may change f, as where the loop gathers something.
 use mathlib.Core.Path.{_≡_, refl, sym, ap, ap₂, _∙_, subst}
 use mathlib.Core.Bool.{true}
 use mathlib.Core.List.{List, [], _∷_}
@@ -18,9 +17,6 @@ pub record Taken (m d others : ℕ) : Type 0 where
 
 pub taken : {m d others : ℕ} → m < 2 ^ 64 → (m ≡ 0 → ⊥) → d ≡ lowest m → others ≡ minus m (single (lowest m)) → Taken m d others
 taken h ne p q = record { word = h; some = ne; first = p; left = q }
-
-pub removed : {m d others : ℕ} → m < 2 ^ 64 → (m ≡ 0 → ⊥) → d ≡ lowest m → others ≡ minus m (single d) → Taken m d others
-removed {m} h ne p q = taken h ne p (q ∙ ap (λ (k : ℕ). minus m (single k)) p)
 
 pub lowest-bounds : {m d : ℕ} → m < 2 ^ 64 → (m ≡ 0 → ⊥) → d ≡ lowest m → (1 ≤ d) × (d ≤ 64)
 lowest-bounds {m} h ne p = subst (λ (k : ℕ). (1 ≤ k) × (k ≤ 64)) (sym p) (has-bounds 64 (lowest m) m h (lowest-has m h ne))

@@ -1,35 +1,26 @@
--- A field as wide as the kind says, of at most four bytes.
-use mathlib.Core.Path.{_≡_, sym, ap, _∙_}
-use mathlib.Core.List.{List}
-use Prim.Native.Nat.{ℕ, min}
+-- Four bytes, the lowest two of them, or none.
+use mathlib.Core.Path.{sym, ap, _∙_}
+use Prim.Native.Nat.{ℕ, _%_}
 use native.Mathlib.Omega.{arith}
-use lib.ListN.{take, drop}
-use Rattle.records.specs.declared.Kind.{Kind}
-use Rattle.records.specs.Fields.{fromBytes, fieldAt}
-use Rattle.records.specs.Marks.{numberWidth}
-use Rattle.records.specs.Marks.Laws.{number-most, number-lt}
+use lib.ListN.{drop}
+use Rattle.records.specs.Fields.{fieldAt, fromBytes}
+use Rattle.records.specs.Fields.Laws.{bytes-drop, field-lt, low-two}
+use Rattle.records.specs.Marks.Laws.{number-narrow}
 use borrow.Author.Needs.{needs}
 use Rattle.records.proofs.pattern_at.Statement.{statement}
 use Rattle.records.proofs.pattern_at.Tie as tie
 
--- no kind's numbers are wider than a field can be read
-whole : (k : Kind) (at width x : ℕ) (s : List ℕ) → width ≡ numberWidth k → x ≡ fromBytes (take (min 8 width) (drop at s)) → x ≡ fieldAt at (numberWidth k) s
-whole k at width x s e f =
-    let same : min 8 width ≡ numberWidth k = omega (arith, number-most k) in
-    f ∙ ap (λ (w : ℕ). fromBytes (take w (drop at s))) same
-
-usual : tie.Need-returns
-usual c = let a = c .before .before .before .before .args in whole (a .k) (a .at) _ _ (a .s .now) (sym (c .before .if1 .taken) ∙ c .before .before .number-width .ensures) (c .field .ensures)
-
-other : tie.Need-returns-2
-other c = let a = c .before .before .before .before .args in whole (a .k) (a .at) _ _ (a .s .now) (c .before .before .number-width .ensures) (c .field2 .ensures)
-
 pub pattern-at-spec : {M : Type 1} → statement M
+unfolding fromBytes
 pattern-at-spec =
     tie.close
     (tie.spec
     (λ c κs. search needs) (λ c κs. search needs)
-    (λ c. let a = c .before .before .before .before .args in omega (arith, usual c, number-lt (a .k) (a .at) (a .s .now) (λ i. c .before .before .before .shared-slice-known .given i .fits)))
-    usual (λ c κs. search needs)
-    (λ c. let a = c .before .before .before .before .args in omega (arith, other c, number-lt (a .k) (a .at) (a .s .now) (λ i. c .before .before .before .shared-slice-known .given i .fits)))
-    other)
+    (λ c. let a = c .before .before .before .args in omega (arith, c .field .ensures, field-lt (a .at) 4 4 (a .s .now) (omega arith) (λ i. c .before .before .shared-slice-known .given i .fits)))
+    (λ c. let a = c .before .before .before .before .args in c .before .field .ensures ∙ ap (λ (w : ℕ). fieldAt (a .at) w (a .s .now)) (sym (c .if1 .taken) ∙ c .before .before .number-width .ensures))
+    (λ c. let a = c .before .before .before .before .before .args in
+    ap (λ (x : ℕ). x % 65536) (c .before .before .field .ensures)
+    ∙ (sym (low-two (drop (a .at) (a .s .now)) (bytes-drop (a .at) (a .s .now) (λ i. c .before .before .before .before .shared-slice-known .given i .fits)))
+    ∙ ap (λ (w : ℕ). fieldAt (a .at) w (a .s .now)) (sym (c .if2 .taken) ∙ c .before .before .before .number-width .ensures)))
+    (λ c. let a = c .before .before .before .before .before .args in let width = c .before .before .before .number-width .ensures in
+    sym (ap (λ (w : ℕ). fieldAt (a .at) w (a .s .now)) (number-narrow (a .k) (λ e. c .before .if1 .left (width ∙ e)) (λ e. c .if2 .left (width ∙ e))))))

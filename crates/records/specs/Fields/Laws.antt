@@ -72,3 +72,12 @@ bytes-drop k s h i = subst (λ (x : ℕ). x < 256) (sym (getD-drop k s i 0)) (h 
 pub field-lt : (place width most : ℕ) (s : List ℕ) → width ≤ most → Bytes s → fieldAt place width s < 256 ^ most
 field-lt place width most s h bytes =
     fromBytes-lt most (take width (drop place s)) (omega (arith, length-take width (drop place s))) (bytes-take width (drop place s) (bytes-drop place s bytes))
+
+-- two bytes are the lowest two of four
+pub low-two : (s : List ℕ) → Bytes s → fromBytes (take 2 s) ≡ fromBytes (take 4 s) % 65536
+unfolding fromBytes
+low-two [] h = refl
+low-two (a ∷ []) h = omega (arith, h 0)
+low-two (a ∷ b ∷ []) h = omega (arith, h 0, h 1)
+low-two (a ∷ b ∷ c ∷ []) h = omega (arith, h 0, h 1)
+low-two (a ∷ b ∷ c ∷ d ∷ s) h = omega (arith, h 0, h 1)

@@ -11,7 +11,7 @@ use lib.Dec.{ltb}
 use borrow.Author.Tests.{le-ltb, ltb-false, eqb-true, not-false}
 use Rattle.drive_sets.specs.Bools.Laws.{by-test, cond-true, cond-false}
 use Rattle.drive_sets.specs.declared.Refusal.{Refusal}
-use Rattle.drive_sets.specs.Limits.{patternWidth, patternLimit}
+use Rattle.drive_sets.specs.Limits.{narrowWidth, patternWidth, patternLimit}
 use Rattle.records.specs.declared.Due.{Due}
 use Rattle.records.specs.declared.Kind.{Kind}
 use Rattle.records.specs.declared.Kind.the-variants.{Frame, Survivor, Fault, Proposal, Crash, End, Known, Decide, WideProposal, WideKnown, WideDecide, Unknown}
@@ -64,6 +64,22 @@ number-most WideProposal = omega arith
 number-most WideKnown = omega arith
 number-most WideDecide = omega arith
 number-most Unknown = omega arith
+
+-- a number takes two bytes where it takes some and not four
+pub number-narrow : (k : Kind) → (numberWidth k ≡ patternWidth → ⊥) → (numberWidth k ≡ narrowWidth → ⊥) → numberWidth k ≡ 0
+unfolding numberWidth
+number-narrow Frame wide narrow = refl
+number-narrow Survivor wide narrow = refl
+number-narrow Fault wide narrow = refl
+number-narrow Proposal wide narrow = absurd (narrow refl)
+number-narrow Crash wide narrow = refl
+number-narrow End wide narrow = refl
+number-narrow Known wide narrow = absurd (narrow refl)
+number-narrow Decide wide narrow = absurd (narrow refl)
+number-narrow WideProposal wide narrow = absurd (wide refl)
+number-narrow WideKnown wide narrow = absurd (wide refl)
+number-narrow WideDecide wide narrow = absurd (wide refl)
+number-narrow Unknown wide narrow = refl
 
 -- a number that is read from bytes is a pattern number
 pub number-lt : (k : Kind) (place : ℕ) (s : List ℕ) → Bytes s → fieldAt place (numberWidth k) s < patternLimit

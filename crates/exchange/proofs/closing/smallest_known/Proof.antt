@@ -3,7 +3,7 @@ use native.Mathlib.Omega.{arith}
 use Rattle.drive_sets.specs.Lists.{smallest}
 use Rattle.drive_sets.specs.Masks.{size}
 use Rattle.drive_sets.specs.Masks.Sizes.{drives-none}
-use Rattle.drive_sets.specs.Loops.Drives.{removed, taken-fewer, lowest-bounds}
+use Rattle.drive_sets.specs.Loops.Drives.{taken, taken-fewer, lowest-bounds}
 use Rattle.drive_states.specs.State.{numberIn}
 use Rattle.agreement.specs.Calls.{decisionOn}
 use Rattle.exchange.proofs.Least.{Least, least-start, least-turn, least-end}
@@ -31,14 +31,14 @@ smallest-known-spec =
     (λ c. search needs) (λ c. search needs)
     (λ c. let b = lowest-bounds (c .before .before .fits .known .fits) (c .before .if1 .left) (c .lowest .ensures) in omega (arith, b .0, b .1))
     (λ c κs. search needs)
-    (λ c. let s = c .before .before .before .before in least-start (numberIn (s .args .t2)) (removed (s .fits .known .fits) (c .before .before .before .if1 .left) (c .before .before .lowest .ensures) (c .remove .ensures)))
+    (λ c. let s = c .before .before .before .before in least-start (numberIn (s .args .t2)) (taken (s .fits .known .fits) (c .before .before .before .if1 .left) (c .before .before .lowest .ensures) (c .without-lowest .ensures)))
     (λ c κs. search needs)
     (λ c. let b = lowest-bounds (c .before .before .loop .inv .word) (c .before .loop-test .taken) (c .lowest2 .ensures) in omega (arith, b .0, b .1))
     (λ c. search needs) (λ c. search needs)
     (λ c. let b = lowest-bounds (c .before .before .loop .inv .word) (c .before .loop-test .taken) (c .lowest2 .ensures) in omega (arith, b .0, b .1))
     (λ c κs. search needs)
-    (λ c. taken-fewer (removed (c .before .before .before .before .before .before .before .loop .inv .word) (c .before .before .before .before .before .before .loop-test .taken) (c .before .before .before .before .before .lowest2 .ensures) (c .before .before .before .remove2 .ensures)))
-    (λ c. let l = c .before .before .before .before .before .before .before .loop in let a = c .before .before .before .before .before .before .before .before .before .before .before .before .args in least-turn (numberIn (a .t2)) (a .known) (l .best .0) (l .m) _ (l .inv) (removed (l .inv .word) (c .before .before .before .before .before .before .loop-test .taken) (c .before .before .before .before .before .lowest2 .ensures) (c .before .before .before .remove2 .ensures)) (omega arith))
-    (λ c. taken-fewer (removed (c .before .before .before .before .before .before .before .loop .inv .word) (c .before .before .before .before .before .before .loop-test .taken) (c .before .before .before .before .before .lowest2 .ensures) (c .before .before .before .remove2 .ensures)))
-    (λ c. let l = c .before .before .before .before .before .before .before .loop in let a = c .before .before .before .before .before .before .before .before .before .before .before .before .args in least-turn (numberIn (a .t2)) (a .known) (l .best .0) (l .m) _ (l .inv) (removed (l .inv .word) (c .before .before .before .before .before .before .loop-test .taken) (c .before .before .before .before .before .lowest2 .ensures) (c .before .before .before .remove2 .ensures)) (omega arith))
+    (λ c. taken-fewer (taken (c .before .before .before .before .before .before .before .loop .inv .word) (c .before .before .before .before .before .before .loop-test .taken) (c .before .before .before .before .before .lowest2 .ensures) (c .before .before .before .without-lowest2 .ensures)))
+    (λ c. let l = c .before .before .before .before .before .before .before .loop in let a = c .before .before .before .before .before .before .before .before .before .before .before .before .args in least-turn (numberIn (a .t2)) (a .known) (l .best .0) (l .m) _ (l .inv) (taken (l .inv .word) (c .before .before .before .before .before .before .loop-test .taken) (c .before .before .before .before .before .lowest2 .ensures) (c .before .before .before .without-lowest2 .ensures)) (omega arith))
+    (λ c. taken-fewer (taken (c .before .before .before .before .before .before .before .loop .inv .word) (c .before .before .before .before .before .before .loop-test .taken) (c .before .before .before .before .before .lowest2 .ensures) (c .before .before .before .without-lowest2 .ensures)))
+    (λ c. let l = c .before .before .before .before .before .before .before .loop in let a = c .before .before .before .before .before .before .before .before .before .before .before .before .args in least-turn (numberIn (a .t2)) (a .known) (l .best .0) (l .m) _ (l .inv) (taken (l .inv .word) (c .before .before .before .before .before .before .loop-test .taken) (c .before .before .before .before .before .lowest2 .ensures) (c .before .before .before .without-lowest2 .ensures)) (omega arith))
     (λ c. let l = c .before .loop in let a = c .before .before .before .before .before .before .args in least-end (numberIn (a .t2)) (a .known) (l .best .0) (l .m) (l .inv) (c .loop-test .left)))

@@ -2,7 +2,7 @@
 use mathlib.Core.Path.{refl}
 use native.Mathlib.Omega.{arith}
 use Rattle.drive_sets.specs.Masks.{size}
-use Rattle.drive_sets.specs.Loops.Drives.{removed, taken-fewer, lowest-bounds}
+use Rattle.drive_sets.specs.Loops.Drives.{taken, taken-fewer, lowest-bounds}
 use Rattle.drive_states.specs.State.{numberIn}
 use Rattle.message_writing.proofs.Writes.{Telling, numbers-none, telling-start, telling-turn, telling-end}
 use borrow.Author.Needs.{needs}
@@ -28,7 +28,7 @@ put-numbers-spec =
     (λ c. search needs) (λ c. search needs)
     (λ c. let b = lowest-bounds (c .before .before .loop .inv .word) (c .before .loop-test .taken) (c .lowest .ensures) in omega (arith, b .0, b .1))
     (λ c. search needs) (λ c. search needs) (λ c. search needs) (λ c. search needs) (λ c κs. search needs) (λ c κs. search needs) (λ c. search needs)
-    (λ c. taken-fewer (removed (c .before .before .before .before .before .before .before .before .before .loop .inv .word) (c .before .before .before .before .before .before .before .before .loop-test .taken) (c .before .before .before .before .before .before .before .lowest .ensures) (c .remove .ensures)))
-    (λ c. telling-turn (numberIn (c .before .before .before .before .before .before .before .before .before .before .before .before .before .args .t3)) _ _ _ _ (c .before .before .before .before .before .before .before .before .before .loop .inv) (c .before .before .before .before .before .before .before .before .loop-test .taken) (c .before .before .before .before .before .before .before .lowest .ensures) refl (c .before .before .before .put-field .ensures) (c .remove .ensures))
+    (λ c. taken-fewer (taken (c .before .before .before .before .before .before .before .before .before .loop .inv .word) (c .before .before .before .before .before .before .before .before .loop-test .taken) (c .before .before .before .before .before .before .before .lowest .ensures) (c .without-lowest .ensures)))
+    (λ c. telling-turn (numberIn (c .before .before .before .before .before .before .before .before .before .before .before .before .before .args .t3)) _ _ _ _ (c .before .before .before .before .before .before .before .before .before .loop .inv) (c .before .before .before .before .before .before .before .before .loop-test .taken) (c .before .before .before .before .before .before .before .lowest .ensures) refl (c .before .before .before .put-field .ensures) (c .without-lowest .ensures))
     (λ c. c .before .loop .inv .long)
     (λ c. telling-end (numberIn (c .before .before .before .before .before .args .t3)) (c .before .loop .inv) (c .loop-test .left)))

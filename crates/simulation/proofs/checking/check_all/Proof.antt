@@ -1,7 +1,7 @@
 -- The drives with a CR, from the lowest.
 use mathlib.Core.Path.{refl}
 use Rattle.drive_sets.specs.Masks.{size}
-use Rattle.drive_sets.specs.Loops.Drives.{removed, taken-fewer, lowest-bounds, walk-start, walk-next, walk-turn, walk-end}
+use Rattle.drive_sets.specs.Loops.Drives.{taken, taken-fewer, lowest-bounds, walk-start, walk-next, walk-turn, walk-end}
 use Rattle.drive_crashes.specs.Crashes.{crashOfDrive, crashesIn}
 use Rattle.simulation.specs.Simulation.{checkedCrashes}
 use Rattle.simulation.proofs.CrashChecks.{checkedFrom, Checking}
@@ -26,8 +26,8 @@ check-all-spec =
     (tie.spec
     Inv-loop μ-loop loop-holds (λ c κs. search needs)
     (λ c κs. lowest-bounds (c .before .before .loop .inv .word) (c .before .loop-test .taken) (c .lowest .ensures)) (λ c. search needs)
-    (λ c. let l = c .before .before .before .before .before .before .loop in rw (← c .before .before .before .check-one .ensures, c .before .answer .given .1) at (walk-next (l .inv) (removed (l .inv .word) (c .before .before .before .before .before .loop-test .taken) (c .before .before .before .before .lowest .ensures) refl)))
+    (λ c. let l = c .before .before .before .before .before .before .loop in rw (← c .before .before .before .check-one .ensures, c .before .answer .given .1) at (walk-next (l .inv) (taken (l .inv .word) (c .before .before .before .before .before .loop-test .taken) (c .before .before .before .before .lowest .ensures) refl)))
     (λ c. search needs) (λ c κs. search needs)
-    (λ c. taken-fewer (removed (c .before .before .before .before .before .before .loop .inv .word) (c .before .before .before .before .before .loop-test .taken) (c .before .before .before .before .lowest .ensures) (c .remove .ensures)))
-    (λ c. let a = c .before .before .before .before .before .before .before .args in let l = c .before .before .before .before .before .before .loop in walk-turn (l .inv) (removed (l .inv .word) (c .before .before .before .before .before .loop-test .taken) (c .before .before .before .before .lowest .ensures) (c .remove .ensures)) (checkedFrom (a .n) (a .core) (a .crashes) _) (rw (← c .before .before .before .check-one .ensures, c .before .enum-told .given .1)))
+    (λ c. taken-fewer (taken (c .before .before .before .before .before .before .loop .inv .word) (c .before .before .before .before .before .loop-test .taken) (c .before .before .before .before .lowest .ensures) (c .without-lowest .ensures)))
+    (λ c. let a = c .before .before .before .before .before .before .before .args in let l = c .before .before .before .before .before .before .loop in walk-turn (l .inv) (taken (l .inv .word) (c .before .before .before .before .before .loop-test .taken) (c .before .before .before .before .lowest .ensures) (c .without-lowest .ensures)) (checkedFrom (a .n) (a .core) (a .crashes) _) (rw (← c .before .before .before .check-one .ensures, c .before .enum-told .given .1)))
     (λ c. walk-end (c .before .loop .inv) (c .loop-test .left)))
