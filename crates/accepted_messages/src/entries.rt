@@ -37,7 +37,7 @@ fn at_most(a: usize, b: usize) -> usize
     if a < b { a } else { b }
 }
 
-// The entries in one walk. It goes by what is left of the bytes, which the compiler makes faster than by a place in them.
+// The entries in one walk, by what is left of the bytes: by a place in them the compiled loop is slower.
 pub(crate) fn read_all(kind: Kind, x: Exchange, mask: u64, s: &[u8]) -> Told
     ensures compared { λ r. ⌜ r .differs ≡ anyDiffers x (entriesFrom (numberWidth kind) (drives mask) (drop 12 (now (s .entry)))) ⌝ }
     ensures kept { λ r. ⌜ (r .differs ≡ false → r .numbers ≡ stored (x .numbers) (entriesFrom (numberWidth kind) (drives mask) (drop 12 (now (s .entry))))) ⌝ }

@@ -221,16 +221,17 @@ fn note(ends: &mut [u64], i: usize, drives: u64) {
     }
 }
 
-// The minimal hitting sets that the search lists from m on, a minimal hitting set of the sets before `pos`, put into
-// `out` behind those found; one more than the room says that there are more. Where no fuel is left some may be missing.
-// The marks, of n words, are of the sets that m misses and of those that it meets once. A set at which no branch goes
-// on is a dead end, and counted as one. A call goes one drive deeper, so the calls are at most 65 deep.
+// The minimal hitting sets that the search lists from m on, a minimal hitting set of the sets before `next` that misses
+// that one, put into `out` behind those found; one more than the room says that there are more. Where no fuel is left
+// some may be missing. The marks, of n words, are of the sets that m misses and of those that it meets once. A set at
+// which no branch goes on is a dead end, and counted as one. A call goes one drive deeper, so the calls are at most 65
+// deep; where no set is missed there is no call.
 fn search_from(
     mode: Mode,
     sets: &[u64],
     columns: &[u64],
     n: usize,
-    pos: usize,
+    next: usize,
     m: u64,
     missed: &[u64],
     once: &[u64],
@@ -238,15 +239,11 @@ fn search_from(
     tally: Tally,
     ends: &mut [u64],
 ) -> Tally
-    requires { ⌜ (pos ≤ length (now sets)) × (tally .found ≤ length (now out)) × Minimal (take pos (now sets)) m × Tracked n (now columns) (now sets) m (now missed) (now once) ⌝ }
-    ensures { λ r. ⌜ Searched (mode .limited) (tally .left) (now (out .entry)) (now (out .exit)) (tally .found) (r .found) (r .left) (search (take pos (now (sets .entry))) (drop pos (now (sets .entry))) m) ⌝ }
+    requires { ⌜ (next < length (now sets)) × (meets (getD (now sets) next 0) m ≡ false) × (tally .found ≤ length (now out)) × Minimal (take next (now sets)) m × Tracked n (now columns) (now sets) m (now missed) (now once) ⌝ }
+    ensures { λ r. ⌜ Searched (mode .limited) (tally .left) (now (out .entry)) (now (out .exit)) (tally .found) (r .found) (r .left) (search (take next (now (sets .entry))) (drop next (now (sets .entry))) m) ⌝ }
 {
     let room = out.len();
-    let first = next_marked(sets, n, missed, pos, m);
-    let Position::At(at) = first else {
-        return put(out, m, tally);
-    };
-    let next = at - 1;
+    let after = next + 1;
     let look_ahead = mode.look_ahead;
     let mut rest = candidates(look_ahead, sets, columns, n, next, m, once);
     note(ends, next, rest);
@@ -258,7 +255,14 @@ fn search_from(
         let t = drive_sets::insert(m, d);
         let held = column(columns, d);
         take_drive(held, n, missed, once, &mut left, &mut alone);
-        sum = search_from(mode, sets, columns, n, at, t, &left, &alone, out, sum, ends);
+        let first = next_marked(sets, n, &left, after, t);
+        match first {
+            Position::None => sum = put(out, t, sum),
+            Position::At(at) => {
+                let i = at - 1;
+                sum = search_from(mode, sets, columns, n, i, t, &left, &alone, out, sum, ends);
+            }
+        }
         rest = drive_sets::without_lowest(rest);
     }
     sum
@@ -278,12 +282,17 @@ pub fn search_all(mode: Mode, sets: &[u64], out: &mut [u64], fuel: usize, ends: 
     fill(&mut columns, sets);
     let missed = [0xffff_ffff_ffff_ffff; WORDS];
     let once = [0u64; WORDS];
+    let first = next_marked(sets, words, &missed, 0, 0);
+    let Position::At(at) = first else {
+        return put(out, 0, none);
+    };
+    let i = at - 1;
     search_from(
         mode,
         sets,
         &columns,
         words,
-        0,
+        i,
         0,
         &missed,
         &once,

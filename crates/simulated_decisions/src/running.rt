@@ -1,4 +1,4 @@
-// A whole exchange: the openings, then the rounds 1 to the core's size.
+// A whole exchange: the openings, then round after round, up to the core's size.
 ghost use mathlib.Core.Path.{_≡_};
 ghost use mathlib.Core.Bool.{true};
 ghost use Prim.Native.Nat.{ℕ, _^_, _≤_, _<_};

@@ -38,8 +38,8 @@ fn is_sender(x: Exchange, core: u64, crashes: Crashes, d: Drive, round: Round) -
     !crashes::gone_before(crashes, d, round)
 }
 
-// The message of a drive in the buffer, and to whom it goes, where x is its state when the round begins; to nobody where
-// the drive is no sender.
+// The message of a drive in the buffer, and to whom it goes, where x is its state when the round begins; to nobody
+// where the drive is no sender.
 fn sent_by(
     x: Exchange,
     n: u8,

@@ -1,23 +1,20 @@
 -- The first drive of what is left of a sender's list, and the others.
-use mathlib.Core.Path.{_≡_, refl, sym, ap, ap₂, _∙_}
+use mathlib.Core.Path.{_≡_, sym, ap, ap₂, _∙_}
 use mathlib.Core.List.{List, [], _∷_, _++_}
-use Prim.Native.Nat.{ℕ, zero, suc, _-_, _^_, _<_}
+use Prim.Native.Nat.{ℕ, suc, _-_, _^_, _<_}
 use native.Mathlib.Omega.{arith}
 use lib.Dec.{eqb}
 use lib.ListN.{take, drop}
+use lib.Seq.{take-nil}
 use borrow.Author.Tests.{eqb-true, eqb-false}
 use Rattle.drive_sets.specs.Bools.Laws.{by-test}
 use Rattle.drive_sets.specs.Masks.{single, minus, lowest, drives}
 use Rattle.drive_sets.specs.Masks.Laws.{minus-lt}
 use Rattle.drive_sets.specs.Masks.Sizes.{drives-lowest, drives-none}
 
-take-none : (k : ℕ) → take {A = ℕ} k [] ≡ []
-take-none zero = refl
-take-none (suc k) = refl
-
 -- both masks are empty
 pub due-none : (k : ℕ) → take k (drives 0 ++ drives 0) ≡ []
-due-none k = ap (λ (l : List ℕ). take k (l ++ l)) drives-none ∙ take-none k
+due-none k = ap (λ (l : List ℕ). take k (l ++ l)) drives-none ∙ take-nil k
 
 module _ {k m : ℕ} (more : k ≡ 0 → ⊥) (word : m < 2 ^ 64) (some : m ≡ 0 → ⊥) where
   one : k ≡ suc (k - 1)

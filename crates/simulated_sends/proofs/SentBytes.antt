@@ -1,4 +1,4 @@
--- What a send into a buffer with room for every message leaves there: its bytes, or nothing where it is refused.
+-- What a send leaves in a buffer: its bytes, or nothing where it is refused.
 use mathlib.Core.Path.{_≡_, refl, sym, ap, _∙_}
 use mathlib.Core.List.{List, [], map}
 use Prim.Native.Nat.{ℕ, _+_, _-_, _≤_}

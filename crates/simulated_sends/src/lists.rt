@@ -21,7 +21,7 @@ pub struct Due {
 }
 
 // Nobody.
-pub fn nobody() -> Due
+fn nobody() -> Due
     ensures { λ r. ⌜ dueOf r ≡ [] ⌝ }
 {
     Due {

@@ -1,5 +1,5 @@
--- When any k sets of a table, repeats allowed, share a drive of m: they lack too few drives of it together; or, for some
--- drive of m, any k - 1 share one of what each set without it has. Where they share one, the search finds none.
+-- When any k sets of a table, repeats allowed, share a drive of m: they lack too few drives of it together; or, for
+-- some drive of m, any k - 1 share one of what each set without it has. Where they share one, the search finds none.
 use mathlib.Core.Path.{_≡_, sym, ap, _∙_, subst}
 use mathlib.Core.Bool.{true, false, not}
 use mathlib.Core.List.{List, [], _∷_, map}

@@ -1,5 +1,5 @@
--- The loops of the search, of the blocks and of the drives in every set, lists in arrays of four, the columns, when any k
--- sets share a drive, and the answers.
+-- The loops of the search, of the blocks and of the drives in every set, lists in arrays of four, the columns, when any
+-- k sets share a drive, and the answers.
 pub mod Fours
 pub mod Loops
 pub mod Splitting

@@ -95,9 +95,9 @@ fn first_pair(table: &[u64], from: usize, shared: u64) -> Named
     nothing()
 }
 
-// The first k positions from the place `from` on, not falling, whose sets have no drive of `shared` in common. Where any
-// k of all the sets share one, there are none: where there are columns this is asked first, so that of the sets before
-// each position that is found no pair is tried.
+// The first k positions from the place `from` on, not falling, whose sets have no drive of `shared` in common. Where
+// any k of all the sets share one, there are none: where there are columns this is asked first, so that of the sets
+// before each position that is found no pair is tried.
 fn disjoint(
     k: u8,
     table: &[u64],
@@ -133,8 +133,8 @@ fn disjoint(
     nothing()
 }
 
-// The first k positions, not falling, whose sets have no drive of the frame in common. For two positions, or few sets, the
-// columns would cost more than they save.
+// The first k positions, not falling, whose sets have no drive of the frame in common. For two positions, or few sets,
+// the columns would cost more than they save: few sets are searched with none.
 fn first_disjoint(k: u8, table: &[u64], frame: u64) -> Named
     requires { ⌜ (2 ≤ k) × (length (now table) ≤ maxSets) ⌝ }
     ensures { λ r. ⌜ r ≡ foundIn (disjoint k 1 (now (table .entry)) frame) ⌝ }
