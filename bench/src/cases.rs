@@ -1,6 +1,7 @@
-//! The calls that are timed: each by the library and by the baseline, on the same input.
+//! The calls that are timed: each by the library and by both baselines, on the same input. The baselines differ in what a
+//! table needs; the calls of one drive, an exchange but for its table and the table from n and t are the same in both.
 
-use crate::baseline::{exchange, runs, tables, verdicts, Answer};
+use crate::baseline::{exchange, runs, tables, verdicts, Answer, Method, Plain, Tuned};
 use crate::inputs::{self, Input, Start, OWN_NUMBER};
 use crate::library;
 use std::hint::black_box;
@@ -30,19 +31,12 @@ impl Lent {
 
 type Call = Box<dyn FnMut() -> Answer<u64>>;
 
-/// Seconds a call.
-#[derive(Clone, Copy)]
-pub struct Times {
-    pub ours: f64,
-    pub theirs: f64,
-}
-
 pub struct Case {
     pub name: String,
-    pub least: Times,
+    /// Seconds a call: the library, the plain baseline, the tuned one.
+    pub least: [f64; 3],
     result: Answer<u64>,
-    ours: (Call, u32),
-    theirs: (Call, u32),
+    batches: [(Call, u32); 3],
 }
 
 fn time(call: &mut Call, calls: u32) -> f64 {
@@ -62,30 +56,32 @@ fn batch(mut call: Call) -> (Call, u32) {
     (call, calls)
 }
 
+type Theirs = Box<dyn Fn(&mut Lent) -> Answer<u64>>;
+
 impl Case {
-    /// Two calls that give the same.
-    fn new(
-        name: String,
-        ours: impl Fn(&mut Lent) -> Answer<u64> + 'static,
-        theirs: impl Fn(&mut Lent) -> Answer<u64> + 'static,
-    ) -> Case {
-        let (mut left, mut right) = (Lent::new(), Lent::new());
-        let result = ours(&mut left);
-        let same = result == theirs(&mut right) && left == right;
-        assert!(same, "{name}: the library and the baseline differ");
-        Case {
-            name,
-            least: Times { ours: f64::MAX, theirs: f64::MAX },
-            result,
-            ours: batch(Box::new(move || ours(&mut left))),
-            theirs: batch(Box::new(move || theirs(&mut right))),
+    /// Three calls that give the same: the library's, that of the plain baseline and that of the tuned one.
+    fn new(name: String, ours: impl Fn(&mut Lent) -> Answer<u64> + 'static, theirs: [Theirs; 2]) -> Case {
+        let mut lent = Lent::new();
+        let result = ours(&mut lent);
+        for call in &theirs {
+            let mut other = Lent::new();
+            let same = result == call(&mut other) && lent == other;
+            assert!(same, "{name}: the library and a baseline differ");
         }
+        let [plain, tuned] = theirs;
+        let calls: [Theirs; 3] = [Box::new(ours), plain, tuned];
+        let batches = calls.map(|call| {
+            let mut lent = Lent::new();
+            batch(Box::new(move || call(&mut lent)))
+        });
+        Case { name, least: [f64::MAX; 3], result, batches }
     }
 
     pub fn pass(&mut self) {
         for _ in 0..ROUNDS {
-            self.least.ours = self.least.ours.min(time(&mut self.ours.0, self.ours.1));
-            self.least.theirs = self.least.theirs.min(time(&mut self.theirs.0, self.theirs.1));
+            for (least, (call, calls)) in self.least.iter_mut().zip(&mut self.batches) {
+                *least = least.min(time(call, *calls));
+            }
         }
     }
 
@@ -99,89 +95,104 @@ impl Case {
     }
 }
 
+fn cores_by<M: Method>(n: u8, sets: Vec<u64>) -> Theirs {
+    Box::new(move |lent| tables::accept::<M>(n, black_box(&sets)).map(|table| lent.put(&table.cores)))
+}
+
 fn cores(input: Input) -> Case {
     let Input { name, n, sets } = input;
-    let same = sets.clone();
-    Case::new(
-        format!("cores, {name}"),
-        move |lent| library::cores(n, black_box(&sets), &mut lent.sets),
-        move |lent| tables::accept(n, black_box(&same)).map(|table| lent.put(&table.cores)),
-    )
+    let theirs = [cores_by::<Plain>(n, sets.clone()), cores_by::<Tuned>(n, sets.clone())];
+    Case::new(format!("cores, {name}"), move |lent| library::cores(n, black_box(&sets), &mut lent.sets), theirs)
+}
+
+fn back_by<M: Method>(n: u8, groups: Vec<u64>) -> Theirs {
+    Box::new(move |lent| tables::back::<M>(n, black_box(&groups)).map(|sets| lent.put(&sets)))
+}
+
+/// From the cores of a table.
+fn back(input: Input) -> Case {
+    let Input { name, n, sets } = input;
+    let groups = tables::accept::<Plain>(n, &sets).expect("a table").cores;
+    let theirs = [back_by::<Plain>(n, groups.clone()), back_by::<Tuned>(n, groups.clone())];
+    Case::new(format!("back, {name}"), move |lent| library::back(n, black_box(&groups), &mut lent.sets), theirs)
 }
 
 fn threshold(n: u8, t: u8) -> Case {
+    let theirs = || Box::new(move |lent: &mut Lent| tables::threshold_sets(black_box(n), t).map(|sets| lent.put(&sets)));
     Case::new(
         format!("table from n {n}, t {t}"),
         move |lent| library::threshold(black_box(n), t, &mut lent.sets),
-        move |lent| tables::threshold_sets(black_box(n), t).map(|sets| lent.put(&sets)),
+        [theirs(), theirs()],
     )
+}
+
+fn verdict_by<M: Method>(n: u8, sets: Vec<u64>) -> Theirs {
+    Box::new(move |_| verdicts::verdict::<M>(4, n, black_box(&sets)))
 }
 
 fn verdict(what: &str, input: Input) -> Case {
     let Input { n, sets, .. } = input;
-    let same = sets.clone();
-    Case::new(
-        format!("verdict on 4, {what}"),
-        move |_| library::verdict(4, n, black_box(&sets)),
-        move |_| verdicts::verdict(4, n, black_box(&same)),
-    )
+    let theirs = [verdict_by::<Plain>(n, sets.clone()), verdict_by::<Tuned>(n, sets.clone())];
+    Case::new(format!("verdict on 4, {what}"), move |_| library::verdict(4, n, black_box(&sets)), theirs)
+}
+
+fn write_by<M: Method>(n: u8, sets: Vec<u64>) -> Theirs {
+    Box::new(move |lent| tables::write::<M>(n, black_box(&sets), &mut lent.bytes, 5).map(|size| size as u64))
 }
 
 fn write(input: Input) -> Case {
     let Input { name, n, sets } = input;
-    let same = sets.clone();
-    Case::new(
-        format!("write a table, {name}"),
-        move |lent| library::write_table(n, black_box(&sets), &mut lent.bytes, 5),
-        move |lent| tables::write(n, black_box(&same), &mut lent.bytes, 5).map(|size| size as u64),
-    )
+    let theirs = [write_by::<Plain>(n, sets.clone()), write_by::<Tuned>(n, sets.clone())];
+    let ours = move |lent: &mut Lent| library::write_table(n, black_box(&sets), &mut lent.bytes, 5);
+    Case::new(format!("write a table, {name}"), ours, theirs)
+}
+
+fn read_by<M: Method>(file: Vec<u8>) -> Theirs {
+    Box::new(move |lent| tables::read::<M>(black_box(&file)).map(|table| lent.put(&table.sets)))
 }
 
 fn read(input: Input) -> Case {
-    let Input { name, n, sets } = input;
-    let file = inputs::table_bytes(n, &sets);
-    let same = file.clone();
-    Case::new(
-        format!("read a table, {name}"),
-        move |lent| library::read_table(black_box(&file), &mut lent.sets),
-        move |lent| tables::read(black_box(&same)).map(|table| lent.put(&table.sets)),
-    )
+    let file = inputs::table_bytes(input.n, &input.sets);
+    let theirs = [read_by::<Plain>(file.clone()), read_by::<Tuned>(file.clone())];
+    let ours = move |lent: &mut Lent| library::read_table(black_box(&file), &mut lent.sets);
+    Case::new(format!("read a table, {}", input.name), ours, theirs)
+}
+
+fn run_by<M: Method>(file: Vec<u8>) -> Theirs {
+    Box::new(move |lent| Ok(runs::listing::<M>(black_box(&file), &mut lent.bytes) as u64))
 }
 
 /// The run program's text for a core of 64.
 fn run(name: &str, stops: bool) -> Case {
     let file = inputs::whole_exchange(stops);
-    let same = file.clone();
-    Case::new(
-        name.to_string(),
-        move |lent| library::run_listing(black_box(&file), &mut lent.bytes),
-        move |lent| Ok(runs::listing(black_box(&same), &mut lent.bytes) as u64),
-    )
+    let theirs = [run_by::<Plain>(file.clone()), run_by::<Tuned>(file.clone())];
+    Case::new(name.to_string(), move |lent| library::run_listing(black_box(&file), &mut lent.bytes), theirs)
 }
 
 // The calls of one drive, each on the same state again and again: the library's is copied into the call and out of it,
 // as a controller has it.
 
+fn open_by<M: Method>(start: Start) -> Theirs {
+    Box::new(move |_| {
+        let start = black_box(&start);
+        exchange::open::<M>(start.n, &start.sets, start.own, OWN_NUMBER).map(|state| state.round.into())
+    })
+}
+
 /// The opening; its result is the round.
 fn open(start: Start) -> Case {
-    let same = start.clone();
-    Case::new(
-        "opening, core of 64".to_string(),
-        move |_| {
-            let start = black_box(&start);
-            library::open(start.n, &start.sets, start.own, OWN_NUMBER).map(|state| state.round.into())
-        },
-        move |_| {
-            let start = black_box(&same);
-            exchange::open(start.n, &start.sets, start.own, OWN_NUMBER).map(|state| state.round.into())
-        },
-    )
+    let theirs = [open_by::<Plain>(start.clone()), open_by::<Tuned>(start.clone())];
+    let ours = move |_: &mut Lent| {
+        let start = black_box(&start);
+        library::open(start.n, &start.sets, start.own, OWN_NUMBER).map(|state| state.round.into())
+    };
+    Case::new("opening, core of 64".to_string(), ours, theirs)
 }
 
 /// The states of a drive that was opened and handed all messages but the last so many.
 fn begun(start: &Start, left: usize) -> (library::State, exchange::Exchange) {
     let mut ours = library::open(start.n, &start.sets, start.own, OWN_NUMBER).expect("an opening");
-    let mut theirs = exchange::open(start.n, &start.sets, start.own, OWN_NUMBER).expect("an opening");
+    let mut theirs = exchange::open::<Tuned>(start.n, &start.sets, start.own, OWN_NUMBER).expect("an opening");
     for bytes in start.messages.chunks(start.size).take(start.count - left) {
         ours = ours.message(bytes).expect("a message");
         theirs.message(bytes).expect("a message");
@@ -194,14 +205,15 @@ fn message(start: Start) -> Case {
     let (ours, theirs) = begun(&start, 1);
     let bytes = start.messages[start.messages.len() - start.size..].to_vec();
     let same = bytes.clone();
+    let theirs = move |_: &mut Lent| {
+        let mut state = black_box(&theirs).clone();
+        state.message(black_box(&same))?;
+        Ok(black_box(&state).heard.count_ones().into())
+    };
     Case::new(
         "one message of 64 numbers, all known".to_string(),
         move |_| black_box(&ours).message(black_box(&bytes)).map(|state| state.heard.count_ones().into()),
-        move |_| {
-            let mut state = black_box(&theirs).clone();
-            state.message(black_box(&same))?;
-            Ok(black_box(&state).heard.count_ones().into())
-        },
+        [Box::new(theirs.clone()), Box::new(theirs)],
     )
 }
 
@@ -212,14 +224,15 @@ fn close(start: Start) -> Case {
     closed.close().expect("a close");
     let same = (closed.decision, closed.halted) == ours.close().expect("a close").end();
     assert!(same, "a close: the library and the baseline differ");
+    let theirs = move |_: &mut Lent| {
+        let mut state = black_box(&theirs).clone();
+        state.close()?;
+        Ok(black_box(&state).round.into())
+    };
     Case::new(
         "one close of a listener that goes on".to_string(),
         move |_| black_box(&ours).close().map(|state| state.round.into()),
-        move |_| {
-            let mut state = black_box(&theirs).clone();
-            state.close()?;
-            Ok(black_box(&state).round.into())
-        },
+        [Box::new(theirs.clone()), Box::new(theirs)],
     )
 }
 
@@ -228,10 +241,11 @@ fn send(start: Start) -> Case {
     let (ours, mut theirs) = begun(&start, 0);
     let ours = ours.close().expect("a close");
     theirs.close().expect("a close");
+    let theirs = move |lent: &mut Lent| black_box(&theirs).send(&mut lent.bytes, 5).map(|size| size as u64);
     Case::new(
         "one send of 64 numbers".to_string(),
         move |lent| black_box(&ours).send(&mut lent.bytes, 5),
-        move |lent| black_box(&theirs).send(&mut lent.bytes, 5).map(|size| size as u64),
+        [Box::new(theirs.clone()), Box::new(theirs)],
     )
 }
 
@@ -245,6 +259,7 @@ pub fn all() -> Vec<Case> {
     ];
     cases.extend(inputs::hard_tables().into_iter().map(cores));
     cases.extend([
+        back(inputs::all_but_one(45)),
         threshold(45, 1),
         verdict("128 sets that share a drive", inputs::one_of_each_pair(true)),
         verdict("120 sets, 14 of 16", inputs::all_but_two(16)),

@@ -3,7 +3,7 @@
 //! fuel and not by time. The best goes to `target/bench/climbed.table`. The arguments, if any, are the seconds and a
 //! seed.
 
-use crate::baseline::{cores::bits, tables};
+use crate::baseline::{bits, Method, Plain};
 use crate::{inputs, library};
 use std::cmp::Reverse;
 use std::time::Instant;
@@ -83,7 +83,7 @@ fn kept(mut sets: Vec<u64>, random: &mut Random) -> Vec<u64> {
     if sets.is_empty() {
         sets.push(1);
     }
-    let mut sets = tables::normal(&sets);
+    let mut sets = Plain::normal(&sets);
     while sets.len() > MOST_SETS {
         sets.swap_remove(random.below(sets.len()));
     }
@@ -109,7 +109,7 @@ pub fn main(mut arguments: impl Iterator<Item = String>) {
     let seconds: f64 = arguments.next().and_then(|seconds| seconds.parse().ok()).unwrap_or(SECONDS);
     let seed: u64 = arguments.next().and_then(|seed| seed.parse().ok()).unwrap_or(1);
     let mut random = Random(seed.wrapping_mul(0x9e37_79b9_7f4a_7c15) | 1);
-    let mut starts: Vec<(String, Vec<u64>)> = inputs::hard_tables().into_iter().map(|table| (table.name, tables::normal(&table.sets))).collect();
+    let mut starts: Vec<(String, Vec<u64>)> = inputs::hard_tables().into_iter().map(|table| (table.name, Plain::normal(&table.sets))).collect();
     starts.extend((1..=RANDOM_STARTS).map(|number| (format!("random {number}"), random.table())));
     let each = seconds / starts.len() as f64;
     let mut worst: Option<(Score, Vec<u64>)> = None;

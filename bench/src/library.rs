@@ -75,6 +75,7 @@ mod c {
         pub fn regdulyn_read_whole(bytes: *const u8, length: usize, sets: *mut u64, room: usize) -> TableReply;
         pub fn regdulyn_write_table(n: u8, sets: *const u64, count: usize, buffer: *mut u8, room: usize, start: usize) -> SizeReply;
         pub fn regdulyn_cores(n: u8, sets: *const u64, count: usize, cores: *mut u64, room: usize) -> SizeReply;
+        pub fn regdulyn_back(n: u8, groups: *const u64, count: usize, sets: *mut u64, room: usize) -> SizeReply;
         pub fn regdulyn_threshold(n: u8, t: u8, sets: *mut u64, room: usize) -> SizeReply;
         pub fn regdulyn_verdict(k: u8, n: u8, sets: *const u64, count: usize) -> VerdictReply;
         pub fn regdulyn_run_listing(input: *const u8, length: usize, text: *mut u8, room: usize, start: usize) -> SizeReply;
@@ -132,6 +133,10 @@ pub fn write_table(n: u8, sets: &[u64], buffer: &mut [u8], start: usize) -> Answ
 
 pub fn cores(n: u8, sets: &[u64], cores: &mut [u64]) -> Answer<u64> {
     unsafe { size(c::regdulyn_cores(n, sets.as_ptr(), sets.len(), cores.as_mut_ptr(), cores.len())) }
+}
+
+pub fn back(n: u8, groups: &[u64], sets: &mut [u64]) -> Answer<u64> {
+    unsafe { size(c::regdulyn_back(n, groups.as_ptr(), groups.len(), sets.as_mut_ptr(), sets.len())) }
 }
 
 /// The sets of the table from n and t into the first places; how many.

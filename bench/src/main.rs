@@ -1,6 +1,6 @@
-//! Times the proved library beside the baseline: the same calls on the same inputs in one process. Each call's results
-//! are compared first; then short batches of both alternate, in many passes over all calls, and the least time of a
-//! call counts. The arguments, if any, are the number of passes and a part of the names of the calls to time. With
+//! Times the proved library beside two baselines: the same calls on the same inputs in one process. What a call gives is
+//! compared first, of a state the part that its case names, of a verdict the positions; then short batches of all three
+//! alternate, in many passes over all calls, and the least time of a call counts. The arguments, if any, are the number of passes and a part of the names of the calls to time. With
 //! `climb` as the first it looks for hard tables instead.
 
 mod baseline;
@@ -9,13 +9,14 @@ mod climb;
 mod inputs;
 mod library;
 
-use cases::{Case, Times};
+use cases::Case;
 
 const PASSES: usize = 20;
 
-fn print(name: &str, result: &str, times: Times) {
-    let (ours, theirs) = (times.ours * 1e6, times.theirs * 1e6);
-    println!("{name:<42} {result:>11} {ours:>11.3} {theirs:>11.3} {:>6.2}", ours / theirs);
+fn print(case: &Case) {
+    let [ours, plain, tuned] = case.least.map(|seconds| seconds * 1e6);
+    let ratio = |theirs: f64| format!("{theirs:>11.3} {:>6.2}", ours / theirs);
+    println!("{:<42} {:>11} {ours:>11.3} {} {}", case.name, case.shown(), ratio(plain), ratio(tuned));
 }
 
 fn main() {
@@ -30,8 +31,7 @@ fn main() {
     for _ in 0..passes {
         cases.iter_mut().for_each(Case::pass);
     }
-    println!("{:<42} {:>11} {:>11} {:>11} {:>6}", "call", "result", "library us", "baseline us", "ratio");
-    for case in &cases {
-        print(&case.name, &case.shown(), case.least);
-    }
+    print!("{:<42} {:>11} {:>11}", "call", "result", "library us");
+    println!(" {:>11} {:>6} {:>11} {:>6}", "plain us", "ratio", "tuned us", "ratio");
+    cases.iter().for_each(print);
 }

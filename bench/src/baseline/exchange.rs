@@ -1,8 +1,7 @@
 //! One drive's part in an exchange: opening, send, message and close.
 
-use super::cores::bits;
 use super::tables::{accept, full};
-use super::Answer;
+use super::{bits, Answer, Method};
 
 #[derive(Clone)]
 pub struct Exchange {
@@ -31,8 +30,8 @@ pub fn number(bytes: &[u8]) -> u32 {
     u32::from_le_bytes(wide)
 }
 
-pub fn open(n: u8, sets: &[u64], own: u8, number: u32) -> Answer<Exchange> {
-    let core = accept(n, sets)?.cores[0];
+pub fn open<M: Method>(n: u8, sets: &[u64], own: u8, number: u32) -> Answer<Exchange> {
+    let core = accept::<M>(n, sets)?.cores[0];
     if !(1..=n).contains(&own) {
         return Err(8);
     }

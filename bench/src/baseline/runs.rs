@@ -1,9 +1,8 @@
 //! The run program: a table, a run file, a simulated exchange by messages, and its text.
 
-use super::cores::bits;
 use super::exchange::{initial, number, Exchange};
 use super::tables::{full, mark, read_with_rest, Table};
-use super::Answer;
+use super::{bits, Answer, Method};
 use std::io::Write;
 
 /// A CR: the round and the sends.
@@ -15,8 +14,8 @@ struct Scenario {
     crashes: [Crash; 64],
 }
 
-fn read(bytes: &[u8]) -> Answer<Scenario> {
-    let (table, mut rest) = read_with_rest(bytes)?;
+fn read<M: Method>(bytes: &[u8]) -> Answer<Scenario> {
+    let (table, mut rest) = read_with_rest::<M>(bytes)?;
     let (n, core) = (table.n, table.cores[0]);
     // a listener's number is read and never used
     let (mut numbers, mut last, mut owed) = (vec![0; n as usize], 0, core);
@@ -82,13 +81,13 @@ fn play(s: &Scenario) -> Vec<Option<(u32, u8)>> {
     let mut found = vec![None; n as usize];
     let mut bytes = [0; 268];
     for round in 1..=core.count_ones() as u8 {
-        let began: Vec<Exchange> = states.clone();
         for sender in bits(core) {
             let at = sender.trailing_zeros() as usize;
             if s.crashes[at].is_some_and(|(gone, _)| gone < round) {
                 continue;
             }
-            let Ok(size) = began[at].send(&mut bytes, 0) else { continue };
+            // what a drive sends is not changed by the messages of the round
+            let Ok(size) = states[at].send(&mut bytes, 0) else { continue };
             let sends = s.crashes[at].filter(|(gone, _)| *gone == round).map_or(64, |(_, sends)| sends);
             let list = bits(core & !sender).chain(bits(full(n) & !core));
             for to in list.take(sends as usize) {
@@ -96,21 +95,24 @@ fn play(s: &Scenario) -> Vec<Option<(u32, u8)>> {
             }
         }
         for (at, state) in states.iter_mut().enumerate() {
-            if began[at].halted || s.crashes[at].is_some_and(|(gone, _)| gone <= round) {
+            if state.halted || s.crashes[at].is_some_and(|(gone, _)| gone <= round) {
                 continue;
             }
             let _ = state.close();
             found[at] = found[at].or(state.decision.map(|number| (number, round)));
+        }
+        if found.iter().all(Option::is_some) {
+            break;
         }
     }
     found
 }
 
 /// The text for some bytes, from the first place of the buffer on; how many bytes.
-pub fn listing(bytes: &[u8], out: &mut [u8]) -> usize {
+pub fn listing<M: Method>(bytes: &[u8], out: &mut [u8]) -> usize {
     let room = out.len();
     let mut rest = &mut out[..];
-    match read(bytes) {
+    match read::<M>(bytes) {
         Err(number) => writeln!(rest, "refused {number}").unwrap(),
         Ok(s) => {
             for (at, ending) in play(&s).iter().enumerate() {

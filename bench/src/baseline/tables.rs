@@ -1,7 +1,6 @@
 //! Tables: the calls given n and sets, the reader and the writer.
 
-use super::cores::minimal_hitting_sets;
-use super::Answer;
+use super::{Answer, Method};
 
 pub struct Table {
     pub n: u8,
@@ -21,28 +20,31 @@ fn is_set(n: u8, set: u64) -> bool {
     set != 0 && set & !full(n) == 0
 }
 
-/// Without repeats and without each set that holds another, by mask.
-pub fn normal(sets: &[u64]) -> Vec<u64> {
-    let mut by_size = sets.to_vec();
-    by_size.sort_unstable_by_key(|set| (set.count_ones(), *set));
-    let mut kept: Vec<u64> = Vec::with_capacity(sets.len());
-    for set in by_size {
-        if kept.iter().all(|small| small & !set != 0) {
-            kept.push(set);
-        }
-    }
-    kept.sort_unstable();
-    kept
-}
-
-fn complete(n: u8, sets: &[u64]) -> Answer<Table> {
-    let sets = normal(sets);
-    let cores = minimal_hitting_sets(&sets, 1024).ok_or(13u64)?;
+fn complete<M: Method>(n: u8, sets: &[u64]) -> Answer<Table> {
+    let sets = M::normal(sets);
+    let mut cores = M::minimal_hitting_sets(&sets, 1024).ok_or(13u64)?;
+    M::sort_cores(&mut cores);
     Ok(Table { n, sets, cores })
 }
 
+/// The table's own smallest sets, from its cores: 3, 13, 4, 5.
+pub fn back<M: Method>(n: u8, groups: &[u64]) -> Answer<Vec<u64>> {
+    if !is_frame(n) {
+        return Err(3);
+    }
+    if groups.is_empty() || groups.len() > 1024 {
+        return Err(13);
+    }
+    if !groups.iter().all(|group| is_set(n, *group)) {
+        return Err(4);
+    }
+    let mut sets = M::minimal_hitting_sets(&M::normal(groups), 128).ok_or(5u64)?;
+    sets.sort_unstable();
+    Ok(sets)
+}
+
 /// 3, 2, 5, 4, 13.
-pub fn accept(n: u8, sets: &[u64]) -> Answer<Table> {
+pub fn accept<M: Method>(n: u8, sets: &[u64]) -> Answer<Table> {
     if !is_frame(n) {
         return Err(3);
     }
@@ -55,7 +57,7 @@ pub fn accept(n: u8, sets: &[u64]) -> Answer<Table> {
     if !sets.iter().all(|set| is_set(n, *set)) {
         return Err(4);
     }
-    complete(n, sets)
+    complete::<M>(n, sets)
 }
 
 /// How many groups of k out of n drives there are, held at 1025.
@@ -108,18 +110,18 @@ pub fn mark(bytes: &[u8]) -> Answer<([u8; 2], &[u8])> {
 }
 
 /// A table and nothing more.
-pub fn read(bytes: &[u8]) -> Answer<Table> {
+pub fn read<M: Method>(bytes: &[u8]) -> Answer<Table> {
     let (n, sets, rest) = listed(bytes)?;
     if !rest.is_empty() {
         return Err(7);
     }
-    complete(n, &sets)
+    complete::<M>(n, &sets)
 }
 
 /// A table and what stands behind it.
-pub fn read_with_rest(bytes: &[u8]) -> Answer<(Table, &[u8])> {
+pub fn read_with_rest<M: Method>(bytes: &[u8]) -> Answer<(Table, &[u8])> {
     let (n, sets, rest) = listed(bytes)?;
-    Ok((complete(n, &sets)?, rest))
+    Ok((complete::<M>(n, &sets)?, rest))
 }
 
 /// n and the sets as they are listed, and what stands behind them.
@@ -161,8 +163,8 @@ fn listed(bytes: &[u8]) -> Answer<(u8, Vec<u64>, &[u8])> {
 }
 
 /// The normal table from `start` on; how many bytes.
-pub fn write(n: u8, sets: &[u64], buffer: &mut [u8], start: usize) -> Answer<usize> {
-    let table = accept(n, sets)?;
+pub fn write<M: Method>(n: u8, sets: &[u64], buffer: &mut [u8], start: usize) -> Answer<usize> {
+    let table = accept::<M>(n, sets)?;
     let size = 6 + 10 * table.sets.len();
     let part = buffer.get_mut(start..).ok_or(14u64)?;
     let part = part.get_mut(..size).ok_or(14u64)?;
