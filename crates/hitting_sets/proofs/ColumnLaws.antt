@@ -1,6 +1,6 @@
 -- Sets marked in the columns of their drives, one after the other: a set's mark is put into one column after the other.
 use mathlib.Core.Path.{_≡_, refl, sym, ap, ap₂, _∙_}
-use mathlib.Core.Bool.{Bool, true, false, _&&_, _||_}
+use mathlib.Core.Bool.{Bool, true, false, _&&_, _||_, or-self, and-true}
 use mathlib.Core.List.{List, []}
 use Prim.Native.Nat.{ℕ, _+_, _-_, _*_, _/_, _%_, _^_, _≤_, _<_}
 use native.Mathlib.Omega.{arith}
@@ -9,10 +9,10 @@ use lib.ListN.{length, getD, take, set, replicate, length-set, length-take, leng
 use lib.Seq.{getD-set-same, getD-set-other, getD-take, getD-drop, take-all}
 use borrow.Author.Tests.{eqb-true, eqb-false, eq-eqb, ltb-true, ltb-false}
 use Rattle.drive_sets.specs.Bools.Laws.{by-test, same-test, false-of, and-left, and-right, and-fails-right, or-false}
-use Rattle.drive_sets.specs.Masks.{has, single, union, minus}
+use Rattle.drive_sets.specs.Masks.{has, single, union}
 use Rattle.drive_sets.specs.Masks.Laws.{has-none, has-union}
-use Rattle.drive_sets.specs.Masks.OneDrive.{has-one, remove-keeps, single-has}
-use Rattle.drive_sets.specs.Loops.Drives.{Taken, taken-has, taken-bounds, taken-lt, taken-left}
+use Rattle.drive_sets.specs.Masks.OneDrive.{has-one, single-has}
+use Rattle.drive_sets.specs.Loops.Drives.{Taken, taken-has, taken-bounds, taken-lt, taken-left, taken-other}
 use Rattle.hitting_sets.specs.Marks.{Columns}
 
 -- ---- one set: what is still to be marked, with what is marked, is the whole
@@ -29,10 +29,6 @@ marking-start columns s i bit h = record { word = h; same = refl; each = λ d j 
 one-more : (x e o q : Bool) → ((x || (e && q)) || (o && q)) ≡ (x || ((e || o) && q))
 one-more true e o q = refl
 one-more false true true q = or-self q
-  where
-    or-self : (q : Bool) → (q || q) ≡ q
-    or-self true = refl
-    or-self false = refl
 one-more false true false q = or-false q
 one-more false false o q = refl
 
@@ -43,11 +39,10 @@ module _ {old columns : List ℕ} {s i bit rest : ℕ} (y : Marking old columns 
 
     left : (d : ℕ) → has d rest ≡ (eqb d e || has d others)
     left d =
-        let b = taken-bounds t in
         by-test (eqb d e)
         (λ q. ap (λ (x : ℕ). has x rest) (eqb-true d e q) ∙ (taken-has t ∙ sym (ap (λ (x : Bool). x || has d others) q)))
         (λ q. same-test (has d rest) (has d others)
-        (λ h. ap (has d) (t .left ∙ ap (λ (x : ℕ). minus rest (single x)) (sym (t .first))) ∙ remove-keeps e (b .0) (b .1) d rest h (eqb-false d e q))
+        (λ h. taken-other t d h (eqb-false d e q))
         (taken-left t d)
         ∙ sym (ap (λ (x : Bool). x || has d others) q))
 
@@ -93,17 +88,13 @@ module _ {old columns : List ℕ} {s i bit rest : ℕ} (y : Marking old columns 
 
 -- ---- set after set
 
-and-true : (x : Bool) → (x && true) ≡ x
-and-true true = refl
-and-true false = refl
-
-pub record Filled (sets columns : List ℕ) (at : ℕ) : Type 0 where
+pub record Filling (sets columns : List ℕ) (at : ℕ) : Type 0 where
   pub few : at ≤ 1024
   pub room : length columns ≡ 1024
   pub each : (d i b : ℕ) → 1 ≤ d → d ≤ 64 → i < 16 → 1 ≤ b → b ≤ 64 → has b (getD columns (16 * (d - 1) + i) 0) ≡ has d (getD (take at sets) (64 * i + b - 1) 0)
 
-pub filled-start : (sets columns : List ℕ) → columns ≡ replicate 1024 0 → Filled sets columns 0
-filled-start sets columns e = record {
+pub filling-start : (sets columns : List ℕ) → columns ≡ replicate 1024 0 → Filling sets columns 0
+filling-start sets columns e = record {
   few = omega arith;
   room = ap length e;
   each = λ d i b low high i-lt b-low b-high.
@@ -141,12 +132,12 @@ module _ (sets : List ℕ) (at : ℕ) where
       (λ t. let lt = ltb-true q at t in getD-take at sets q 0 lt ∙ sym (getD-take (at + 1) sets q 0 (omega (arith, lt))))
       (λ t. let le = ltb-false q at t in past at q le ∙ sym (past (at + 1) q (omega (arith, le, ne))))))
 
-module _ {sets columns : List ℕ} {at : ℕ} (f : Filled sets columns at) where
-  pub filled-turn : at < 1024 → (columns' : List ℕ) (bit : ℕ) → bit ≡ single (at % 64 + 1) → length columns' ≡ length columns
+module _ {sets columns : List ℕ} {at : ℕ} (f : Filling sets columns at) where
+  pub filling-turn : at < 1024 → (columns' : List ℕ) (bit : ℕ) → bit ≡ single (at % 64 + 1) → length columns' ≡ length columns
       → ((d j b : ℕ) → 1 ≤ d → d ≤ 64 → j < 16
       → has b (getD columns' (16 * (d - 1) + j) 0) ≡ (has b (getD columns (16 * (d - 1) + j) 0) || (has d (getD sets at 0) && (eqb j (at / 64) && has b bit))))
-      → Filled sets columns' (at + 1)
-  filled-turn lt columns' bit e same more = record {
+      → Filling sets columns' (at + 1)
+  filling-turn lt columns' bit e same more = record {
     few = omega arith;
     room = same ∙ f .room;
     each = λ d i b low high i-lt b-low b-high.
@@ -158,16 +149,16 @@ module _ {sets columns : List ℕ} {at : ℕ} (f : Filled sets columns at) where
   }
 
   -- all sets, or as many as have places
-  pub filled-end : ((q : ℕ) → q < 1024 → getD (take at sets) q 0 ≡ getD sets q 0) → Columns columns sets
-  filled-end all d low high = record {
+  filling-end : ((q : ℕ) → q < 1024 → getD (take at sets) q 0 ≡ getD sets q 0) → Columns columns sets
+  filling-end all d low high = record {
     room = omega (arith, length-drop (16 * (d - 1)) columns, f .room);
     each = λ i b i-lt b-low b-high.
         ap (has b) (getD-drop (16 * (d - 1)) columns i 0)
         ∙ (f .each d i b low high i-lt b-low b-high ∙ ap (has d) (all (64 * i + b - 1) (omega arith)));
   }
 
-  pub filled-all : length sets ≤ at → Columns columns sets
-  filled-all h = filled-end (λ q lt. ap (λ (l : List ℕ). getD l q 0) (take-all at sets h))
+  pub filling-all : length sets ≤ at → Columns columns sets
+  filling-all h = filling-end (λ q lt. ap (λ (l : List ℕ). getD l q 0) (take-all at sets h))
 
-  pub filled-first : 1024 ≤ at → Columns columns sets
-  filled-first h = filled-end (λ q lt. getD-take at sets q 0 (omega arith))
+  pub filling-first : 1024 ≤ at → Columns columns sets
+  filling-first h = filling-end (λ q lt. getD-take at sets q 0 (omega arith))

@@ -10,10 +10,9 @@ use lib.Dec.{eqb}
 use lib.ListN.{getD}
 use borrow.Author.Tests.{eqb-true, eqb-false, not-true}
 use Rattle.drive_sets.specs.Bools.Laws.{clash, by-test, false-of, and-intro, and-left, and-right}
-use Rattle.drive_sets.specs.Masks.{has, single, common, minus, meets}
+use Rattle.drive_sets.specs.Masks.{has, common, minus, meets}
 use Rattle.drive_sets.specs.Masks.Laws.{has-none, has-common, has-minus, meets-has}
-use Rattle.drive_sets.specs.Masks.OneDrive.{remove-keeps}
-use Rattle.drive_sets.specs.Loops.Drives.{Taken, taken-bounds, taken-lt}
+use Rattle.drive_sets.specs.Loops.Drives.{Taken, taken-lt, taken-other}
 use Rattle.hitting_sets.specs.Marks.{InMarked, Apart}
 
 pub record Sparing (columns : List ℕ) (word n c rest far : ℕ) : Type 0 where
@@ -41,14 +40,9 @@ module _ {columns : List ℕ} {word n c rest far : ℕ} (y : Sparing columns wor
           λ x i j.
               by-test (eqb x d)
               (λ q. ap (λ (z : ℕ). has b (getD columns z 0)) (ap (λ (z : ℕ). 16 * (z - 1)) (eqb-true x d q) ∙ sym at) ∙ not-true (has b (getD columns k 0)) (and-right (has b far) (not (has b (getD columns k 0))) both))
-              (λ q. w .2 x i (false-of (has x rest) (λ r. clash (kept x (eqb-false x d q) r) j))),
+              (λ q. w .2 x i (false-of (has x rest) (λ r. clash (taken-other t x r (eqb-false x d q)) j))),
         );
   }
-    where
-      kept : (x : ℕ) → (x ≡ d → ⊥) → has x rest ≡ true → has x others ≡ true
-      kept x ne r =
-          let b = taken-bounds t in
-          ap (has x) (t .left ∙ ap (λ (z : ℕ). minus rest (single z)) (sym (t .first))) ∙ remove-keeps d (b .0) (b .1) x rest r ne
 
   pub sparing-end : rest ≡ 0 → (b : ℕ) → has b far ≡ true → (has b word ≡ true) × (b ≤ n) × ((x : ℕ) → has x c ≡ true → has b (getD columns (16 * (x - 1)) 0) ≡ false)
   sparing-end z b h = let w = y .each b h in (w .0, w .1, λ x i. w .2 x i (ap (has x) z ∙ has-none x))

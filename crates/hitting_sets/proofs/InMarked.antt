@@ -10,11 +10,10 @@ use lib.Dec.{eqb}
 use lib.ListN.{length, getD}
 use borrow.Author.Tests.{eqb-true, eqb-false}
 use Rattle.drive_sets.specs.Bools.Laws.{clash, by-test, and-intro, and-left, and-right}
-use Rattle.drive_sets.specs.Masks.{has, single, common, minus}
+use Rattle.drive_sets.specs.Masks.{has, common}
 use Rattle.drive_sets.specs.Masks.Laws.{has-none, has-common}
-use Rattle.drive_sets.specs.Masks.OneDrive.{remove-keeps}
 use Rattle.drive_sets.specs.Masks.Sizes.{lowest-least}
-use Rattle.drive_sets.specs.Loops.Drives.{Taken, taken-has, taken-bounds, taken-lt, taken-left}
+use Rattle.drive_sets.specs.Loops.Drives.{Taken, taken-has, taken-bounds, taken-lt, taken-left, taken-other}
 use Rattle.hitting_sets.specs.Marks.{InMarked}
 
 -- ---- one word
@@ -40,13 +39,12 @@ module _ {sets : List ℕ} {base word c rest all : ℕ} (y : Cutting sets base w
 
         back : (x : ℕ) → (has x (common all (getD sets at 0)) ≡ true) × InMarked sets base others x → (has x all ≡ true) × InMarked sets base rest x
         back x w =
-            let both = sym (has-common x all (getD sets at 0)) ∙ w .0 in
-            let b = taken-bounds t in (
+            let both = sym (has-common x all (getD sets at 0)) ∙ w .0 in (
               and-left (has x all) (has x (getD sets at 0)) both,
               λ k h inside.
                   by-test (eqb k e)
                   (λ q. ap (λ (z : ℕ). has x (getD sets z 0)) (ap (λ (z : ℕ). base + z - 1) (eqb-true k e q) ∙ here) ∙ and-right (has x all) (has x (getD sets at 0)) both)
-                  (λ q. w .1 k (ap (has k) (t .left ∙ ap (λ (z : ℕ). minus rest (single z)) (sym (t .first))) ∙ remove-keeps e (b .0) (b .1) k rest h (eqb-false k e q)) inside),
+                  (λ q. w .1 k (taken-other t k h (eqb-false k e q)) inside),
             )
 
         on : (x : ℕ) → (has x all ≡ true) × InMarked sets base rest x → (has x (common all (getD sets at 0)) ≡ true) × InMarked sets base others x

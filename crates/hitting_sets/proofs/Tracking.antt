@@ -1,5 +1,5 @@
 -- The marks of the sets that m misses, and of those that it meets in one drive alone: word by word, as a drive is
--- added, and the first of them.
+-- added.
 use mathlib.Core.Path.{_≡_, refl, sym, ap, ap₂, _∙_, subst}
 use mathlib.Core.Bool.{Bool, true, false, not, _&&_, _||_}
 use mathlib.Core.Logic.{⊎-elim}

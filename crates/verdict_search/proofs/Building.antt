@@ -14,10 +14,10 @@ use Rattle.drive_sets.specs.Bools.Laws.{clash, by-test, false-of, and-intro, or
 use Rattle.drive_sets.specs.Limits.{maxSets}
 use Rattle.drive_sets.specs.Lists.{elem}
 use Rattle.drive_sets.specs.Lists.Places.{elem-getD}
-use Rattle.drive_sets.specs.Loops.Drives.{Taken, taken-bounds, taken-lt}
+use Rattle.drive_sets.specs.Loops.Drives.{Taken, taken-bounds, taken-lt, taken-other}
 use Rattle.drive_sets.specs.Masks.{has, single, union, minus, size}
 use Rattle.drive_sets.specs.Masks.Laws.{has-none, has-union, has-minus}
-use Rattle.drive_sets.specs.Masks.OneDrive.{single-has, remove-keeps}
+use Rattle.drive_sets.specs.Masks.OneDrive.{single-has}
 use Rattle.verdict_search.specs.Columns.{columnWords, hasPlace, Added, LackingTo}
 
 -- ---- a place put into the columns of some drives
@@ -68,10 +68,7 @@ module _ {old new : List ℕ} {place drives rest d others : ℕ} (w : Putting ol
       bit-has = ap (has (suc (place % 64))) (is ∙ ap single (add-one (place % 64))) ∙ single-has (suc (place % 64)) (omega arith) (omega arith)
 
       still : (i : ℕ) → has (suc i) rest ≡ true → (i ≡ d → ⊥) → has (suc i) others ≡ true
-      still i h ne =
-          let b = taken-bounds t in
-          ap (has (suc i)) (t .left ∙ ap (λ (x : ℕ). minus rest (single x)) (sym (t .first)))
-          ∙ remove-keeps (suc d) (b .0) (b .1) (suc i) rest h (λ e. ne (omega (arith, e)))
+      still i h ne = taken-other t (suc i) h (λ e. ne (omega (arith, e)))
 
 pub putting-end : {old new : List ℕ} {place drives rest : ℕ} → Putting old new place drives rest → rest ≡ 0 → Added old new place drives
 putting-end w z = record { kept = w .kept; put = λ i h. w .put i h (ap (has (suc i)) z ∙ has-none (suc i)) }

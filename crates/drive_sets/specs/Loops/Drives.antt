@@ -6,6 +6,7 @@ use mathlib.Core.List.{List, [], _∷_}
 use Prim.Native.Nat.{ℕ, _^_, _≤_, _<_}
 use Rattle.drive_sets.specs.Masks.{has, single, minus, size, lowest, drives}
 use Rattle.drive_sets.specs.Masks.Laws.{has-bounds, minus-lt, subset-has, subset-minus}
+use Rattle.drive_sets.specs.Masks.OneDrive.{remove-keeps}
 use Rattle.drive_sets.specs.Masks.Sizes.{lowest-has, drives-lowest, drives-none, lowest-removed}
 
 -- d is the lowest drive of m, and `others` has the others
@@ -41,6 +42,12 @@ module _ {m d others : ℕ} (t : Taken m d others) where
   pub taken-left : (e : ℕ) → has e others ≡ true → has e m ≡ true
   taken-left e h =
       subset-has e (minus m (single (lowest m))) m (subset-minus 64 m (single (lowest m)) (t .word)) (ap (has e) (sym (t .left)) ∙ h)
+
+  -- every drive but the one taken is left
+  pub taken-other : (e : ℕ) → has e m ≡ true → (e ≡ d → ⊥) → has e others ≡ true
+  taken-other e h ne =
+      let b = taken-bounds in
+      ap (has e) (t .left ∙ ap (λ (k : ℕ). minus m (single k)) (sym (t .first))) ∙ remove-keeps d (b .0) (b .1) e m h ne
 
 -- ---- the invariant
 
