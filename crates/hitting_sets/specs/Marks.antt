@@ -1,4 +1,4 @@
--- Sets marked by their places: the set at place 64 * i + b - 1 is marked by drive b of word i.
+-- Sets marked by their places: the set at place 64 * i + b - 1 is marked by bit b of word i, counted from 1.
 use mathlib.Core.Path.{_≡_}
 use mathlib.Core.Bool.{Bool, true, false, not}
 use mathlib.Core.List.{List}

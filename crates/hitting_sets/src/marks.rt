@@ -15,10 +15,10 @@ use survivor_tables::MAX_CORES;
 use survivor_tables::missed::next_missed;
 
 // The words in which each set has its mark.
-pub const WORDS: usize = 16;
+pub(crate) const WORDS: usize = 16;
 
 // The words of the columns of all drives.
-pub const COLUMNS: usize = 64 * WORDS;
+pub(crate) const COLUMNS: usize = 64 * WORDS;
 
 // How many words the marks of so many sets take; all that there are where the sets are too many.
 pub(crate) fn words_for(count: usize) -> usize

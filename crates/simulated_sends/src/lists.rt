@@ -5,6 +5,7 @@ ghost use mathlib.Core.List.{[], map};
 ghost use Prim.Native.Nat.{ℕ, _≤_};
 ghost use lib.ListN.{length, take, drop, getD};
 ghost use Rattle.drive_sets.specs.Lists.{elem};
+ghost use Rattle.drive_sets.specs.Lent.{bufferAfter};
 ghost use Rattle.agreement.specs.Calls.{sending};
 ghost use Rattle.agreement.specs.Canonical.{deliveries};
 ghost use Rattle.runs.specs.World.{delivers};
@@ -18,17 +19,6 @@ pub struct Due {
     pub others: u64,
     pub listeners: u64,
     pub left: u8,
-}
-
-// Nobody.
-fn nobody() -> Due
-    ensures { λ r. ⌜ dueOf r ≡ [] ⌝ }
-{
-    Due {
-        others: 0,
-        listeners: 0,
-        left: 0,
-    }
 }
 
 // The first of them; drive 0 where there is none.
@@ -79,17 +69,21 @@ pub struct Sent {
 pub fn nothing() -> Sent
     ensures { λ r. ⌜ (r .size ≡ 0) × (dueOf (r .due) ≡ []) ⌝ }
 {
-    Sent {
-        size: 0,
-        due: nobody(),
-    }
+    let due = Due {
+        others: 0,
+        listeners: 0,
+        left: 0,
+    };
+    Sent { size: 0, due }
 }
 
-// A sender's message into the buffer, for the first drives of its list; none where the send is refused.
+// A sender's message into the buffer, for the first drives of its list; none where the send is refused. Behind the
+// message the buffer is as it was, and on a refusal all of it is.
 pub fn send_from(x: Exchange, n: u8, core: u64, own: Drive, sends: u8, buf: &mut [u8]) -> Sent
     ensures calls { λ r. ⌜ map (λ e. delivers e (take (r .size) (now (buf .exit)))) (dueOf (r .due)) ≡ deliveries (sending x (length (now (buf .entry))) 0) (take sends (listFor n core (own .0))) ⌝ }
     ensures listed { λ r. ⌜ ((e : ℕ) → elem e (dueOf (r .due)) ≡ true → elem e (listFor n core (own .0)) ≡ true) ⌝ }
     ensures within { λ r. ⌜ r .size ≤ length (now (buf .entry)) ⌝ }
+    ensures lent { λ _. ⌜ now (buf .exit) ≡ bufferAfter (sending x (length (now (buf .entry))) 0) 0 (now (buf .entry)) ⌝ }
 {
     let written = sending::send(x, buf, 0);
     match written {

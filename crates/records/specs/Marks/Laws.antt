@@ -65,7 +65,7 @@ number-most WideKnown = omega arith
 number-most WideDecide = omega arith
 number-most Unknown = omega arith
 
--- a number takes two bytes where it takes some and not four
+-- a number takes four bytes, two or none
 pub number-narrow : (k : Kind) → (numberWidth k ≡ patternWidth → ⊥) → (numberWidth k ≡ narrowWidth → ⊥) → numberWidth k ≡ 0
 unfolding numberWidth
 number-narrow Frame wide narrow = refl

@@ -30,5 +30,5 @@ sent-by-spec =
       rw (← c .before .before .before .before .before .before .is-sender .ensures, not-false (c .before .before .before .before .before .before .is-sender .result) (c .before .before .before .before .before .if1 .left)) (sent .0
           ∙ (ap (λ (k : ℕ). deliveries (sending (s .args .x) k 0) (take (c .before .before .before .before .sends-made .result) list)) (s .pre .2)
           ∙ ap (deliveries (sending (s .args .x) room 0)) (sym (c .before .before .before .before .sends-made .ensures list (length-list (s .args .n) (s .args .core) (s .args .d .0) (s .pre .0) (s .pre .1)))))),
-      (sent .1 .0, omega (arith, sent .1 .1, s .pre .2)),
+      (sent .1 .0, omega (arith, sent .1 .1 .0, s .pre .2)),
     )))

@@ -20,10 +20,10 @@ send-from-spec =
     (λ c κs. search needs) (λ c. search needs) (λ c κs. search needs) (λ c. search needs) (λ c κs. search needs) (λ c κs. search needs) (λ c. search needs)
     (λ c. let none = c .nothing .ensures in let a = c .before .before .before .before .before .before .before .before .args in (
       ap (map _) (none .1) ∙ sym (wrote-nothing (a .x) _ _ _ (c .before .before .before .before .before .send .ensures) _ (c .before .enum-told .given .1) _),
-      (λ e h. absurd (clash h (ap (elem e) (none .1) ∙ elem-none e)), omega (arith, none .0)),
+      (λ e h. absurd (clash h (ap (elem e) (none .1) ∙ elem-none e)), (omega (arith, none .0), c .before .before .before .before .before .send .ensures .buffer)),
     ))
     (λ c. search needs)
     (λ c. let a = c .before .before .before .before .before .before .before .before .before .before .args in let w = wrote (a .x) _ _ _ (c .before .before .before .before .before .before .before .send .ensures) _ (c .before .before .before .written .given .1) in (
       rw (c .before .remove .ensures, c .outside .ensures) (wrote-calls (a .x) _ _ _ w _),
-      (λ e h. rw (← c .before .remove .ensures, ← c .outside .ensures) (elem-take e (a .sends) _ h), w .fits),
+      (λ e h. rw (← c .before .remove .ensures, ← c .outside .ensures) (elem-take e (a .sends) _ h), (w .fits, c .before .before .before .before .before .before .before .send .ensures .buffer)),
     )))
