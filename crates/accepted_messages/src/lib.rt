@@ -1,11 +1,10 @@
 // What a message of a core drive says of a state: whether a pattern number differs from the one known, and the state
 // after the message is accepted.
-ghost use Rattle.std.specs.Prelude.{◌≡◌, not, ◌&&◌, eqb};
-ghost use Rattle.drive_sets.specs.Masks.{has};
-ghost use Rattle.drive_states.specs.Messages.{sender_of, content_of};
-ghost use Rattle.agreement.specs.Calls.{lower, announcing};
+ghost use Rattle.std.specs.Prelude.{◌≡◌};
+ghost use Rattle.drive_states.specs.Messages.{entries_in, sender_of, content_of, message_of};
+ghost use Rattle.agreement.specs.Calls.{any_differs, lower, announcing, accept};
+ghost use Rattle.drive_sets.specs.Refusals.{refuse_if, result};
 ghost use Rattle.exchange.specs.Replies.{Replied};
-ghost use Rattle.accepted_messages.specs.Taking.{taking};
 
 use drive_sets::{Answer, Drive, Pattern, Refusal};
 use drive_states::{Announcement, Exchange};
@@ -13,9 +12,11 @@ use exchange::{Reply, refused};
 use messages::reading;
 use records::Kind;
 
+mod entries;
+
 // The announcement of the lower-numbered sender.
 fn lower(announced: Announcement, d: Drive, v: Pattern) -> Announcement
-    ensures { result ≡ lower announced d.0 v.0 }
+    ensures* { λ r. ⌜ r ≡ lower announced d.0 v.0 ⌝ }
 {
     match announced {
         Announcement::Absent => Announcement::By(d, v),
@@ -30,7 +31,7 @@ fn lower(announced: Announcement, d: Drive, v: Pattern) -> Announcement
 
 // A DC or DW announces a decision.
 fn announcing(announced: Announcement, kind: Kind, s: &[u8]) -> Announcement
-    ensures { result ≡ announcing announced (sender_of s.now) (content_of kind s.now) }
+    ensures* { λ r. ⌜ r ≡ announcing announced (sender_of s.now) (content_of kind s.now) ⌝ }
 {
     if reading::is_known(kind) {
         return announced;
@@ -42,79 +43,37 @@ fn announcing(announced: Announcement, kind: Kind, s: &[u8]) -> Announcement
     )
 }
 
-// The drive's number is known, and is another one.
-fn conflicts(d: Drive, known: u64, held: Pattern, v: Pattern) -> bool
-    ensures { result ≡ (has d.0 known && not (eqb held.0 v.0)) }
+// A message that meets no earlier refusal: 25 where a pattern number differs from the one known for its drive. Else
+// every accepted sender counts as heard, a KN or KW adds its drives' numbers, a DC or DW announces a decision.
+pub fn accept(kind: Kind, x: Exchange, s: &[u8]) -> Reply
+    ensures* { λ r. ⌜ Replied (refuse_if (any_differs x (entries_in (content_of kind s.now))) Refusal.PatternDiffers (result (accept x (message_of kind s.now)))) x r ⌝ }
 {
-    if !drive_sets::has(d, known) {
-        return false;
+    let mask = reading::mask_in(kind, s);
+    let told = entries::read_all(kind, x, mask, s);
+    if told.differs {
+        return refused(x, Refusal::PatternDiffers);
     }
-    held.0 != v.0
-}
-
-// The state with the parts that a message changes.
-fn changed(
-    x: Exchange,
-    heard: u64,
-    known: u64,
-    numbers: [Pattern; 64],
-    announced: Announcement,
-) -> Exchange
-    ensures { result ≡ record { n = x.n; own = x.own; core = x.core; round = x.round; before = x.before; heard = heard; known = known; start = x.start; numbers = numbers; announced = announced; decision = x.decision; halted = x.halted } }
-{
     let own = x.own;
     let round = x.round;
+    let numbers = told.numbers;
+    let before = x.announced;
     let decision = x.decision;
-    Exchange {
+    let heard = drive_sets::insert(x.heard, reading::sender_of(s));
+    let announced = announcing(before, kind, s);
+    let state = Exchange {
         n: x.n,
         own,
         core: x.core,
         round,
         before: x.before,
         heard,
-        known,
+        known: x.known | mask,
         start: x.start,
         numbers,
         announced,
         decision,
         halted: x.halted,
-    }
-}
-
-// A message that meets no earlier refusal: 25 where a pattern number differs from the one known for its drive. Else
-// every accepted sender counts as heard, a KN or KW adds its drives' numbers, a DC or DW announces a decision. The
-// entries are each drive of the mask, the lowest first, with the next bytes. They are walked here: numbers that go from
-// function to function are copied.
-pub fn accept(kind: Kind, x: Exchange, s: &[u8]) -> Reply
-    ensures { Replied (taking x s.now kind) x result }
-{
-    let mask = reading::mask_in(kind, s);
-    let width = records::number_width(kind);
-    let mut numbers = x.numbers;
-    let mut differs = false;
-    let mut values = records::rest(s, 12);
-    let mut m = mask;
-    while m != 0 {
-        let d = drive_sets::lowest(m);
-        let i = d.0;
-        let place = (i - 1) as usize;
-        let v = records::pattern_at(values, 0, kind);
-        let held = numbers[place];
-        if conflicts(d, x.known, held, v) {
-            differs = true;
-        }
-        numbers[place] = v;
-        m = drive_sets::without_lowest(m);
-        let next = records::rest(values, width);
-        values = next;
-    }
-    if differs {
-        return refused(x, Refusal::PatternDiffers);
-    }
-    let heard = drive_sets::insert(x.heard, reading::sender_of(s));
-    let before = x.announced;
-    let announced = announcing(before, kind, s);
-    let state = changed(x, heard, x.known | mask, numbers, announced);
+    };
     Reply {
         answer: Answer::Accepted,
         state,

@@ -22,7 +22,7 @@ use Rattle.core_search.specs.Found.{Found}
 use Rattle.core_search.specs.Found.Laws.{found_listed}
 use Rattle.drive_sets.specs.Lent.{size_written, buffer_after}
 use Rattle.drive_sets.specs.Lent.Laws.{first_places}
-use Rattle.survivor_tables.specs.Order.{sort, normal}
+use Rattle.survivor_tables.specs.Order.{sort, by_size, normal}
 use Rattle.set_orders.specs.Sorting.{precedes}
 use Rattle.normal_forms.specs.NormalForms.{normal_list, form_outcome}
 use Rattle.survivor_tables.specs.Order.Sort.{length_sort}
@@ -32,7 +32,7 @@ use Rattle.survivor_tables.specs.declared.frames.MaskKind.{MaskKind}
 use Rattle.survivor_tables.specs.declared.frames.MaskKind.TheVariants.{SurvivorSet}
 use Rattle.survivor_tables.specs.declared.frames.Table.{Table}
 use Rattle.drive_sets.specs.Limits.{max_sets, max_cores}
-use Rattle.survivor_tables.specs.Tables.{is_empty, core_order, cores, within_core_limit, checked_masks, checked_sets, normal_table}
+use Rattle.survivor_tables.specs.Tables.{is_empty, cores, within_core_limit, checked_masks, checked_sets, normal_table}
 use Rattle.survivor_tables.specs.Tables.Laws.{masks_checked}
 use Rattle.complete_tables.specs.Complete.{sets_of, with_cores, complete_normal, complete_sets, complete_table}
 
@@ -61,15 +61,15 @@ module _ (sets : List ℕ) (most : length sets ≤ max_sets) (form : NormalForm)
 
 -- ---- the cores
 
-core_order_law : precedes BySize ≡ core_order
+by_size_law : precedes BySize ≡ by_size
 unfolding precedes
-core_order_law = refl
+by_size_law = refl
 
 module _ (n : ℕ) {part out out' : List ℕ} {found : ℕ} (table : List ℕ) (e : part ≡ table) (room : length out ≡ max_cores)
     (f : Found (precedes BySize) part out out' found) where
   core_count : length (cores table) ≡ length (minimals part)
   unfolding cores
-  core_count = length_sort core_order (minimals table) ∙ ap (λ (l : List ℕ). length (minimals l)) (sym e)
+  core_count = length_sort by_size (minimals table) ∙ ap (λ (l : List ℕ). length (minimals l)) (sym e)
 
   pub too_many : max_cores < found → refused (number TooManyCores) ≡ complete_normal n table
   unfolding complete_normal
@@ -79,7 +79,7 @@ module _ (n : ℕ) {part out out' : List ℕ} {found : ℕ} (table : List ℕ) (
   unfolding complete_normal with_cores cores
   completed h =
       ap (λ (c : List ℕ). result (record { n = n; sets = table; cores = c }))
-      (found_listed f (omega arith) ∙ ap₂ (λ (b : ℕ → ℕ → Bool) (l : List ℕ). sort b (minimals l)) core_order_law e)
+      (found_listed f (omega arith) ∙ ap₂ (λ (b : ℕ → ℕ → Bool) (l : List ℕ). sort b (minimals l)) by_size_law e)
       ∙ rw (le-ltb max_cores (length (cores table)) (omega (arith, f.total, core_count)))
 
 pub complete_normal_law : (n : ℕ) (sets : List ℕ) → complete_normal n (normal sets) ≡ complete_sets n sets

@@ -12,7 +12,7 @@ use fault_lists::{fault_list, faults_from_table};
 use lent_bytes::Writing;
 use survivor_tables::MAX_SETS;
 use survivor_tables::frames::{MaskKind, Table};
-use table_files::reading::read_all;
+use table_files::reading::read_listed;
 use table_writing::write_list;
 use tables::calls::SetList;
 
@@ -61,14 +61,19 @@ pub fn read_faults(s: &[u8]) -> FaultsRead
     ensures* r_value { λ r. ⌜ faults_outcome r ≡ read_faults s.now ⌝ }
     ensures* within { λ r. ⌜ FaultsWithin r ⌝ }
 {
-    let listed = read_all(s, MaskKind::FaultGroup);
+    let listed = read_listed(s, MaskKind::FaultGroup);
     let answer = listed.answer;
     let table = listed.table;
     let groups = table.sets;
     let count = table.count;
     match answer {
         Answer::Refused(r) => refused(r),
-        Answer::Accepted => finish(table.n, &groups[0..count]),
+        Answer::Accepted => {
+            if listed.used < s.len() {
+                return refused(Refusal::TrailingBytes);
+            }
+            finish(table.n, &groups[0..count])
+        }
     }
 }
 

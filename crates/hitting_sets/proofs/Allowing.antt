@@ -4,14 +4,14 @@ use mathlib.Core.Path.{◌≡◌, refl, sym, ap, ap₂, ◌∙◌, subst}
 use mathlib.Core.Bool.{Bool, true, false, not, ◌&&◌, ◌||◌}
 use mathlib.Core.Logic.{◌↔◌}
 use mathlib.Core.List.{List, ◌∷◌}
-use Prim.Native.Nat.{ℕ, suc, ◌+◌, ◌-◌, ◌*◌, ◌/◌, ◌%◌, ◌^◌, ◌≤◌, ◌<◌}
+use Prim.Native.Nat.{ℕ, ◌+◌, ◌-◌, ◌*◌, ◌/◌, ◌%◌, ◌^◌, ◌≤◌, ◌<◌}
 use native.Mathlib.Nat.{sub-zero}
 use native.Mathlib.Omega.{arith}
 use lib.Bits.{and_zero_r}
-use lib.Dec.{eqb, leb}
+use lib.Dec.{eqb}
 use lib.ListN.{length, get_or, take, drop, length-take}
-use lib.Seq.{get_or-take}
-use borrow.Author.Tests.{eqb-true, eq-eqb, leb-true, not-true}
+use lib.Seq.{get_or-take, get_or-drop}
+use borrow.Author.Tests.{eqb-true, eq-eqb}
 use Rattle.drive_sets.specs.Bools.Laws.{clash, same_test, true_of, and_intro, and_left, and_right}
 use Rattle.drive_sets.specs.Lists.{elem}
 use Rattle.drive_sets.specs.Lists.Laws.{elem_filter}
@@ -21,28 +21,9 @@ use Rattle.drive_sets.specs.Masks.Laws.{has_union, has_common, has_minus, has_bo
 use Rattle.drive_sets.specs.Masks.OneDrive.{has_lone, shared_has}
 use Rattle.drive_sets.specs.Masks.Sizes.{size_single}
 use Rattle.drive_sets.specs.Loops.Drives.{Taken, taken_left, Walk, walk_start, walk_turn, walk_end}
-use Rattle.look_ahead.specs.LookAhead.{in_all, privates, forbidden}
-use Rattle.look_ahead.specs.LookAhead.Forbidden.{in_all_has, in_all_lacks}
-use Rattle.set_columns.specs.Columns.{Columns}
-use Rattle.hitting_sets.specs.Marks.{Marked, InMarked, Apart}
-use Rattle.hitting_sets.proofs.Tracking.{column_marked}
-
--- the marked sets that share no drive with c, among the first places
-pub apart_is : (sets once : List ℕ) (next first c far : ℕ) → next < length sets → far < 2 ^ 64 → ((b : ℕ) → 1 ≤ b → b ≤ 64 → has b first ≡ leb (64 * 0 + b) next)
-    → ((b : ℕ) → 1 ≤ b → b ≤ 64 → has b far ≡ (has b (common (get_or once 0 0) first) && not (meets (get_or sets (64 * 0 + b - 1) 0) c)))
-    → Apart (take (next - 0) sets) once far c
-apart_is sets once next first c far inside far_lt places f b h =
-    let bounds = has_bounds 64 b far far_lt h in
-    let s = get_or sets (64 * 0 + b - 1) 0 in
-    let both = sym (f b bounds.0 bounds.1) ∙ h in
-    let marks = sym (has_common b (get_or once 0 0) first) ∙ and_left (has b (common (get_or once 0 0) first)) (not (meets s c)) both in
-    let before = leb-true (64 * 0 + b) next (sym (places b bounds.0 bounds.1) ∙ and_right (has b (get_or once 0 0)) (has b first) marks) in
-    let there : b - 1 ≡ 64 * 0 + b - 1 = omega arith in (
-      and_left (has b (get_or once 0 0)) (has b first) marks,
-      omega (arith, before, bounds.0, length-take (next - 0) sets),
-      ap (λ (x : ℕ). meets x c) (get_or-take (next - 0) sets (b - 1) 0 (omega (arith, before, bounds.0)) ∙ ap (λ (p : ℕ). get_or sets p 0) there)
-          ∙ not-true (meets s c) (and_right (has b (common (get_or once 0 0) first)) (not (meets s c)) both),
-    )
+use Rattle.hitting_sets.specs.LookAhead.{in_all, privates, forbidden}
+use Rattle.hitting_sets.specs.LookAhead.Forbidden.{in_all_has, in_all_lacks}
+use Rattle.hitting_sets.specs.Marks.{Marked, Columns, InMarked, Apart}
 
 module _ (sets : List ℕ) (next m : ℕ) (words : ℕ) (columns once : List ℕ) (m_lt : m < 2 ^ 64) (inside : next < length sets) (few : words ≤ 16) (enough : length sets ≤ 64 * words)
     (by_drive : Columns columns sets) (marked : Marked words once sets (λ s. eqb (size (common s m)) 1)) (once-lt : (i : ℕ) → get_or once i 0 < 2 ^ 64) where
@@ -52,26 +33,42 @@ module _ (sets : List ℕ) (next m : ℕ) (words : ℕ) (columns once : List ℕ
   seen_length : length seen ≡ next
   seen_length = omega (arith, length-take (next - 0) sets)
 
-  module _ (k : ℕ) (k_lt : k < 64) (i-m : has (suc k) m ≡ true) (column : List ℕ) (column-is : column ≡ drop (16 * k) columns) where
-    abbrev d : ℕ
-    d = suc k
+  -- the sets that are marked in no column of c share no drive with it
+  pub apart_is : (c far : ℕ) → c < 2 ^ 64
+      → ((b : ℕ) → has b far ≡ true → (has b (get_or once 0 0) ≡ true) × (b ≤ next) × ((x : ℕ) → has x c ≡ true → has b (get_or columns (16 * (x - 1)) 0) ≡ false))
+      → Apart seen once far c
+  apart_is c far c_lt f b h =
+      let w = f b h in
+      let bounds = has_bounds 64 b (get_or once 0 0) (once-lt 0) w.0 in (
+        w.0,
+        omega (arith, w.1, bounds.0, seen_length),
+        λ x i.
+            let xb = has_bounds 64 x c c_lt i in
+            let k = 16 * (x - 1) in
+            let same : 16 * (x - 1) + 0 ≡ 16 * (x - 1) = omega arith in
+            let there : 64 * 0 + b - 1 ≡ b - 1 = omega arith in
+            ap (has x) (get_or-take (next - 0) sets (b - 1) 0 (omega (arith, w.1, bounds.0)) ∙ ap (λ (p : ℕ). get_or sets p 0) (sym there))
+            ∙ (sym ((by_drive x xb.0 xb.1).each 0 b (omega arith) bounds.0 bounds.1)
+            ∙ (ap (has b) (get_or-drop k columns 0 0 ∙ ap (λ (p : ℕ). get_or columns p 0) same) ∙ w.2 x i)),
+      )
 
+  module _ (d : ℕ) (low : 1 ≤ d) (high : d ≤ 64) (i-m : has d m ≡ true) (column : List ℕ) (column-is : column ≡ drop (16 * (d - 1)) columns) where
     abbrev word : ℕ → ℕ
     word i = common (get_or once i 0) (get_or column i 0)
 
     private_test : (s : ℕ) → (eqb (size (common s m)) 1 && has d s) ≡ eqb (common s m) (single d)
     private_test s =
         same_test (eqb (size (common s m)) 1 && has d s) (eqb (common s m) (single d))
-        (λ h. sym (has_lone d (omega arith) k_lt (common s m) (common_lt_right 64 s m m_lt) (eqb-true (size (common s m)) 1 (and_left (eqb (size (common s m)) 1) (has d s) h)))
+        (λ h. sym (has_lone d low high (common s m) (common_lt_right 64 s m m_lt) (eqb-true (size (common s m)) 1 (and_left (eqb (size (common s m)) 1) (has d s) h)))
         ∙ (has_common d s m ∙ and_intro (and_right (eqb (size (common s m)) 1) (has d s) h) i-m))
         (λ h. let e = eqb-true (common s m) (single d) h in
-        and_intro (eq-eqb (size (common s m)) 1 (ap size e ∙ size_single d (omega arith) k_lt)) (shared_has d (omega arith) k_lt s m e).0)
+        and_intro (eq-eqb (size (common s m)) 1 (ap size e ∙ size_single d low high)) (shared_has d low high s m e).0)
 
     -- the marks in both are the private sets of d
     marks_private : (i b : ℕ) → 1 ≤ b → b ≤ 64 → 64 * i + b - 1 < next → has b (word i) ≡ eqb (common (get_or seen (64 * i + b - 1) 0) m) (single d)
     marks_private i b b-low b-high lt =
         has_common b (get_or once i 0) (get_or column i 0)
-        ∙ (ap₂ (λ (x y : Bool). x && y) (marked.each i b (omega arith) b-low b-high) ((column_marked by_drive k k_lt column column-is).each i b (omega arith) b-low b-high)
+        ∙ (ap₂ (λ (x y : Bool). x && y) (marked.each i b (omega arith) b-low b-high) (ap (λ (l : List ℕ). has b (get_or l i 0)) column-is ∙ (by_drive d low high).each i b (omega arith) b-low b-high)
         ∙ (private_test (get_or sets (64 * i + b - 1) 0) ∙ ap (λ (s : ℕ). eqb (common s m) (single d)) (sym (get_or-take (next - 0) sets (64 * i + b - 1) 0 (omega arith)))))
 
     module _ (x : ℕ) (x-low : 1 ≤ x) (x-high : x ≤ 64) where

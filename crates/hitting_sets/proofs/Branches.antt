@@ -15,9 +15,9 @@ use Rattle.drive_sets.specs.Masks.Sizes.{drives_none}
 use Rattle.survivor_tables.specs.Hitting.{Minimal, for_each, search}
 use Rattle.drive_sets.specs.Masks.Frames.{below_places}
 use Rattle.survivor_tables.specs.Hitting.SearchLaws.{below_now}
-use Rattle.look_ahead.specs.LookAhead.Forbidden.{free_minimal, search_free}
-use Rattle.look_ahead.specs.LookAhead.CannotExtend.{cannot_extend_search}
-use Rattle.look_ahead.specs.LookAhead.{forbidden, cannot_extend}
+use Rattle.hitting_sets.specs.LookAhead.Forbidden.{free_minimal, search_free}
+use Rattle.hitting_sets.specs.LookAhead.CannotExtend.{cannot_extend_search}
+use Rattle.hitting_sets.specs.LookAhead.{forbidden, cannot_extend}
 use Rattle.hitting_sets.specs.Candidates.{Candidates}
 
 -- m is a minimal hitting set of the sets before i, and misses the set at i

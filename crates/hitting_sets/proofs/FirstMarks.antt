@@ -18,6 +18,7 @@ use Rattle.drive_sets.specs.Loops.Scan.{drop_next}
 use Rattle.drive_sets.specs.Masks.{has, meets, lowest}
 use Rattle.drive_sets.specs.Masks.Laws.{has_none}
 use Rattle.drive_sets.specs.Masks.Sizes.{lowest_has, lowest_least}
+use Rattle.drive_sets.specs.Loops.Drives.{lowest_bounds}
 use Rattle.survivor_tables.specs.Hitting.{hits, missed_from}
 use Rattle.survivor_tables.specs.Hitting.Laws.{hits_meets}
 use Rattle.hitting_sets.specs.Marks.{Marked}
@@ -75,14 +76,17 @@ module _ (sets : List ℕ) (m : ℕ) where
     pub met_word : word ≡ 0 → MetBefore (64 * (i + 1))
     met_word z = subst MetBefore (omega arith) (met_more 64 (omega arith) (λ b h. absurd (clash h (ap (has b) z ∙ has_none b))))
 
-    -- j is the index of the lowest bit
-    module _ (w-lt : get_or missed i 0 < 2 ^ 64) (some : word ≡ 0 → ⊥) (j : ℕ) (j-lt : j < 64) (j-is : suc j ≡ lowest word) where
-      pub met_to : MetBefore (64 * i + j)
-      met_to = met_more j (omega arith) (λ x h. let least = lowest_least x word w-lt h in omega (arith, least, j-is))
+    -- `at` is the place of the lowest bit
+    module _ (w-lt : get_or missed i 0 < 2 ^ 64) (some : word ≡ 0 → ⊥) (d at : ℕ) (d-is : d ≡ lowest word) (at-is : at ≡ 64 * i + (d - 1)) where
+      pub met_to : MetBefore at
+      met_to =
+          let b = lowest_bounds w-lt some d-is in
+          subst MetBefore (sym at-is) (met_more (d - 1) (omega (arith, b.1)) (λ x h. let least = lowest_least x word w-lt h in omega (arith, least, d-is, b.0)))
 
-      pub missed_there : meets (get_or sets (64 * i + j) 0) m ≡ false
+      pub missed_there : meets (get_or sets at 0) m ≡ false
       missed_there =
-          let there : 64 * i + suc j - 1 ≡ 64 * i + j = omega arith in
-          not-true (meets (get_or sets (64 * i + j) 0) m)
+          let b = lowest_bounds w-lt some d-is in
+          let there : 64 * i + d - 1 ≡ at = omega (arith, at-is, b.0) in
+          not-true (meets (get_or sets at 0) m)
           (ap (λ (x : ℕ). not (meets (get_or sets x 0) m)) (sym there)
-          ∙ (sym (k.each i (suc j) lt (omega arith) j-lt) ∙ (ap (λ (x : ℕ). has x word) j-is ∙ lowest_has word w-lt some)))
+          ∙ (sym (k.each i d lt b.0 b.1) ∙ (ap (λ (x : ℕ). has x word) d-is ∙ lowest_has word w-lt some)))

@@ -10,10 +10,10 @@ use lib.Dec.{eqb}
 use lib.ListN.{length, get_or}
 use borrow.Author.Tests.{eqb-true, eqb-false}
 use Rattle.drive_sets.specs.Bools.Laws.{clash, by_test, and_intro, and_left, and_right}
-use Rattle.drive_sets.specs.Masks.{has, common, lowest}
+use Rattle.drive_sets.specs.Masks.{has, common}
 use Rattle.drive_sets.specs.Masks.Laws.{has_none, has_common}
 use Rattle.drive_sets.specs.Masks.Sizes.{lowest_least}
-use Rattle.drive_sets.specs.Loops.Drives.{Taken, taken_has, taken_lt, taken_left, taken_other}
+use Rattle.drive_sets.specs.Loops.Drives.{Taken, taken_has, taken_bounds, taken_lt, taken_left, taken_other}
 use Rattle.hitting_sets.specs.Marks.{InMarked}
 
 -- ---- one word
@@ -27,33 +27,30 @@ cutting_start sets base word c h = record { left = h; each = λ x. (λ w. w, λ 
 
 module _ {sets : List ℕ} {base word c rest all : ℕ} (y : Cutting sets base word c rest all) where
   -- `at` is the place of the lowest mark
-  module _ {j others : ℕ} (t : Taken rest (suc j) others) where
-    abbrev at : ℕ
-    at = base + j
-
+  module _ {e others : ℕ} (t : Taken rest e others) (at : ℕ) (at-is : at ≡ base + (e - 1)) where
     pub cutting_turn : at < length sets → Cutting sets base word c others (common all (get_or sets at 0))
     cutting_turn lt = record {
       left = taken_lt t 64 y.left;
       each = λ x. (λ w. (y.each x).0 (back x w), λ w. on x ((y.each x).1 w));
     }
       where
-        here : base + suc j - 1 ≡ at
-        here = omega arith
+        here : base + e - 1 ≡ at
+        here = omega (arith, at-is, (taken_bounds t).0)
 
         back : (x : ℕ) → (has x (common all (get_or sets at 0)) ≡ true) × InMarked sets base others x → (has x all ≡ true) × InMarked sets base rest x
         back x w =
             let both = sym (has_common x all (get_or sets at 0)) ∙ w.0 in (
               and_left (has x all) (has x (get_or sets at 0)) both,
               λ k h inside.
-                  by_test (eqb k (suc j))
-                  (λ q. ap (λ (z : ℕ). has x (get_or sets z 0)) (ap (λ (z : ℕ). base + z - 1) (eqb-true k (suc j) q) ∙ here) ∙ and_right (has x all) (has x (get_or sets at 0)) both)
-                  (λ q. w.1 k (taken_other t k h (eqb-false k (suc j) q)) inside),
+                  by_test (eqb k e)
+                  (λ q. ap (λ (z : ℕ). has x (get_or sets z 0)) (ap (λ (z : ℕ). base + z - 1) (eqb-true k e q) ∙ here) ∙ and_right (has x all) (has x (get_or sets at 0)) both)
+                  (λ q. w.1 k (taken_other t k h (eqb-false k e q)) inside),
             )
 
         on : (x : ℕ) → (has x all ≡ true) × InMarked sets base rest x → (has x (common all (get_or sets at 0)) ≡ true) × InMarked sets base others x
         on x w = (
           has_common x all (get_or sets at 0)
-              ∙ and_intro w.0 (ap (λ (z : ℕ). has x (get_or sets z 0)) (sym here) ∙ w.1 (suc j) (taken_has t) (omega (arith, lt))),
+              ∙ and_intro w.0 (ap (λ (z : ℕ). has x (get_or sets z 0)) (sym here) ∙ w.1 e (taken_has t) (omega (arith, here))),
           λ k h inside. w.1 k (taken_left t k h) inside,
         )
 
@@ -61,8 +58,14 @@ module _ {sets : List ℕ} {base word c rest all : ℕ} (y : Cutting sets base w
   cutting_done none x = (λ h. (y.each x).0 (h, none x h), λ w. ((y.each x).1 w).0)
 
   -- the lowest mark is behind the last set, or there is none, or no drive is left
-  pub cutting_past : {j : ℕ} → suc j ≡ lowest rest → length sets ≤ base + j → (x : ℕ) → (has x all ≡ true) ↔ ((has x c ≡ true) × InMarked sets base word x)
-  cutting_past first le = cutting_done (λ x h k i inside. absurd (omega (arith, lowest_least k rest y.left i, first)))
+  pub cutting_past : {e others : ℕ} → Taken rest e others → (at : ℕ) → at ≡ base + (e - 1) → length sets ≤ at
+      → (x : ℕ) → (has x all ≡ true) ↔ ((has x c ≡ true) × InMarked sets base word x)
+  cutting_past {e} t at at-is le = cutting_done (λ x h k i inside.
+      let low : e ≤ k = ap_least k i in
+      absurd (omega (arith, low, at-is, (taken_bounds t).0)))
+    where
+      ap_least : (k : ℕ) → has k rest ≡ true → e ≤ k
+      ap_least k i = omega (arith, lowest_least k rest y.left i, t.first)
 
   pub cutting_end : rest ≡ 0 → (x : ℕ) → (has x all ≡ true) ↔ ((has x c ≡ true) × InMarked sets base word x)
   cutting_end z = cutting_done (λ x h k i inside. absurd (clash i (ap (has k) z ∙ has_none k)))

@@ -10,7 +10,6 @@ use lib.ListN.{length, get_or, take, drop, drop_of_length-le, length-drop}
 use lib.Seq.{take-suc, drop-cons, get_or-drop}
 use borrow.Author.Tests.{eqb-true, eqb-false}
 use Rattle.drive_sets.specs.Bools.Laws.{by_test}
-use Rattle.drive_sets.specs.declared.Position.{Position}
 use Rattle.drive_sets.specs.declared.Position.TheVariants.{None, At}
 use Rattle.drive_sets.specs.Lists.FirstFailing.{failing_none, failing_at}
 use Rattle.drive_sets.specs.Lists.Laws.{all_elem}
@@ -35,10 +34,10 @@ module _ (sets : List ℕ) (pos m : ℕ) where
   at_place : (j i : ℕ) → pos + j ≡ i → meets (get_or sets i 0) m ≡ meets (get_or (drop pos sets) j 0) m
   at_place j i e = ap (λ (x : ℕ). meets (get_or sets x 0) m) (sym e) ∙ ap (λ (s : ℕ). meets s m) (sym (get_or-drop pos sets j 0))
 
-  pub missed_next : (k : ℕ) {r : Position} → r ≡ missed_from (pos + 1) (drop pos sets) m → r ≡ At k
+  pub missed_next : (k : ℕ) → missed_from (pos + 1) (drop pos sets) m ≡ At k
       → (1 ≤ k) × (k - 1 < length sets) × Met sets pos m (k - 1) × (meets (get_or sets (k - 1) 0) m ≡ false)
-  missed_next k found h =
-      let f = failing_at (λ s. meets s m) (pos + 1) (drop pos sets) k (sym found ∙ h) in
+  missed_next k h =
+      let f = failing_at (λ s. meets s m) (pos + 1) (drop pos sets) k h in
       let long = length-drop pos sets in
       let met : Met sets pos m (k - 1) = record {
         from = omega (arith, f.at);
@@ -47,9 +46,9 @@ module _ (sets : List ℕ) (pos m : ℕ) where
       } in
       (omega (arith, f.at), omega (arith, f.at, f.within, long), met, at_place f.place (k - 1) (omega (arith, f.at)) ∙ f.there)
 
-  pub none_next : pos ≤ length sets → {r : Position} → r ≡ missed_from (pos + 1) (drop pos sets) m → r ≡ None → Met sets pos m (length sets)
-  none_next le found h =
-      let all_met = (failing_none (λ s. meets s m) (pos + 1) (drop pos sets)).0 (sym found ∙ h) in
+  pub none_next : pos ≤ length sets → missed_from (pos + 1) (drop pos sets) m ≡ None → Met sets pos m (length sets)
+  none_next le h =
+      let all_met = (failing_none (λ s. meets s m) (pos + 1) (drop pos sets)).0 h in
       record {
         from = le;
         within = le_refl (length sets);

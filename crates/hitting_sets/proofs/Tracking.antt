@@ -1,7 +1,7 @@
 -- The marks of the sets that m misses, and of those that it meets in one drive alone: word by word, as a drive is
 -- added.
 use mathlib.Core.Path.{◌≡◌, refl, sym, ap, ap₂, ◌∙◌, subst}
-use mathlib.Core.Bool.{Bool, true, false, not, ◌&&◌, ◌||◌, not-not}
+use mathlib.Core.Bool.{Bool, true, false, not, ◌&&◌, ◌||◌}
 use mathlib.Core.Logic.{⊎_elim}
 use mathlib.Core.List.{List}
 use Prim.Native.Nat.{ℕ, suc, ◌+◌, ◌-◌, ◌*◌, ◌^◌, ◌≤◌, ◌<◌}
@@ -10,23 +10,19 @@ use native.Mathlib.Omega.{arith}
 use lib.Bits.{and_zero_r}
 use lib.Dec.{eqb}
 use lib.ListN.{length, get_or, drop, set, replicate, length-set, length-drop, get_or-replicate}
-use lib.Seq.{get_or-set_same, get_or-set_other, get_or-drop}
+use lib.Seq.{get_or-set_same, get_or-set_other}
 use borrow.Author.Tests.{eqb-true, eqb-false, eq-eqb}
 use Rattle.drive_sets.specs.Bools.Laws.{clash, by_test, same_test, and_intro, and_left, and_right, or_cases, or_left, or_right}
 use Rattle.drive_sets.specs.Masks.{has, single, full, union, common, minus, meets, size}
 use Rattle.drive_sets.specs.Masks.Laws.{has_none, has_union, has_common, has_minus, has_ext, has_meets, meets_has, meets_sym, common_lt_right, minus_lt, full_has}
 use Rattle.drive_sets.specs.Masks.OneDrive.{insert_has, insert_keeps, insert_cases, insert_lt, remove_keeps, remove_has}
 use Rattle.drive_sets.specs.Masks.Sizes.{size_none, none_size, size_remove}
-use Rattle.set_columns.specs.Columns.{Columns}
-use Rattle.hitting_sets.specs.Marks.{Marked, Tracked}
+use Rattle.hitting_sets.specs.Marks.{Columns, Tracked}
 
 -- ---- the columns
 
-pub column_marked : {columns sets : List ℕ} → Columns columns sets → (k : ℕ) → k < 64 → (column : List ℕ) → column ≡ drop (16 * k) columns → Marked 16 column sets (has (suc k))
-column_marked {columns} cs k k_lt column e = record {
-  room = omega (arith, cs.room, ap length e, length-drop (16 * k) columns);
-  each = λ i b i_lt low high. ap (has b) (ap (λ (l : List ℕ). get_or l i 0) e ∙ get_or-drop (16 * k) columns i 0) ∙ cs.each k i b k_lt i_lt low high;
-}
+pub columns_room : (columns sets : List ℕ) → Columns columns sets → 1024 ≤ length columns
+columns_room columns sets k = let room = (k 64 (omega arith) (omega arith)).room in omega (arith, room, length-drop 1008 columns)
 
 -- ---- no drive: it misses every set, and shares a drive with none
 
@@ -116,7 +112,11 @@ module _ (m d s : ℕ) (word : m < 2 ^ 64) (low : 1 ≤ d) (high : d ≤ 64) (ne
 
   missed_none : not (meets s m) ≡ eqb (common s m) 0
   unfolding meets common
-  missed_none = not-not (eqb (common s m) 0)
+  missed_none = twice (eqb (common s m) 0)
+    where
+      twice : (b : Bool) → not (not b) ≡ b
+      twice true = refl
+      twice false = refl
 
   only_second : (a b : Bool) → ((a && false) || (b && true)) ≡ b
   only_second true true = refl
@@ -147,13 +147,13 @@ module _ (m d s : ℕ) (word : m < 2 ^ 64) (low : 1 ≤ d) (high : d ≤ 64) (ne
       only_first false false = refl
 
 pub tracked_more : {n : ℕ} {columns sets : List ℕ} {m : ℕ} {missed once : List ℕ} → Tracked n columns sets m missed once
-    → (j : ℕ) → j < 64 → m < 2 ^ 64 → has (suc j) m ≡ false → (column : List ℕ) → column ≡ drop (16 * j) columns
+    → (d : ℕ) → 1 ≤ d → d ≤ 64 → m < 2 ^ 64 → has d m ≡ false → (column : List ℕ) → column ≡ drop (16 * (d - 1)) columns
     → (left alone : List ℕ) → n ≤ length left → n ≤ length alone
     → ((i : ℕ) → i < n → get_or left i 0 ≡ minus (get_or missed i 0) (get_or column i 0))
     → ((i : ℕ) → i < n → get_or alone i 0 ≡ union (minus (get_or once i 0) (get_or column i 0)) (common (get_or missed i 0) (get_or column i 0)))
-    → (t : ℕ) → t ≡ union m (single (suc j)) → Tracked n columns sets t left alone
-tracked_more {n} {columns} {sets} {m} {missed} {once} k j j-lt word new column e left alone left-room alone-room left_is alone-is t t_is =
-    subst (λ (x : ℕ). Tracked n columns sets x left alone) (sym t_is) (record {
+    → (t : ℕ) → t ≡ union m (single d) → Tracked n columns sets t left alone
+tracked_more {n} {columns} {sets} {m} {missed} {once} k d low high word new column e left alone left-room alone-room left_is alone-is t t-is =
+    subst (λ (x : ℕ). Tracked n columns sets x left alone) (sym t-is) (record {
       few = k.few;
       by_drive = k.by_drive;
       misses = record {
@@ -162,7 +162,7 @@ tracked_more {n} {columns} {sets} {m} {missed} {once} k j j-lt word new column e
             ap (has b) (left_is i i_lt)
             ∙ (has_minus b (get_or missed i 0) (get_or column i 0)
             ∙ (ap₂ (λ (x y : Bool). x && not y) (k.misses.each i b i_lt b-low b-high) (held i b i_lt b-low b-high)
-            ∙ misses_more m (suc j) (get_or sets (64 * i + b - 1) 0) word (omega arith) j-lt new));
+            ∙ misses_more m d (get_or sets (64 * i + b - 1) 0) word low high new));
       };
       shares_one = record {
         room = alone-room;
@@ -174,9 +174,9 @@ tracked_more {n} {columns} {sets} {m} {missed} {once} k j j-lt word new column e
             ∙ (ap₂ (λ (x y : Bool). x || y) (has_minus b (get_or once i 0) here) (has_common b (get_or missed i 0) here)
             ∙ (ap₂ (λ (x y : Bool). (x && not (has b here)) || (y && has b here)) (k.shares_one.each i b i_lt b-low b-high) (k.misses.each i b i_lt b-low b-high)
             ∙ (ap (λ (x : Bool). (eqb (size (common s m)) 1 && not x) || (not (meets s m) && x)) (held i b i_lt b-low b-high)
-            ∙ once_more m (suc j) s word (omega arith) j-lt new))));
+            ∙ once_more m d s word low high new))));
       };
     })
   where
-    held : (i b : ℕ) → i < n → 1 ≤ b → b ≤ 64 → has b (get_or column i 0) ≡ has (suc j) (get_or sets (64 * i + b - 1) 0)
-    held i b i_lt = (column_marked k.by_drive j j-lt column e).each i b (omega (arith, k.few))
+    held : (i b : ℕ) → i < n → 1 ≤ b → b ≤ 64 → has b (get_or column i 0) ≡ has d (get_or sets (64 * i + b - 1) 0)
+    held i b i_lt b-low b-high = ap (λ (l : List ℕ). has b (get_or l i 0)) e ∙ (k.by_drive d low high).each i b (omega (arith, k.few)) b-low b-high

@@ -6,7 +6,6 @@ use mathlib.Core.List.{List, [], ◌∷◌, ◌++◌}
 use Prim.Native.Nat.{ℕ, suc, ◌+◌, ◌-◌, ◌*◌, ◌^◌, ◌≤◌, ◌<◌}
 use native.Mathlib.Nat.{le_refl}
 use native.Mathlib.Omega.{arith}
-use native.Mathlib.Numerals.{add-one}
 use lib.Dec.{leb, ltb}
 use lib.ListN.{length, get_or, take, drop, set, length-append}
 use borrow.Author.Tests.{leb-true, ltb-true, leb-false, ltb-false}
@@ -75,25 +74,22 @@ try_start out few c fresh w le = record {
 
 module _ {limited : Bool} {fuel : ℕ} {sets : List ℕ} {m i : ℕ} {out₀ out : List ℕ} {count found left rest : ℕ} (y : Trying limited fuel sets m i out₀ out count found left rest) where
   -- t is m with the lowest drive, and `next` has the others
-  module _ {k next : ℕ} (w : Taken rest (suc k) next) (t : ℕ) (q : t ≡ union m (single (k + 1))) where
-    t_is : t ≡ union m (single (suc k))
-    t_is = q ∙ ap (λ (d : ℕ). union m (single d)) (add-one k)
-
+  module _ {d next : ℕ} (w : Taken rest d next) (t : ℕ) (q : t ≡ union m (single d)) where
     pub try_minimal : Minimal (take (i + 1) sets) t
-    try_minimal = subst (Minimal (take (i + 1) sets)) (sym t_is) (y.minimal (suc k) (taken_has w))
+    try_minimal = subst (Minimal (take (i + 1) sets)) (sym q) (y.minimal d (taken_has w))
 
     -- the marks once the drive is added
-    pub try_tracked : m < 2 ^ 64 → {n : ℕ} {columns missed once : List ℕ} → Tracked n columns sets m missed once → (column : List ℕ) → column ≡ drop (16 * k) columns
+    pub try_tracked : m < 2 ^ 64 → {n : ℕ} {columns missed once : List ℕ} → Tracked n columns sets m missed once → (column : List ℕ) → column ≡ drop (16 * (d - 1)) columns
         → (left alone : List ℕ) → n ≤ length left → n ≤ length alone
         → ((i : ℕ) → i < n → get_or left i 0 ≡ minus (get_or missed i 0) (get_or column i 0))
         → ((i : ℕ) → i < n → get_or alone i 0 ≡ union (minus (get_or once i 0) (get_or column i 0)) (common (get_or missed i 0) (get_or column i 0)))
         → Tracked n columns sets t left alone
-    try_tracked m_lt tracked column e left alone room room' l r =
-        tracked_more tracked k (taken_bounds w).1 m_lt (y.new (suc k) (taken_has w)) column e left alone room room' l r t t_is
+    try_tracked m_lt k column e left alone room room' l r =
+        let b = taken_bounds w in tracked_more k d b.0 b.1 m_lt (y.new d (taken_has w)) column e left alone room room' l r t q
 
     lists : Each sets (i + 1) m (drives rest) ≡ From sets t (i + 1) ++ Each sets (i + 1) m (drives next)
     unfolding for_each
-    lists = ap (Each sets (i + 1) m) (taken_drives w) ∙ ap (λ (z : ℕ). From sets z (i + 1) ++ Each sets (i + 1) m (drives next)) (sym t_is)
+    lists = ap (Each sets (i + 1) m) (taken_drives w) ∙ ap (λ (x : ℕ). From sets x (i + 1) ++ Each sets (i + 1) m (drives next)) (sym q)
 
     try_on : 0 < left → {o : List ℕ} {found' left' : ℕ} → Searched limited left out o found found' left' (From sets t (i + 1)) → length o ≡ length out
         → Trying limited fuel sets m i out₀ o count found' left' next

@@ -1,15 +1,19 @@
 // Sets marked by their places, for the search: the set at place 64 * i + j by bit j of word i. The first 1024 sets have
 // places; where there are more the search looks at the sets themselves.
-ghost use Rattle.std.specs.Prelude.{◌≡◌, true, not, ◌&&◌, ◌↔◌, List, ℕ, ◌+◌, ◌-◌, ◌*◌, ◌≤◌, ◌<◌, length, get_or, take, drop};
+ghost use Rattle.std.specs.Prelude.{◌≡◌, true, false, not, ◌&&◌, ◌||◌, ◌↔◌, ℕ, ◌+◌, ◌-◌, ◌*◌, ◌≤◌, ◌<◌, eqb, length, get_or, take, drop, replicate};
 ghost use Rattle.drive_sets.specs.Masks.{has, union, common, minus, meets};
 ghost use Rattle.survivor_tables.specs.Hitting.{hits, missed_from};
-ghost use Rattle.set_columns.specs.Columns.{Columns};
-ghost use Rattle.hitting_sets.specs.Marks.{Marked, InMarked, Apart};
+ghost use Rattle.hitting_sets.specs.Marks.{Marked, Columns, InMarked, Apart};
 
-use drive_sets::Position;
-use set_columns::{WORDS, lowest_index};
+use drive_sets::{Drive, Position};
 use survivor_tables::MAX_CORES;
 use survivor_tables::missed::next_missed;
+
+// The words in which each set has its mark.
+pub(crate) const WORDS: usize = 16;
+
+// The words of the columns of all drives.
+pub(crate) const COLUMNS: usize = 64 * WORDS;
 
 // How many words the marks of so many sets take; all that there are where the sets are too many.
 pub(crate) fn words_for(count: usize) -> usize
@@ -21,13 +25,51 @@ pub(crate) fn words_for(count: usize) -> usize
     (count + 63) / 64
 }
 
-// The marks of the sets that hold drive k + 1: its column.
-pub(crate) fn column(columns: &[u64], k: usize) -> &[u64]
-    requires { (k < 64) × (1024 ≤ length columns.now) }
-    ensures { result.now ≡ drop (16 * k) columns.now }
+// The place of drive d.
+pub(crate) fn place(d: Drive) -> usize
+    requires { (1 ≤ d.0) × (d.0 ≤ 64) }
+    ensures { (result ≡ d.0 - 1) × (result < 64) }
 {
-    let start = WORDS * k;
+    let n = d.0;
+    (n - 1) as usize
+}
+
+// ---- the sets that hold a drive
+
+// The marks of the sets that hold drive d: its column.
+pub(crate) fn column(columns: &[u64], d: Drive) -> &[u64]
+    requires { (1 ≤ d.0) × (d.0 ≤ 64) × (1024 ≤ length columns.now) }
+    ensures { result.now ≡ drop (16 * (d.0 - 1)) columns.now }
+{
+    let start = WORDS * place(d);
     &columns[start..]
+}
+
+// A set, marked by `bit` of word i in the columns of its drives.
+fn mark(columns: &mut [u64], set: u64, i: usize, bit: u64)
+    requires { (i < 16) × (1024 ≤ length columns.old) }
+    ensures { (d j b : ℕ) → 1 ≤ d → d ≤ 64 → j < 16 → has b (get_or columns.new (16 * (d - 1) + j) 0) ≡ (has b (get_or columns.old (16 * (d - 1) + j) 0) || (has d set && (eqb j i && has b bit))) }
+{
+    let mut rest = set;
+    while rest != 0 {
+        let d = drive_sets::lowest(rest);
+        let k = WORDS * place(d) + i;
+        columns[k] = columns[k] | bit;
+        rest = drive_sets::without_lowest(rest);
+    }
+}
+
+// The columns of all drives, from empty ones.
+pub(crate) fn fill(columns: &mut [u64], sets: &[u64])
+    requires { columns.old ≡ replicate 1024 0 }
+    ensures { Columns columns.new sets.now }
+{
+    let mut at = 0;
+    while at < sets.len() && at < MAX_CORES {
+        let bit = drive_sets::single(Drive((at % 64 + 1) as u8));
+        mark(columns, sets[at], at / 64, bit);
+        at += 1;
+    }
 }
 
 // ---- the sets that m misses, and those that it meets in one drive
@@ -73,7 +115,7 @@ pub(crate) fn next_marked(
     while i < words {
         let word = missed[i];
         if word != 0 {
-            let at = 64 * i + lowest_index(word);
+            let at = 64 * i + place(drive_sets::lowest(word));
             if at < sets.len() {
                 return Position::At(at + 1);
             }
@@ -94,7 +136,7 @@ fn shared_in_word(sets: &[u64], base: usize, word: u64, c: u64) -> u64
     let mut rest = word;
     let mut all = c;
     while rest != 0 && all != 0 {
-        let at = base + lowest_index(rest);
+        let at = base + place(drive_sets::lowest(rest));
         if sets.len() <= at {
             return all;
         }
@@ -118,16 +160,26 @@ fn shared(sets: &[u64], column: &[u64], once: &[u64], c: u64) -> u64
     all
 }
 
-// Of the first 64 sets, as far as the word marks them, those that share no drive with c: they are in none of its
-// columns.
-pub(crate) fn apart(columns: &[u64], word: u64, c: u64) -> u64
-    requires { 1024 ≤ length columns.now }
-    ensures { (sets : List ℕ) → Columns columns.now sets → (b : ℕ) → 1 ≤ b → b ≤ 64 → has b result ≡ (has b word && not (meets (get_or sets (64 * 0 + b - 1) 0) c)) }
+// The marks of the first n places of the first word.
+fn first_places(n: usize) -> u64
+    ensures { (b : ℕ) → has b result ≡ true → b ≤ n }
 {
-    let mut far = word;
+    if n < 64 {
+        return drive_sets::full(n as u8);
+    }
+    0xffff_ffff_ffff_ffff
+}
+
+// Of the first n sets, as far as the word marks them, those that share no drive with c: they are in none of its columns.
+pub(crate) fn apart(columns: &[u64], word: u64, n: usize, c: u64) -> u64
+    requires { 1024 ≤ length columns.now }
+    ensures { (b : ℕ) → has b result ≡ true → (has b word ≡ true) × (b ≤ n) × ((x : ℕ) → has x c ≡ true → has b (get_or columns.now (16 * (x - 1)) 0) ≡ false) }
+{
+    let mut far = word & first_places(n);
     let mut rest = c;
     while rest != 0 && far != 0 {
-        far = drive_sets::minus(far, columns[WORDS * lowest_index(rest)]);
+        let k = WORDS * place(drive_sets::lowest(rest));
+        far = drive_sets::minus(far, columns[k]);
         rest = drive_sets::without_lowest(rest);
     }
     far

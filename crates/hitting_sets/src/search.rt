@@ -1,19 +1,111 @@
 // The search for the minimal hitting sets: Berge's method, depth first, with fuel and, where asked, with look-ahead.
-// Each is found once; a call goes one drive deeper, so the calls are at most 64 deep, and no list of candidates grows.
-ghost use Rattle.std.specs.Prelude.{◌≡◌, true, false, ◌&&◌, ℕ, ◌+◌, ◌≤◌, ◌<◌, eqb, leb, ltb, length, get_or, take, drop, set};
+// Each is found once; a call goes one drive deeper, so the calls are at most 65 deep, and no list of candidates grows.
+ghost use Rattle.std.specs.Prelude.{◌≡◌, true, false, not, ◌&&◌, ℕ, ◌+◌, ◌-◌, ◌≤◌, ◌<◌, eqb, leb, ltb, length, get_or, take, drop, set};
+ghost use Rattle.drive_sets.specs.Lists.{filter};
 ghost use Rattle.drive_sets.specs.Masks.{has, common, minus, meets, size, drives};
-ghost use Rattle.survivor_tables.specs.Hitting.{Minimal, search, minimals};
-ghost use Rattle.look_ahead.specs.LookAhead.{forbidden};
+ghost use Rattle.survivor_tables.specs.Hitting.{hits, Minimal, critical, search, minimals};
+ghost use Rattle.hitting_sets.specs.LookAhead.{in_all, privates, forbidden, covered, cannot_extend};
 ghost use Rattle.hitting_sets.specs.Candidates.{Candidates};
 ghost use Rattle.hitting_sets.specs.Fuel.{Searched};
-ghost use Rattle.set_columns.specs.Columns.{Columns};
-ghost use Rattle.hitting_sets.specs.Marks.{Marked, Tracked};
+ghost use Rattle.hitting_sets.specs.Marks.{Marked, Columns, Tracked};
 
-use crate::marks::{apart, column, next_marked, shared_quickly, take_drive, words_for};
-use drive_sets::{Drive, Position};
-use look_ahead::{cannot_extend, forbidden};
-use set_columns::{COLUMNS, WORDS, fill, first_places, lowest_index};
+use crate::marks::{
+    COLUMNS, WORDS, apart, column, fill, next_marked, place, shared_quickly, take_drive, words_for,
+};
+use drive_sets::Position;
 use set_orders::MOST_COUNT;
+
+// ---- what is forbidden
+
+// A set for each drive, at its place.
+#[derive(Drop)]
+struct ByDrive {
+    of: [u64; 64],
+}
+
+// For each drive, the drives that are in every set that is private to it in m.
+fn in_all_private(sets: &[u64], m: u64) -> ByDrive
+    ensures { (d : ℕ) → 1 ≤ d → d ≤ 64 → get_or result.of (d - 1) 0 ≡ in_all (privates sets.now m d) }
+{
+    let mut i = sets.len();
+    let mut of = [0xffff_ffff_ffff_ffff; 64];
+    while 0 < i {
+        i -= 1;
+        let s = sets[i];
+        let met = s & m;
+        if drive_sets::is_single(met) {
+            let k = place(drive_sets::lowest(met));
+            of[k] = s & of[k];
+        }
+    }
+    ByDrive { of: of }
+}
+
+// The drives outside m that are in every private set of some drive of m.
+fn forbidden(sets: &[u64], m: u64) -> u64
+    ensures { result ≡ forbidden sets.now m (drives m) }
+{
+    let all = in_all_private(sets, m);
+    let mut rest = m;
+    let mut bar = 0;
+    while rest != 0 {
+        let d = drive_sets::lowest(rest);
+        let k = place(d);
+        bar = bar | drive_sets::minus(all.of[k], m);
+        rest = drive_sets::without_lowest(rest);
+    }
+    bar
+}
+
+// ---- look-ahead
+
+// Some set that m misses has its drives outside the bar in p: it lies within the bar and p, outside m.
+fn covered(sets: &[u64], m: u64, bar: u64, p: u64) -> bool
+    ensures { result ≡ covered sets.now m bar p }
+{
+    let within = drive_sets::minus(bar | p, m);
+    let mut i = 0;
+    while i < sets.len() {
+        if drive_sets::subset(sets[i], within) {
+            return true;
+        }
+        i += 1;
+    }
+    false
+}
+
+// The drives of m that are critical among the sets that the sets ahead do not cover. That a set is covered is asked
+// last, and only of one that would add a drive: it is the dearest of the tests.
+fn critical_uncovered(sets: &[u64], ahead: &[u64], m: u64, bar: u64) -> u64
+    ensures { result ≡ critical (filter (λ s. not (covered ahead.now m bar s)) sets.now) m }
+{
+    let mut i = sets.len();
+    let mut found = 0;
+    while 0 < i {
+        i -= 1;
+        let s = sets[i];
+        let shared = s & m;
+        if !drive_sets::subset(shared, found)
+            && drive_sets::is_single(shared)
+            && !covered(ahead, m, bar, s)
+        {
+            found = shared | found;
+        }
+    }
+    found
+}
+
+// Some drive of m, which meets the first `seen` sets, has no private set that can stay private: no minimal hitting set
+// holds m. Only a set that is missed covers, so only those ahead are asked.
+fn cannot_extend(sets: &[u64], seen: usize, m: u64) -> bool
+    requires { (seen ≤ length sets.now) × (hits (take seen sets.now) m ≡ true) }
+    ensures { result ≡ cannot_extend sets.now m }
+{
+    let bar = forbidden(sets, m);
+    critical_uncovered(sets, &sets[seen..], m, bar) != m
+}
+
+// ---- the search
 
 // The drives of the set at `next`, which m misses, that the sets before it do not forbid: by the marks of the private
 // sets of each drive of m, or by the sets themselves where they are too many to be marked.
@@ -25,15 +117,14 @@ fn allowed(sets: &[u64], columns: &[u64], words: usize, next: usize, m: u64, onc
     if 64 * words < sets.len() {
         return drive_sets::minus(c, forbidden(&sets[0..next], m));
     }
-    let first = once[0] & first_places(next, 0);
-    let mut far = apart(columns, first, c);
+    let mut far = apart(columns, once[0], next, c);
     let mut rest = m;
     while rest != 0 {
-        let held = column(columns, lowest_index(rest));
-        let all = shared_quickly(&sets[0..next], held, once, far, c);
+        let d = drive_sets::lowest(rest);
+        let all = shared_quickly(&sets[0..next], column(columns, d), once, far, c);
         if all != 0 {
             c = drive_sets::minus(c, all);
-            far = apart(columns, first, c);
+            far = apart(columns, once[0], next, c);
         }
         rest = drive_sets::without_lowest(rest);
     }
@@ -126,7 +217,7 @@ fn note(ends: &mut [u64], i: usize, drives: u64) {
 // The minimal hitting sets that the search lists from m on, a minimal hitting set of the sets before `next` that misses
 // that one, put into `out` behind those found; one more than the room says that there are more. Where no fuel is left
 // some may be missing. The marks, of n words, are of the sets that m misses and of those that it meets once. A set at
-// which no branch goes on is a dead end, and counted as one. A call goes one drive deeper, so the calls are at most 64
+// which no branch goes on is a dead end, and counted as one. A call goes one drive deeper, so the calls are at most 65
 // deep; where no set is missed there is no call.
 fn search_from(
     mode: Mode,
@@ -153,9 +244,9 @@ fn search_from(
     let mut left = [0u64; WORDS];
     let mut alone = [0u64; WORDS];
     while rest != 0 && goes_on(sum, room) {
-        let k = lowest_index(rest);
-        let t = drive_sets::insert(m, Drive((k + 1) as u8));
-        let held = column(columns, k);
+        let d = drive_sets::lowest(rest);
+        let t = drive_sets::insert(m, d);
+        let held = column(columns, d);
         take_drive(held, n, missed, once, &mut left, &mut alone);
         let first = next_marked(sets, n, &left, after, t);
         match first {

@@ -16,12 +16,12 @@ use Rattle.drive_sets.specs.Masks.Laws.{subset_trans}
 use Rattle.survivor_tables.specs.Executions.{Core, Survivor, Describes}
 use Rattle.survivor_tables.specs.Executions.Laws.{core_hitting, hitting_core, survivor_set, set_survivor, survivors_describe}
 use Rattle.survivor_tables.specs.Hitting.Laws.{minimal_lt}
-use Rattle.survivor_tables.specs.Order.{normal}
+use Rattle.survivor_tables.specs.Order.{by_size, normal}
 use Rattle.survivor_tables.specs.Order.Lowest.{lowest_first, first_lowest}
-use Rattle.survivor_tables.specs.Order.Strict.{strict_irr}
+use Rattle.survivor_tables.specs.Order.Strict.{by_size_strict, by_size_cases, strict_irr}
 use Rattle.survivor_tables.specs.Order.Normal.{normal_elem, antichain_normal, holds_normal}
 use Rattle.survivor_tables.specs.Tables.{core_order, cores, chosen, Accepted}
-use Rattle.survivor_tables.specs.Tables.Laws.{core_given, sets_below, sets_word, accepted_normal, core_order_strict, core_order_cases, core_minimal, minimal_core, cores_ordered, chosen_first, some_core}
+use Rattle.survivor_tables.specs.Tables.Laws.{core_given, sets_below, sets_word, accepted_normal, core_minimal, minimal_core, cores_ordered, chosen_first, some_core}
 use Rattle.complete_tables.specs.Complete.{Complete, with_cores}
 use Rattle.promises.specs.Cores.{OrderOfCores, StrictOrder, TableSays, FirstCore, ListingDescribes, CoresOfCall, ChosenOfCall, CoresOfRead, CoresOfWhole, CoresOfSurvivors}
 use Rattle.promises.proofs.Tables.{call_table, read_table_law, whole_read}
@@ -31,16 +31,16 @@ use Rattle.promises.proofs.Tables.{call_table, read_table_law, whole_read}
 pub order_of_cores : OrderOfCores
 unfolding OrderOfCores
 order_of_cores x y = (
-  λ h. ⊎_elim (λ less. inl less) (λ same. inr (same.0, lowest_first x y same.1)) ((core_order_cases x y).0 h),
-  ⊎_elim (λ less. (core_order_cases x y).1 (inl less)) (λ same. (core_order_cases x y).1 (inr (same.0, first_lowest x y same.1.0 same.1.1))),
+  λ h. ⊎_elim (λ less. inl less) (λ same. inr (same.0, lowest_first x y same.1)) ((by_size_cases x y).0 h),
+  ⊎_elim (λ less. (by_size_cases x y).1 (inl less)) (λ same. (by_size_cases x y).1 (inr (same.0, first_lowest x y same.1.0 same.1.1))),
 )
 
 pub strict_order : StrictOrder
 unfolding StrictOrder
-strict_order = core_order_strict
+strict_order = by_size_strict
 
 size_le : (x y : ℕ) → core_order x y ≡ true → size x ≤ size y
-size_le x y h = ⊎_elim (λ less. omega (arith, less)) (λ same. omega (arith, same.0)) ((core_order_cases x y).0 h)
+size_le x y h = ⊎_elim (λ less. omega (arith, less)) (λ same. omega (arith, same.0)) ((by_size_cases x y).0 h)
 
 -- ---- the normal table describes the executions that the sets describe
 
@@ -77,10 +77,10 @@ module _ {Φ : Type 0} (n : ℕ) (sets : List ℕ) (a : Accepted n sets) (correc
         record {
           drives = refl;
           cores = λ c. (listed_core c, core_listed c);
-          in_order = order;
-          once = ordered_distinct core_order (strict_irr core_order_strict) (cores (normal sets)) order;
+          by_size_law = order;
+          once = ordered_distinct by_size (strict_irr by_size_strict) (cores (normal sets)) order;
           only = λ l exactly o.
-              ordered_unique core_order core_order_strict.asym l (cores (normal sets)) o order
+              ordered_unique by_size by_size_strict.asym l (cores (normal sets)) o order
               (λ c. same_test (elem c l) (elem c (cores (normal sets))) (λ h. core_listed c ((exactly c).0 h)) (λ h. (exactly c).1 (listed_core c h)));
           sets = λ s. (
             set_survivor n a.high (normal sets) correct described (antichain_normal sets) s,

@@ -3,7 +3,7 @@
 ghost use Rattle.std.specs.Prelude.{◌≡◌, List, [], ℕ, ◌≤◌, length, drop};
 ghost use Rattle.drive_sets.specs.Refusals.{result, and_then};
 ghost use Rattle.records.specs.RecordLists.{step_of, read_list};
-ghost use Rattle.table_files.specs.Files.{record_of, due_after, mask_list, listed_table, read_listed, read_all};
+ghost use Rattle.table_files.specs.Files.{record_of, due_after, mask_list, listed_table, read_listed};
 ghost use Rattle.table_files.specs.Reading.{step_outcome, read_outcome, ReadWithin};
 
 use drive_sets::{Answer, Refusal};
@@ -128,24 +128,6 @@ pub fn read_listed(s: &[u8], kind: MaskKind) -> TableRead
                 return refused(Refusal::FrameSize);
             }
             read_masks(s, kind, n)
-        }
-    }
-}
-
-// The masks as they are listed, and nothing more: bytes after the end meet 7.
-pub fn read_all(s: &[u8], kind: MaskKind) -> TableRead
-    ensures* s_value { λ r. ⌜ read_outcome r s.now ≡ read_all kind (λ u. result u) s.now ⌝ }
-    ensures* within { λ r. ⌜ ReadWithin r s.now ⌝ }
-{
-    let listed = read_listed(s, kind);
-    let answer = listed.answer;
-    match answer {
-        Answer::Refused(_) => listed,
-        Answer::Accepted => {
-            if listed.used < s.len() {
-                return refused(Refusal::TrailingBytes);
-            }
-            listed
         }
     }
 }

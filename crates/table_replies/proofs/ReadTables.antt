@@ -64,9 +64,9 @@ used_behind s old t e =
 pub table_held : (t : TableWithCores) (s rest : List ℕ) → complete_outcome t ≡ table_read (read_complete s) → rest ≡ rest_after (read_complete s) s
     → TableHeld t.answer t.table (length s - length rest) s (read_table s)
 table_held t s rest e f = record {
-  refusal = λ r h. table_refused t s e h;
+  refusal = λ r h. table_refused t s s rest e f h;
   rest = rest;
-  table = λ h. table_behind t s e s f h;
+  table = λ h. table_behind t s s rest e f h;
   took = λ h. refl;
 }
 

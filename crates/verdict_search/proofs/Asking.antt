@@ -1,50 +1,29 @@
--- The loops that ask: the most drives that a set lacks, the drive that the most sets hold, and whether each set has a
--- drive of m.
+-- The loops that ask: the drive that the fewest sets lack, and the places that some columns have in common.
 use mathlib.Core.Path.{◌≡◌, sym, ap, ◌∙◌, subst}
-use mathlib.Core.Bool.{true, false, not, ◌||◌}
+use mathlib.Core.Bool.{true, false, ◌||◌}
 use mathlib.Core.Logic.{◌⊎◌, ⊎_elim}
 use mathlib.Core.List.{List}
-use Prim.Native.Nat.{ℕ, suc, ◌+◌, ◌-◌, ◌*◌, ◌^◌, ◌≤◌, ◌<◌}
+use Prim.Native.Nat.{ℕ, suc, ◌+◌, ◌*◌, ◌/◌, ◌%◌, ◌^◌, ◌<◌}
+use native.Mathlib.Nat.{add-zero}
 use native.Mathlib.Omega.{arith}
 use native.Mathlib.Numerals.{add-one}
 use lib.Bits.{bit_or}
-use lib.Dec.{eqb, leb, ltb}
-use lib.ListN.{length, get_or}
-use borrow.Author.Tests.{eqb-true, eqb-false, ltb-true, ltb-false, le-leb, not-false}
-use Rattle.drive_sets.specs.Bools.Laws.{by_test, and_not, or_false_left, or_false_right}
-use Rattle.drive_sets.specs.Limits.{max_sets}
-use Rattle.drive_sets.specs.Lists.Places.{elem_get_or}
+use lib.Dec.{ltb}
+use lib.ListN.{get_or}
+use borrow.Author.Tests.{ltb-true, ltb-false}
+use Rattle.drive_sets.specs.Bools.Laws.{clash, by_test, and_not, or_false_left, or_false_right}
 use Rattle.drive_sets.specs.Loops.Drives.{Taken, taken_has, taken_lt, taken_left}
-use Rattle.drive_sets.specs.Masks.{has, union, minus, meets, size}
-use Rattle.drive_sets.specs.Masks.Laws.{has_none, has_union, has_bounds}
-use Rattle.survivor_tables.specs.Hitting.{hits}
-use Rattle.survivor_tables.specs.Hitting.Laws.{meets_hits}
-use Rattle.set_columns.proofs.Missing.{Missing, missing_none}
-use Rattle.verdict_search.specs.Sharing.{LackAtMost}
+use Rattle.drive_sets.specs.Masks.{has, full, union, common, lowest}
+use Rattle.drive_sets.specs.Masks.Laws.{has_none, has_union, has_common, full_has, has_bounds}
+use Rattle.drive_sets.specs.Masks.Sizes.{lowest_has}
+use Rattle.verdict_search.specs.Columns.{has_place, EachMet}
 
--- ---- the most drives that a set lacks
+-- ---- the drives of a mask from the lowest on, by their indexes
 
-pub record Most (table : List ℕ) (m most place : ℕ) : Type 0 where
-  pub within : place ≤ length table
-  pub seen : (j : ℕ) → j < place → size (minus m (get_or table j 0)) ≤ most
+pub index_has : {m i : ℕ} → m < 2 ^ 64 → (m ≡ 0 → ⊥) → suc i ≡ lowest m → has (suc i) m ≡ true
+index_has {m} lt ne e = ap (λ (d : ℕ). has d m) e ∙ lowest_has m lt ne
 
-pub most_turn : {table : List ℕ} {m most place : ℕ} (most' lacking mask : ℕ) → Most table m most place → place < length table → mask ≡ minus m (get_or table place 0) → lacking ≡ size mask
-    → most ≤ most' → lacking ≤ most' → Most table m most' (place + 1)
-most_turn {table} {m} {place = place} most' lacking mask w lt p q le here = record {
-  within = omega (arith, lt);
-  seen = λ j h.
-      by_test (eqb j place)
-      (λ e. subst (λ (x : ℕ). size (minus m (get_or table x 0)) ≤ most') (sym (eqb-true j place e)) (subst (λ (x : ℕ). x ≤ most') (q ∙ ap size p) here))
-      (λ e. let old = w.seen j (let ne = eqb-false j place e in omega (arith, h)) in omega (arith, old, le));
-}
-
-pub most_end : {table : List ℕ} {m most place : ℕ} → Most table m most place → length table ≤ place → LackAtMost table m most
-most_end {table} {m} {most} w end = record {
-  few = λ s h. let at = elem_get_or s table h in subst (λ (x : ℕ). size (minus m x) ≤ most) at.2 (w.seen at.0 (omega (arith, at.1, end)));
-}
-
--- ---- the drives of m from the lowest on, of which one is chosen
-
+-- one of the drives is chosen, and the rest are to come
 pub record Choosing (m best rest : ℕ) : Type 0 where
   pub word : rest < 2 ^ 64
   pub part : (d : ℕ) → has d rest ≡ true → has d m ≡ true
@@ -63,33 +42,60 @@ choosing_turn {m} {best} {i = i} best' w t which = record {
 pub choosing_end : {m best rest : ℕ} → m < 2 ^ 64 → Choosing m best rest → (has (best + 1) m ≡ true) × (best < 64)
 choosing_end {m} {best} lt w = (ap (λ (d : ℕ). has d m) (add-one best) ∙ w.chosen, (has_bounds 64 (suc best) m lt w.chosen).1)
 
--- ---- no set is left that shares no drive with m
+-- ---- places that all the columns seen have in common
 
-module _ (table : List ℕ) (m : ℕ) where
-  -- in word i the places of all sets were marked, and no mark is left
-  met_in : {i word rest far : ℕ} → Missing table i word m rest far → ((b : ℕ) → 1 ≤ b → b ≤ 64 → has b word ≡ leb (64 * i + b) (length table)) → ((b : ℕ) → has b far ≡ false)
-      → (q : ℕ) → 64 * i ≤ q → q < 64 * i + 64 → q < length table → meets (get_or table q 0) m ≡ true
-  met_in {i} {word} y places none q from to inside =
-      let b = q + 1 - 64 * i in
-      let there : 64 * i + (q + 1 - 64 * i) - 1 ≡ q = omega arith in
-      let low : 1 ≤ q + 1 - 64 * i = omega arith in
-      let high : q + 1 - 64 * i ≤ 64 = omega arith in
-      let marked = places b low high ∙ le-leb (64 * i + b) (length table) (omega arith) in
-      not-false (meets (get_or table q 0) m)
-      (ap (λ (x : ℕ). not (meets (get_or table x 0) m)) (sym there)
-      ∙ and_not (has b word) (not (meets (get_or table (64 * i + b - 1) 0) m)) marked (missing_none y b low high (none b)))
+-- a place that is missing from the word is missing from the column of some drive of m
+abbrev pub Seen : List ℕ → ℕ → ℕ → ℕ → Type 0
+Seen columns m half word = (i : ℕ) → i < 64 → has (suc i) word ≡ false → (e : ℕ) × (has (suc e) m ≡ true) × (has (suc i) (get_or columns (2 * e + half) 0) ≡ false)
 
-  pub each_met : {low₀ high₀ rest low high : ℕ} → length table ≤ max_sets → Missing table 0 low₀ m rest low → Missing table 1 high₀ m rest high
-      → ((b : ℕ) → 1 ≤ b → b ≤ 64 → has b low₀ ≡ leb (64 * 0 + b) (length table)) → ((b : ℕ) → 1 ≤ b → b ≤ 64 → has b high₀ ≡ leb (64 * 1 + b) (length table))
-      → bit_or low high ≡ 0 → hits table m ≡ true
-  unfolding union
-  each_met {low = low} {high = high} small l h low-is high_is z =
-      meets_hits table m (λ s e.
-      let at = elem_get_or s table e in
-      ap (λ (x : ℕ). meets x m) (sym at.2)
-      ∙ by_test (ltb at.0 64)
-      (λ t. let lt = ltb-true at.0 64 t in met_in l low-is (λ b. or_false_left (has b low) (has b high) (neither b)) at.0 (omega arith) (omega (arith, lt)) at.1)
-      (λ t. let le = ltb-false at.0 64 t in met_in h high_is (λ b. or_false_right (has b low) (has b high) (neither b)) at.0 (omega (arith, le)) (omega (arith, at.1, small)) at.1))
+pub record Meeting (columns : List ℕ) (m low high rest : ℕ) : Type 0 where
+  pub word : rest < 2 ^ 64
+  pub part : (d : ℕ) → has d rest ≡ true → has d m ≡ true
+  pub lows : Seen columns m 0 low
+  pub highs : Seen columns m 1 high
+
+seen_all : (columns : List ℕ) (m half : ℕ) → Seen columns m half 0xffff_ffff_ffff_ffff
+unfolding full
+seen_all columns m half i lt e = absurd (clash (full_has (suc i) 64 (omega arith) (omega arith) lt) e)
+
+pub meeting_start : (columns : List ℕ) (m : ℕ) → m < 2 ^ 64 → Meeting columns m 0xffff_ffff_ffff_ffff 0xffff_ffff_ffff_ffff m
+meeting_start columns m lt = record { word = lt; part = λ d h. h; lows = seen_all columns m 0; highs = seen_all columns m 1 }
+
+module _ {columns : List ℕ} {m low high rest : ℕ} (d : ℕ) (w : Meeting columns m low high rest) (h : has (suc d) rest ≡ true) where
+  seen_turn : (half word : ℕ) → Seen columns m half word → Seen columns m half (common word (get_or columns (2 * d + half) 0))
+  seen_turn half word s i lt e =
+      by_test (has (suc i) word)
+      (λ p. (d, w.part (suc d) h, and_not (has (suc i) word) (has (suc i) (get_or columns (2 * d + half) 0)) p (sym (has_common (suc i) word (get_or columns (2 * d + half) 0)) ∙ e)))
+      (λ p. s i lt p)
+
+  low_turn : Seen columns m 0 (common low (get_or columns (2 * d) 0))
+  low_turn = subst (λ (i : ℕ). Seen columns m 0 (common low (get_or columns i 0))) (add-zero (2 * d)) (seen_turn 0 low w.lows)
+
+  pub meeting_turn : {others : ℕ} → Taken rest (suc d) others → Meeting columns m (common low (get_or columns (2 * d) 0)) (common high (get_or columns (2 * d + 1) 0)) others
+  meeting_turn t = record {
+    word = taken_lt t 64 w.word;
+    part = λ e i. w.part e (taken_left t e i);
+    lows = low_turn;
+    highs = seen_turn 1 high w.highs;
+  }
+
+  pub meeting_end : bit_or (common low (get_or columns (2 * d) 0)) (common high (get_or columns (2 * d + 1) 0)) ≡ 0 → EachMet columns m
+  unfolding has_place union
+  meeting_end z j lt =
+      by_test (ltb j 64)
+      (λ e. let h : j / 64 ≡ 0 = let q = ltb-true j 64 e in omega (arith, q) in
+      subst Missing (sym h) (low_turn (j % 64) (omega arith) (or_false_left _ (has (suc (j % 64)) right) neither)))
+      (λ e. let h : j / 64 ≡ 1 = let q = ltb-false j 64 e in omega (arith, q, lt) in
+      subst Missing (sym h) (seen_turn 1 high w.highs (j % 64) (omega arith) (or_false_right (has (suc (j % 64)) left) _ neither)))
     where
-      neither : (b : ℕ) → (has b low || has b high) ≡ false
-      neither b = sym (has_union b low high) ∙ (ap (has b) z ∙ has_none b)
+      left : ℕ
+      left = common low (get_or columns (2 * d) 0)
+
+      right : ℕ
+      right = common high (get_or columns (2 * d + 1) 0)
+
+      Missing : ℕ → Type 0
+      Missing half = (e : ℕ) × (has (suc e) m ≡ true) × (has (suc (j % 64)) (get_or columns (2 * e + half) 0) ≡ false)
+
+      neither : (has (suc (j % 64)) left || has (suc (j % 64)) right) ≡ false
+      neither = sym (has_union (suc (j % 64)) left right) ∙ (ap (has (suc (j % 64))) z ∙ has_none (suc (j % 64)))

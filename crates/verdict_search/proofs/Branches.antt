@@ -10,21 +10,21 @@ use native.Mathlib.Omega.{arith}
 use lib.Dec.{eqb}
 use lib.ListN.{length, get_or, drop, take, length-map, take-append-drop}
 use borrow.Author.Tests.{eqb-true, eqb-false}
-use Rattle.drive_sets.specs.Bools.Laws.{clash, by_test, and_intro, and_left, and_right}
+use Rattle.drive_sets.specs.Bools.Laws.{clash, by_test, true_of, and_intro, and_left, and_right}
 use Rattle.drive_sets.specs.Options.Laws.{by_option}
 use Rattle.drive_sets.specs.Lists.{elem, all}
 use Rattle.drive_sets.specs.Lists.Laws.{elem_head, elem_tail, elem_cases, elem_none, elem_one, elem_append_right, all_elem, all_not}
 use Rattle.drive_sets.specs.Lists.Places.{elem_get_or, without_one}
+use Rattle.drive_sets.specs.Limits.{max_sets}
 use Rattle.drive_sets.specs.Masks.{has, common, minus, size}
-use Rattle.drive_sets.specs.Masks.Laws.{has_some, has_common, has_minus, has_subset, common_lt, minus_lt, meets_has, meets_sym}
+use Rattle.drive_sets.specs.Masks.Laws.{has_some, has_common, has_minus, has_subset, common_lt, minus_lt}
 use Rattle.drive_sets.specs.Masks.Sizes.{size_none, size_minus, size_subset}
-use Rattle.survivor_tables.specs.Hitting.{hits}
-use Rattle.survivor_tables.specs.Hitting.Laws.{hits_meets}
 use Rattle.verdict_search.specs.Verdicts.{disjoint}
 use Rattle.verdict_search.specs.Verdicts.Search.{Shared, shared_more}
 use Rattle.verdict_search.specs.Verdicts.Firsts.{set_from, named_from, disjoint_first}
 use Rattle.verdict_search.specs.Meaning.{AllFrom}
-use Rattle.verdict_search.specs.Sharing.{AllShare, LackAtMost}
+use Rattle.verdict_search.specs.Columns.{Columns, EachMet}
+use Rattle.verdict_search.specs.Sharing.{AllShare}
 
 -- ---- a part of m
 
@@ -39,30 +39,39 @@ outside_part m s x lt =
     (λ d h. let both = sym (has_minus d (common m s) x) ∙ h in
     has_minus d m x ∙ and_intro (common_has d m s (and_left (has d (common m s)) (not (has d x)) both)) (and_right (has d (common m s)) (not (has d x)) both)))
 
-pub lack_part : {table : List ℕ} {most m : ℕ} (s : ℕ) → m < 2 ^ 64 → LackAtMost table m most → LackAtMost table (common m s) most
-lack_part {m = m} s lt w = record { few = λ x i. omega (arith, outside_part m s x lt, w.few x i) }
+pub columns_part : {table columns : List ℕ} {most m : ℕ} (s : ℕ) → m < 2 ^ 64 → Columns table columns most m → Columns table columns most (common m s)
+columns_part {m = m} s lt w = record {
+  room = w.room;
+  lacking = λ i j h. w.lacking i j (common_has (suc i) m s h);
+  few = λ x i. omega (arith, outside_part m s x lt, w.few x i);
+}
 
 module _ (table : List ℕ) where
   -- ---- sets that lack few drives
 
-  lack_few : (most : ℕ) (sets : List ℕ) (m : ℕ) → m < 2 ^ 64 → LackAtMost table m most → length sets * most < size m → AllFrom table sets → Shared m sets
-  lack_few most [] m lt w h from = let d = has_some 64 m lt (λ z. omega (arith, h, ap size z ∙ size_none)) in (d.0, d.1, λ s i. absurd (clash i (elem_none s)))
-  lack_few most (s ∷ sets) m lt w h from =
+  lack_few : (most : ℕ) (sets : List ℕ) (m : ℕ) → m < 2 ^ 64 → ((s : ℕ) → elem s table ≡ true → size (minus m s) ≤ most) → length sets * most < size m → AllFrom table sets → Shared m sets
+  lack_few most [] m lt few h from = let d = has_some 64 m lt (λ z. omega (arith, h, ap size z ∙ size_none)) in (d.0, d.1, λ s i. absurd (clash i (elem_none s)))
+  lack_few most (s ∷ sets) m lt few h from =
       shared_more m s (s ∷ sets) sets (λ x i. elem_cases x s sets i)
-      (lack_few most sets (common m s) (common_lt 64 m s lt) (lack_part s lt w)
-      (omega (arith, h, suc-mul (length sets) most, size_minus m s, w.few s (from s (elem_head s sets)))) (λ x i. from x (elem_tail x s sets i)))
+      (lack_few most sets (common m s) (common_lt 64 m s lt) (λ x i. omega (arith, outside_part m s x lt, few x i))
+      (omega (arith, h, suc-mul (length sets) most, size_minus m s, few s (from s (elem_head s sets)))) (λ x i. from x (elem_tail x s sets i)))
 
-  pub few_share : {most k m : ℕ} → m < 2 ^ 64 → LackAtMost table m most → k * most < size m → AllShare k table m
-  few_share {most = most} {m = m} lt w h sets count from = lack_few most sets m lt w (subst (λ (j : ℕ). j * most < size m) (sym count) h) from
+  pub few_share : {columns : List ℕ} {most k m : ℕ} → m < 2 ^ 64 → Columns table columns most m → k * most < size m → AllShare k table m
+  few_share {most = most} {m = m} lt w h sets count from = lack_few most sets m lt w.few (subst (λ (j : ℕ). j * most < size m) (sym count) h) from
 
   -- ---- one set: each has a drive of m
 
-  pub each_share : {k m : ℕ} → m < 2 ^ 64 → k ≡ 1 → hits table m ≡ true → AllShare k table m
-  each_share lt one met [] count from = absurd (omega arith)
-  each_share {m = m} lt one met (s ∷ []) count from =
-      let d = meets_has 64 m s lt (meets_sym m s ∙ hits_meets table m s met (from s (elem_head s []))) in
-      (d.0, d.1, λ x i. ap (has d.0) (elem_one x s i) ∙ d.2)
-  each_share lt one met (s ∷ t ∷ sets) count from = absurd (omega arith)
+  pub each_share : {columns : List ℕ} {most k m : ℕ} → length table ≤ max_sets → Columns table columns most m → k ≡ 1 → EachMet columns m → AllShare k table m
+  each_share small w one met [] count from = absurd (omega arith)
+  each_share {m = m} small w one met (s ∷ []) count from =
+      let at = elem_get_or s table (from s (elem_head s [])) in
+      let d = met at.0 (omega (arith, at.1)) in (
+        suc d.0,
+        d.1,
+        λ x i. ap (has (suc d.0)) (elem_one x s i ∙ sym at.2)
+            ∙ true_of (has (suc d.0) (get_or table at.0 0)) (λ e. clash (w.lacking d.0 at.0 d.1 at.1 e) d.2),
+      )
+  each_share small w one met (s ∷ t ∷ sets) count from = absurd (omega arith)
 
   -- ---- branching on a drive of m
 

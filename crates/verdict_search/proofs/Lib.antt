@@ -3,6 +3,7 @@
 pub mod Fours
 pub mod Loops
 pub mod Splitting
+pub mod Building
 pub mod Asking
 pub mod Branches
 pub mod Answers

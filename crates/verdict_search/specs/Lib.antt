@@ -1,5 +1,6 @@
--- The verdict on k, what it means, the theorems, what the code's values say, and when any k sets share a drive.
+-- The verdict on k, what it means, the theorems, what the code's values say, and the columns by which it asks first.
 pub mod Verdicts
 pub mod Meaning
 pub mod Held
+pub mod Columns
 pub mod Sharing

@@ -7,14 +7,12 @@ ghost use Rattle.verdict_search.specs.Verdicts.{sets_at, disjoint, blocks_of, ve
 ghost use Rattle.splits.specs.Splits.{fill_empty};
 ghost use Rattle.verdict_search.specs.Meaning.{in_every};
 ghost use Rattle.verdict_search.specs.Held.{verdict_of, no_verdict, answer_of, with_blocks, in_four, found_in};
-ghost use Rattle.verdict_search.specs.Sharing.{LackAtMost};
-ghost use Rattle.set_columns.specs.Columns.{Columns};
+ghost use Rattle.verdict_search.specs.Columns.{column_words, Columns};
 ghost use Rattle.drive_sets.specs.Limits.{max_sets};
 
-use crate::columns::{count_holding, most_lacking};
-use crate::sharing::{all_share, lack_few};
+use crate::columns::{COLUMN_WORDS, count_lacking, most_lacking, put_lacking};
+use crate::sharing::all_share;
 use drive_sets::Position;
-use set_columns::{COLUMNS, fill};
 use survivor_tables::MAX_SETS;
 use survivor_tables::missed::next_missed;
 
@@ -105,10 +103,10 @@ fn disjoint(
     from: usize,
     shared: u64,
 ) -> Named
-    requires { (2 ≤ k) × (length table.now ≤ max_sets) × (1024 ≤ length columns.now → Columns columns.now table.now × LackAtMost table.now shared most) }
+    requires { (2 ≤ k) × (length table.now ≤ max_sets) × (column_words ≤ length columns.now → Columns table.now columns.now most shared) }
     ensures { result ≡ found_in (disjoint k (suc from) (drop from table.now) shared) }
 {
-    if COLUMNS <= columns.len() {
+    if COLUMN_WORDS <= columns.len() {
         if all_share(k, table, columns, counts, most, shared) {
             return nothing();
         }
@@ -132,8 +130,7 @@ fn disjoint(
 }
 
 // The first k positions, not falling, whose sets have no drive of the frame in common. For two positions, or few sets,
-// the columns would cost more than they save: few sets are searched with none. Where the sets lack few drives there are
-// no such positions.
+// the columns would cost more than they save: few sets are searched with none.
 fn first_disjoint(k: u8, table: &[u64], frame: u64) -> Named
     requires { (2 ≤ k) × (length table.now ≤ max_sets) }
     ensures { result ≡ found_in (disjoint k 1 table.now frame) }
@@ -145,13 +142,10 @@ fn first_disjoint(k: u8, table: &[u64], frame: u64) -> Named
         let counts = [0u64; 64];
         return disjoint(k, table, &table[0..0], &counts, 0, 0, frame);
     }
+    let mut columns = [0u64; COLUMN_WORDS];
+    put_lacking(table, frame, &mut columns);
+    let counts = count_lacking(&columns, frame);
     let most = most_lacking(table, frame);
-    if lack_few(k, most, frame) {
-        return nothing();
-    }
-    let mut columns = [0u64; COLUMNS];
-    fill(&mut columns, table);
-    let counts = count_holding(&columns, frame);
     disjoint(k, table, &columns, &counts, most, 0, frame)
 }
 

@@ -1,6 +1,13 @@
 -- What the call gives, written.
+use mathlib.Core.Path.{ap}
+use mathlib.Core.List.{List}
+use Prim.Native.Nat.{ℕ}
+use lib.ListN.{length}
 use borrow.Author.Rules.{rules}
-use Rattle.fault_files.specs.FaultFiles.{write_faults}
+use Rattle.drive_sets.specs.Lent.{fitting}
+use Rattle.drive_sets.specs.Refusals.{Outcome, result, and_then}
+use Rattle.lent_bytes.proofs.Buffers.{written_as}
+use Rattle.fault_files.specs.FaultFiles.{fault_bytes, write_faults}
 use Rattle.fault_files.proofs.write_faults.Statement.{statement}
 use Rattle.fault_files.proofs.write_faults.Tie as tie
 
@@ -10,4 +17,4 @@ write-faults-spec =
     tie.close
     (tie.spec
     (λ c κs. search rules) (λ c κs. c.before.fault-list.ensures.1) (λ c. search rules)
-    (λ c. rw (← c.before.before.before.before.fault-list.ensures.0) c.before.before.write-groups.ensures))
+    (λ c. let a = c.before.before.before.before.before.before.before.args in written_as (ap (λ (o : Outcome (List ℕ)). and_then (and_then o (λ list. result (fault_bytes a.n list))) (fitting a.start (length a.buf.now))) c.before.before.before.before.fault-list.ensures.0) c.before.before.write-groups.ensures))

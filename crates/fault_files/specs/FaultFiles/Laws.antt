@@ -2,14 +2,15 @@
 -- it.
 use Rattle.std.specs.Prelude.{◌≡◌, not, List, [], ℕ}
 use Rattle.std.proofs.Common.{sym, ap, ◌∙◌, subst, append-nil}
+use Rattle.std.proofs.lemmas.Bool.{not-false}
 use Rattle.drive_sets.specs.declared.Refusal.TheVariants.{TrailingBytes}
 use Rattle.drive_sets.specs.Refusals.{Outcome, result, refuse_if, and_then}
-use Rattle.drive_sets.specs.Refusals.Laws.{first_result, same_result, then_then}
+use Rattle.drive_sets.specs.Refusals.Laws.{passed, first_result, same_result, then_then}
 use Rattle.survivor_tables.specs.declared.frames.MaskKind.TheVariants.{FaultGroup}
 use Rattle.survivor_tables.specs.Tables.{is_empty, within_core_limit}
 use Rattle.survivor_tables.specs.Tables.Laws.{Checked, checked_masks_law}
-use Rattle.table_files.specs.Files.{ReadTable, read_listed, read_all}
-use Rattle.table_files.specs.Files.Laws.{listed_read, listed_checked, all_listed, all_then}
+use Rattle.table_files.specs.Files.{ReadTable, read_listed}
+use Rattle.table_files.specs.Files.Laws.{empty_is, listed_read, listed_checked}
 use Rattle.fault_lists.specs.FaultLists.{rests, largest, table_from_faults, fault_list}
 use Rattle.fault_lists.specs.FaultLists.Laws.{list_again}
 use Rattle.fault_files.specs.FaultFiles.{accepted_faults, read_faults, fault_bytes}
@@ -43,8 +44,11 @@ faults_written n groups {list} e =
 pub faults_read : (s : List ℕ) {t : ReadTable} → read_faults s ≡ result t → (fault_list t.n t.sets ≡ result t.sets) × (t.rest ≡ [])
 unfolding read_faults
 faults_read s {t} e =
-    let w = first_result (read_all FaultGroup (λ u. result u) s) accepted_faults (all_then FaultGroup accepted_faults s ∙ e) in
-    let u = w.0 in
-    let all = all_listed FaultGroup s w.1 in
-    let list = first_result (fault_list u.n u.sets) (list_read u.n u.rest) (sym (accepted_list u.n u.sets u.rest (listed_checked FaultGroup s all.0)) ∙ w.2) in
-    subst (λ (r : ReadTable). (fault_list r.n r.sets ≡ result r.sets) × (r.rest ≡ [])) (same_result list.2) ((list_again u.n u.sets list.1).1, all.1)
+    let listed = first_result (read_listed FaultGroup s) (λ u. refuse_if (not (is_empty u.rest)) TrailingBytes (accepted_faults u)) e in
+    let u = listed.0 in
+    let none = passed (not (is_empty u.rest)) TrailingBytes (accepted_faults u) listed.2 in
+    let list = first_result (fault_list u.n u.sets) (list_read u.n u.rest) (sym (accepted_list u.n u.sets u.rest (listed_checked FaultGroup s listed.1)) ∙ none.1) in
+    subst (λ (r : ReadTable). (fault_list r.n r.sets ≡ result r.sets) × (r.rest ≡ [])) (same_result list.2) (
+      (list_again u.n u.sets list.1).1,
+      empty_is u.rest (not-false (is_empty u.rest) none.0),
+    )

@@ -126,8 +126,21 @@ same_model same p = record {
   );
 }
 
--- a set of drives holds one of the sets exactly if it holds one of the normal table
+-- and the other way round
 module _ (n : ℕ) (frame : n ≤ 64) (sets : List ℕ) (below : Below n sets) where
+  pub described_fails : {Φ : Type 0} (correct : Φ → ℕ) → Describes n sets correct → FailsAs n (rests n sets) (λ φ. outside n (correct φ))
+  described_fails correct d = record {
+    within = λ φ. outside_lt n (correct φ);
+    in_group = λ φ.
+        let s = any_elem (λ s. subset s (correct φ)) sets (d.holds_set φ) in
+        any_intro (subset (outside n (correct φ))) (rests n sets) (outside n s.0) (elem_rests n s.0 sets s.1) (rest_subset n frame s.0 (correct φ) (below s.0 s.1) ∙ s.2);
+    occurs = λ g e.
+        let s = rests_elem n g sets e in
+        let w = d.occurs s.0 s.1 in
+        (w.0, ap (outside n) w.1 ∙ sym s.2);
+  }
+
+  -- a set of drives holds one of the sets exactly if it holds one of the normal table
   pub held_normal : (m : ℕ) → any (λ s. subset s m) (normal sets) ≡ any (λ s. subset s m) sets
   held_normal m =
       same_test (any (λ s. subset s m) (normal sets)) (any (λ s. subset s m) sets)

@@ -1,6 +1,6 @@
 -- Theorems of tables: the list of cores is THE list of Junqueira and Marzullo's cores, Back lists what it should and of
 -- a table's cores is the table, and what holds of the chosen core of every accepted table.
-use Rattle.std.specs.Prelude.{◌≡◌, true, false, not, ◌⊎◌, ◌↔◌, ℕ, ◌^◌, ◌≤◌, ◌<◌, eqb, leb, ltb, length}
+use Rattle.std.specs.Prelude.{◌≡◌, true, false, not, ◌⊎◌, ℕ, ◌^◌, ◌≤◌, ◌<◌, eqb, leb, ltb, length}
 use Rattle.std.proofs.Math.Path.{refl, subst}
 use Rattle.std.proofs.Common.{sym, ap, ◌∙◌, lt_of_lt_of_le, arith, pow_mono}
 use Rattle.std.proofs.Math.Logic.{⊎_elim}
@@ -11,7 +11,7 @@ use Rattle.drive_sets.specs.Bools.Laws.{clash, by_test, and_intro, and_left, and
 use Rattle.drive_sets.specs.Lists.{all, elem, ordered}
 use Rattle.drive_sets.specs.Lists.Laws.{elem_some, elem_head, elem_tail, elem_none, elem_cases, all_elem, ordered_first}
 use Rattle.drive_sets.specs.Lists.Places.{get_or_elem}
-use Rattle.drive_sets.specs.Masks.{has, single, full, common, subset, meets, size, Below}
+use Rattle.drive_sets.specs.Masks.{has, single, full, common, subset, meets, Below}
 use Rattle.drive_sets.specs.Masks.Laws.{full_lt, full_has, full_subset, has_some, has_bounds, has_meets}
 use Rattle.drive_sets.specs.Refusals.{Outcome, refused, result, refuse_if}
 use Rattle.drive_sets.specs.Refusals.Laws.{refused_no_result, passed, refused_by_law, same_result, first_result, first_refused}
@@ -22,8 +22,8 @@ use Rattle.survivor_tables.specs.Hitting.Laws.{hits_meets, meets_hits, hits_same
 use Rattle.survivor_tables.specs.Hitting.Critical.{critical_all}
 use Rattle.survivor_tables.specs.Hitting.Minimality.{minimal_critical, hitting_contains}
 use Rattle.survivor_tables.specs.Hitting.Duality.{back_of_minimals}
-use Rattle.survivor_tables.specs.Order.{by_mask, by_lowest, normal}
-use Rattle.survivor_tables.specs.Order.Strict.{Strict, by_mask_strict, by_size_strict, by_size_cases}
+use Rattle.survivor_tables.specs.Order.{by_mask, by_size, normal}
+use Rattle.survivor_tables.specs.Order.Strict.{by_mask_strict, by_size_strict}
 use Rattle.survivor_tables.specs.Hitting.Listed.{listed_minimal, minimal_listed, listed_ordered, listed_unique, listed_same}
 use Rattle.survivor_tables.specs.Order.Normal.{normal_elem, ordered_normal, antichain_normal, normal_idempotent, normal_some, length_normal}
 use Rattle.survivor_tables.specs.Hitting.Normal.{hits_normal}
@@ -237,36 +237,30 @@ module _ (n : ℕ) (sets : List ℕ) (a : Accepted n sets) where
 
 -- ---- the list of cores
 
-pub core_order_strict : Strict core_order
-core_order_strict = by_size_strict
-
-pub core_order_cases : (x y : ℕ) → (core_order x y ≡ true) ↔ ((size x < size y) ⊎ ((size x ≡ size y) × (by_lowest x y ≡ true)))
-core_order_cases = by_size_cases
-
 module _ (sets : List ℕ) (word : Below 64 sets) where
   pub core_minimal : (c : ℕ) → elem c (cores sets) ≡ true → Minimal sets c
   unfolding cores
-  core_minimal = listed_minimal core_order sets word
+  core_minimal = listed_minimal by_size sets word
 
   pub minimal_core : (c : ℕ) → Minimal sets c → elem c (cores sets) ≡ true
   unfolding cores
-  minimal_core = minimal_listed core_order sets word
+  minimal_core = minimal_listed by_size sets word
 
   -- strictly in their order: each core once
-  pub cores_ordered : ordered core_order (cores sets) ≡ true
+  pub cores_ordered : ordered by_size (cores sets) ≡ true
   unfolding cores
-  cores_ordered = listed_ordered core_order sets word core_order_strict
+  cores_ordered = listed_ordered by_size sets word by_size_strict
 
   -- it is the only such list
-  pub cores_unique : (l : List ℕ) → ordered core_order l ≡ true → ((c : ℕ) → elem c l ≡ true → Minimal sets c) → ((c : ℕ) → Minimal sets c → elem c l ≡ true)
+  pub cores_unique : (l : List ℕ) → ordered by_size l ≡ true → ((c : ℕ) → elem c l ≡ true → Minimal sets c) → ((c : ℕ) → Minimal sets c → elem c l ≡ true)
       → l ≡ cores sets
   unfolding cores
-  cores_unique = listed_unique core_order sets word core_order_strict
+  cores_unique = listed_unique by_size sets word by_size_strict
 
 -- lists that the same sets hit have the same cores
 pub cores_same_hits : (l k : List ℕ) → Below 64 l → Below 64 k → ((m : ℕ) → hits l m ≡ hits k m) → cores l ≡ cores k
 unfolding cores
-cores_same_hits = listed_same core_order core_order_strict
+cores_same_hits = listed_same by_size by_size_strict
 
 -- the order in which the sets are listed does not matter
 pub cores_same_elements : (l k : List ℕ) → Below 64 l → Below 64 k → ((x : ℕ) → elem x l ≡ elem x k) → cores l ≡ cores k
@@ -315,7 +309,7 @@ survivor_sets_dual n groups sets e =
 pub dual_cores : (n : ℕ) (sets : List ℕ) → Accepted n sets → dual (cores (normal sets)) ≡ normal sets
 unfolding dual cores
 dual_cores n sets a =
-    back_of_minimals n (normal sets) a.high (sets_below n (normal sets) (accepted_normal n sets a)) core_order (ordered_normal sets) (antichain_normal sets)
+    back_of_minimals n (normal sets) a.high (sets_below n (normal sets) (accepted_normal n sets a)) by_size (ordered_normal sets) (antichain_normal sets)
 
 -- ---- the chosen core
 

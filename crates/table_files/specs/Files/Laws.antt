@@ -9,7 +9,7 @@ use Rattle.drive_sets.specs.Lists.{elem}
 use Rattle.drive_sets.specs.Lists.Laws.{elem_head, elem_tail, elem_none, elem_one, elem_append_cases}
 use Rattle.drive_sets.specs.declared.Refusal.TheVariants.{FrameSize, TooManySets, TrailingBytes}
 use Rattle.drive_sets.specs.Refusals.{Outcome, result, refuse_if, and_then}
-use Rattle.drive_sets.specs.Refusals.Laws.{passed, first_result, same_result, then_refuse, then_same, then_assoc}
+use Rattle.drive_sets.specs.Refusals.Laws.{passed, first_result, same_result}
 use Rattle.survivor_tables.specs.Order.{normal}
 use Rattle.survivor_tables.specs.Order.Normal.{normal_idempotent}
 use Rattle.records.specs.declared.Kind.{Kind}
@@ -26,7 +26,7 @@ use Rattle.survivor_tables.specs.declared.frames.MaskKind.{MaskKind}
 use Rattle.survivor_tables.specs.declared.frames.MaskKind.TheVariants.{SurvivorSet, FaultGroup}
 use Rattle.survivor_tables.specs.Tables.{is_frame, is_empty, within_core_limit, checked_mask, Accepted}
 use Rattle.survivor_tables.specs.Tables.Laws.{frame_high, mask_lt, mask_result, Checked, checked_accepted, within_limit, accepted_checked, accepted_within_limit, accepted_normal}
-use Rattle.table_files.specs.Files.{ReadTable, record_of, due_after, taken_mask, mask_list, listed_table, read_listed, read_all, accepted, read_table, read_whole, file_bytes, table_bytes}
+use Rattle.table_files.specs.Files.{ReadTable, record_of, due_after, taken_mask, mask_list, listed_table, read_listed, accepted, read_table, read_whole, file_bytes, table_bytes}
 
 -- ---- the masks
 
@@ -199,36 +199,26 @@ read_again s t e =
 
 -- ---- a table and nothing more
 
-pub rest_kept : (u t : ReadTable) → accepted u ≡ result t → t.rest ≡ u.rest
+rest_kept : (u t : ReadTable) → accepted u ≡ result t → t.rest ≡ u.rest
 unfolding accepted
 rest_kept u t e =
     let v = first_result (within_core_limit u.sets) (λ table. result (record { n = u.n; sets = table; rest = u.rest })) e in
     ap (λ (r : ReadTable). r.rest) (sym (same_result v.2))
 
-empty_is : (l : List ℕ) → is_empty l ≡ true → l ≡ []
+pub empty_is : (l : List ℕ) → is_empty l ≡ true → l ≡ []
 unfolding is_empty
 empty_is [] e = refl
 empty_is (x ∷ l) e = absurd (clash e refl)
-
--- a list and nothing more is what is listed, and what is made of it comes last
-pub all_listed : (kind : MaskKind) (s : List ℕ) {t : ReadTable} → read_all kind (λ u. result u) s ≡ result t → (read_listed kind s ≡ result t) × (t.rest ≡ [])
-all_listed kind s e =
-    let w = first_result (read_listed kind s) (λ u. refuse_if (not (is_empty u.rest)) TrailingBytes (result u)) e in
-    let p = passed (not (is_empty w.0.rest)) TrailingBytes (result w.0) w.2 in
-    subst (λ (u : ReadTable). (read_listed kind s ≡ result u) × (u.rest ≡ [])) (same_result p.1) (w.1, empty_is w.0.rest (not-false (is_empty w.0.rest) p.0))
-
-pub all_then : (kind : MaskKind) (finish : ReadTable → Outcome ReadTable) (s : List ℕ) → and_then (read_all kind (λ u. result u) s) finish ≡ read_all kind finish s
-all_then kind finish s =
-    then_assoc (read_listed kind s) (λ u. refuse_if (not (is_empty u.rest)) TrailingBytes (result u)) finish
-    ∙ then_same (read_listed kind s) (λ u e. then_refuse (not (is_empty u.rest)) TrailingBytes u finish)
 
 -- the whole reader gives what the other gives where nothing stands behind
 pub whole_table : (s : List ℕ) (t : ReadTable) → read_whole s ≡ result t → (read_table s ≡ result t) × (t.rest ≡ [])
 unfolding read_whole read_table
 whole_table s t e =
-    let w = first_result (read_all SurvivorSet (λ u. result u) s) accepted (all_then SurvivorSet accepted s ∙ e) in
-    let all = all_listed SurvivorSet s w.1 in
-    (ap (λ (o : Outcome ReadTable). and_then o accepted) all.0 ∙ w.2, rest_kept w.0 t w.2 ∙ all.1)
+    let w = first_result (read_listed SurvivorSet s) (λ u. refuse_if (not (is_empty u.rest)) TrailingBytes (accepted u)) e in
+    let p = passed (not (is_empty w.0.rest)) TrailingBytes (accepted w.0) w.2 in (
+      ap (λ (o : Outcome ReadTable). and_then o accepted) w.1 ∙ p.1,
+      rest_kept w.0 t p.1 ∙ empty_is w.0.rest (not-false (is_empty w.0.rest) p.0),
+    )
 
 pub table_whole : (s : List ℕ) (t : ReadTable) → read_table s ≡ result t → t.rest ≡ [] → read_whole s ≡ result t
 unfolding read_whole read_table is_empty

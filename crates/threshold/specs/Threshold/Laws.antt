@@ -30,10 +30,10 @@ use Rattle.survivor_tables.specs.Order.{by_mask, sort, normal}
 use Rattle.survivor_tables.specs.Order.Lowest.{full_lowest}
 use Rattle.survivor_tables.specs.Order.Normal.{normal_fixed}
 use Rattle.survivor_tables.specs.Order.Sort.{elem_sort, length_sort, ordered_sort}
-use Rattle.survivor_tables.specs.Order.Strict.{by_mask_strict, strict_irr}
+use Rattle.survivor_tables.specs.Order.Strict.{by_mask_strict, by_size_strict, by_size_cases, strict_irr}
 use Rattle.survivor_tables.specs.declared.frames.MaskKind.TheVariants.{SurvivorSet}
 use Rattle.survivor_tables.specs.Tables.{is_frame, is_set, core_order, cores, chosen, within_core_limit, normal_table}
-use Rattle.survivor_tables.specs.Tables.Laws.{frame_high, core_order_strict, core_order_cases, core_minimal, minimal_core, cores_unique, chosen_first, set_mask, Checked, checked_masks_law}
+use Rattle.survivor_tables.specs.Tables.Laws.{frame_high, core_minimal, minimal_core, cores_unique, chosen_first, set_mask, Checked, checked_masks_law}
 use Rattle.complete_tables.specs.Complete.{with_cores, complete_table}
 use Rattle.threshold.specs.Groups.{groups, group_count}
 use Rattle.threshold.specs.Groups.Laws.{groups_sound, groups_complete, groups_ordered, full_group, some_groups, count_others}
@@ -112,7 +112,7 @@ module _ (n : ℕ) (frame : n ≤ 64) (t : ℕ) (below : t < n) where
   unfolding threshold_cores by_mask
   threshold_cores_law =
       sym (cores_unique (threshold_sets n t) sets_word (sort core_order (groups (t + 1) n))
-      (ordered_sort core_order core_order_strict (groups (t + 1) n) (ordered_distinct ltb (strict_irr by_mask_strict) (groups (t + 1) n) (groups_ordered (t + 1) n frame)))
+      (ordered_sort core_order by_size_strict (groups (t + 1) n) (ordered_distinct ltb (strict_irr by_mask_strict) (groups (t + 1) n) (groups_ordered (t + 1) n frame)))
       (λ c e. group_core c (sym (elem_sort core_order c (groups (t + 1) n)) ∙ e))
       (λ c min. elem_sort core_order c (groups (t + 1) n) ∙ core_group c min))
 
@@ -164,7 +164,7 @@ module _ (n : ℕ) (frame : n ≤ 64) (t : ℕ) (below : t < n) where
       ⊎_elim (λ same. same)
       (λ before.
       let e = core.1 ∙ sym (size_full (t + 1) (omega arith)) in
-      ⊎_elim (λ less. absurd (omega (arith, less, e))) (λ same. absurd (full_lowest (t + 1) (chosen (threshold_sets n t)) (omega arith) (word n frame _ core.0) core.1 same.1)) ((core_order_cases _ _).0 before))
+      ⊎_elim (λ less. absurd (omega (arith, less, e))) (λ same. absurd (full_lowest (t + 1) (chosen (threshold_sets n t)) (omega arith) (word n frame _ core.0) core.1 same.1)) ((by_size_cases _ _).0 before))
       (chosen_first (threshold_sets n t) sets_word (full (t + 1)) first)
     where
       first : elem (full (t + 1)) (cores (threshold_sets n t)) ≡ true

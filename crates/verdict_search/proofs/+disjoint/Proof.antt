@@ -7,7 +7,7 @@ use mathlib.Core.Path.{sym, ap, ◌∙◌}
 use Rattle.drive_sets.specs.Loops.Scan.{scan_from}
 use Rattle.drive_sets.specs.Masks.{common}
 use Rattle.verdict_search.specs.Held.{found_in}
-use Rattle.verdict_search.proofs.Branches.{lack_part, share_none}
+use Rattle.verdict_search.proofs.Branches.{columns_part, share_none}
 use Rattle.verdict_search.proofs.Loops.{Searching, pair_is, found_more, found_later, found_end}
 use Prim.Native.Nat.{ℕ, ◌-◌, ◌<◌}
 use borrow.Fn.Kinds.{In}
@@ -52,12 +52,12 @@ K t = (
 pub +disjoint-spec : {M : Type 1} → statement M
 unfolding common
 +disjoint-spec = close μ-disjoint λ t. disjoint-lts.spec (K t) (disjoint-at t) disjoint.Post disjoint-Inv-loop disjoint-μ-loop
-    (λ c κs. let w = c.before.before.before.requires.1.2 c.if1.true in (omega arith, c.before.before.before.requires.1.1, w.0, w.1)) (λ c κs. search rules)
+    (λ c κs. (omega arith, c.before.before.before.requires.1.1, c.before.before.before.requires.1.2 c.if1.true)) (λ c κs. search rules)
     (λ c. let a = c.before.before.before.before.before.before.args in c.nothing.ensures ∙ ap found_in (sym (share_none a.table.now a.k a.from a.shared c.before.before.before.before.before.before.ranges.shared.fits (c.before.before.all_Share.ensures c.before.if2.true))))
     (λ c κs. search rules)
     (λ c. let a = c.before.before.before.before.before.args in pair_is a.table.now a.k a.from a.shared _ c.before.if3.true c.first-pair.ensures)
     (λ c. scan_from _ _ _) (λ c. search rules) (λ c. search rules) (λ c. search rules)
-    (λ c κs. (omega arith, (omega arith, c.before.before.before.before.before.before.before.requires.1.1, λ h. let w = c.before.before.before.before.before.before.before.requires.1.2 h in (w.0, lack_part _ c.before.before.before.before.before.before.before.ranges.shared.fits w.1))))
+    (λ c κs. (omega arith, (omega arith, c.before.before.before.before.before.before.before.requires.1.1, λ h. columns_part _ c.before.before.before.before.before.before.before.ranges.shared.fits (c.before.before.before.before.before.before.before.requires.1.2 h))))
     (λ c. search rules) (λ c. search rules) (λ c. search rules) (λ c. search rules) (λ c. search rules)
     (λ c. let a = c.before.before.before.before.before.before.before.before.before.before.args in found_more a.k (a.k - 1) a.table.now a.from a.shared c.before.before.before.before.before.loop.i (omega arith) c.before.before.before.before.before.loop.invariant c.before.before.disjoint.result c.before.before.before.before.loop-test.true c.before.before.disjoint.ensures c.before.if4.true)
     (λ c. search rules) (λ c. search rules)

@@ -13,7 +13,8 @@ use Rattle.drive_sets.specs.Masks.{has, outside, subset}
 use Rattle.drive_sets.specs.Masks.Laws.{not_meets, subset_has}
 use Rattle.drive_sets.specs.Masks.Outside.{subset_outside}
 use Rattle.survivor_tables.specs.Hitting.Duality.{Cores, cores_minimals, holds_core_or_complement}
-use Rattle.survivor_tables.specs.Tables.{core_order, cores, Accepted}
+use Rattle.survivor_tables.specs.Order.{by_size}
+use Rattle.survivor_tables.specs.Tables.{cores, Accepted}
 use Rattle.survivor_tables.specs.Tables.Laws.{sets_below}
 use Rattle.splits.specs.Splits.{Split, block_of, Parted, PartOf, fill_empty}
 use Rattle.splits.specs.Splits.Moves.{length_fill, fill_keeps, fill_ends}
@@ -29,7 +30,7 @@ module _ (n : ℕ) (table : List ℕ) (accepted : Accepted n table) where
 
   table_cores : Cores n table (cores table)
   unfolding cores
-  table_cores = cores_minimals n table accepted.high (sets_below n table accepted) core_order
+  table_cores = cores_minimals n table accepted.high (sets_below n table accepted) by_size
 
   -- a block that a set of the table misses holds no core
   pub missed_no_core : (b s : ℕ) → b < 2 ^ n → elem s table ≡ true → ((d : ℕ) → has d b ≡ true → has d s ≡ false) → holds_core table b ≡ false

@@ -1,51 +1,44 @@
 -- The marks that are in no column of c: its drives from the lowest on.
-use mathlib.Core.List.{List}
-use mathlib.Core.Path.{sym, ap, ◌∙◌}
-use Prim.Native.Nat.{ℕ, ◌^◌, ◌<◌}
-use native.Mathlib.Nat.{add-zero}
-use native.Mathlib.Omega.{arith}
+use mathlib.Core.Path.{ap}
+use Prim.Native.Nat.{ℕ, ◌*◌}
 use borrow.Author.Rules.{rules}
 use borrow.Author.Tests.{eqb-true, not-false}
-use Rattle.drive_sets.specs.Loops.Drives.{taken, taken_fewer}
-use Rattle.drive_sets.specs.Masks.{has, size}
-use Rattle.drive_sets.specs.Masks.Laws.{has_none}
-use Rattle.set_columns.specs.Columns.{Columns}
-use Rattle.set_columns.proofs.Missing.{Missing, missing_start, missing_turn, missing_end, missing_none}
+use Rattle.drive_sets.specs.Loops.Drives.{taken, lowest_bounds, taken_fewer}
+use Rattle.drive_sets.specs.Masks.{common, size}
+use Rattle.hitting_sets.proofs.FarMarks.{Sparing, sparing_start, sparing_turn, sparing_end, sparing_none}
 use Rattle.hitting_sets.proofs.marks.apart.Statement.{statement}
 use Rattle.hitting_sets.proofs.marks.apart.Tie as tie
 
 abbrev invariant-loop : tie.invariant-loop
-invariant-loop columns word c far₀ rest₀ far rest = (rest < 2 ^ 64) × ((sets : List ℕ) → Columns columns sets → Missing sets 0 word c rest far)
+invariant-loop columns word n c far₀ rest₀ far rest = Sparing columns word n c rest far
 
 abbrev decreases-loop : tie.decreases-loop
-decreases-loop columns word c far₀ rest₀ far rest = size rest
+decreases-loop columns word n c far₀ rest₀ far rest = size rest
 
 loop-holds : tie.Need-loop-init invariant-loop decreases-loop
-loop-holds c = (c.before.ranges.c.fits, λ sets columns. missing_start _ _ _ _ c.before.ranges.c.fits)
+unfolding common
+loop-holds c = sparing_start _ _ _ _ _ c.before.before.ranges.c.fits c.first_places.ensures
+
+place-requires : tie.Need-place-requires invariant-loop decreases-loop
+place-requires c κs = lowest_bounds c.before.before.before.loop.invariant.left c.before.before.loop-test.true c.lowest.ensures
 
 loop-less : tie.Need-loop-smaller invariant-loop decreases-loop
-loop-less c =
-    let some = c.before.before.before.before.before.loop-test.true in
-    taken_fewer (taken c.before.before.before.before.before.before.loop.invariant.0 some (c.before.before.before.lowest-index.ensures.1 some) c.without-lowest.ensures)
+loop-less c = taken_fewer (taken c.before.before.before.before.before.before.before.loop.invariant.left c.before.before.before.before.before.before.loop-test.true c.before.before.before.before.lowest.ensures c.without-lowest.ensures)
 
 loop-again : tie.Need-loop-preserved invariant-loop decreases-loop
 loop-again c =
-    let y = c.before.before.before.before.before.before.loop.invariant in
-    let some = c.before.before.before.before.before.loop-test.true in (
-      c.without-lowest.type-inv,
-      λ sets columns.
-          missing_turn (y.1 sets columns) columns (omega arith) (taken y.0 some (c.before.before.before.lowest-index.ensures.1 some) c.without-lowest.ensures) _ _ (sym (add-zero _)) c.before.minus.ensures,
-    )
+    let y = c.before.before.before.before.before.before.before.loop.invariant in
+    sparing_turn y (taken y.left c.before.before.before.before.before.before.loop-test.true c.before.before.before.before.lowest.ensures c.without-lowest.ensures) _ _ (ap (λ (p : ℕ). 16 * p) c.before.before.before.place.ensures.0) c.before.minus.ensures
 
 returns : tie.Need-returns invariant-loop decreases-loop
-returns c = λ sets columns b low high. let none = ap (has b) (eqb-true _ 0 (not-false _ c.if1.false)) ∙ has_none b in none ∙ sym (missing_none (c.before.before.loop.invariant.1 sets columns) b low high none)
+returns c = sparing_none c.before.before.loop.invariant (eqb-true _ 0 (not-false _ c.if1.false))
 
 returns-2 : tie.Need-returns-2 invariant-loop decreases-loop
-returns-2 c = λ sets columns b low high. missing_end (c.before.loop.invariant.1 sets columns) b low high c.loop-test.false
+returns-2 c = sparing_end c.before.loop.invariant c.loop-test.false
 
 pub apart-spec : {M : Type 1} → statement M
 apart-spec =
     tie.close
     (tie.spec
-    invariant-loop decreases-loop loop-holds (λ c κs. search rules) (λ c. search rules) (λ c. search rules)
+    invariant-loop decreases-loop (λ c κs. search rules) loop-holds (λ c κs. search rules) place-requires (λ c. search rules) (λ c. search rules)
     (λ c. search rules) (λ c κs. search rules) (λ c κs. search rules) loop-less loop-again returns returns-2)

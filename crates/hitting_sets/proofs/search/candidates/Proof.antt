@@ -7,10 +7,13 @@ use Rattle.hitting_sets.proofs.Branches.{free_candidates, free_new, cannot_exten
 use Rattle.hitting_sets.proofs.search.candidates.Statement.{statement}
 use Rattle.hitting_sets.proofs.search.candidates.Tie as tie
 
+cannot-extend-requires : tie.Need-cannot-extend-requires
+cannot-extend-requires c κs = (search rules, c.before.before.before.before.requires.1.all_met)
+
 returns : tie.Need-returns
 returns c =
     let start = c.before.before.before.before.before.before in (
-      cannot_extend_candidates start.args.sets.now start.args.next start.args.m (λ k. (c.before.before.before.before.before.shared-slice-known.given k).fits) start.requires.0 start.requires.1 start.requires.2 (sym (c.before.cannot-extend.ensures (search rules) start.requires.1.all_met) ∙ c.if2.true),
+      cannot_extend_candidates start.args.sets.now start.args.next start.args.m (λ k. (c.before.before.before.before.before.shared-slice-known.given k).fits) start.requires.0 start.requires.1 start.requires.2 (sym c.before.cannot-extend.ensures ∙ c.if2.true),
       λ d h. absurd (clash h (has_none d)),
     )
 
@@ -26,4 +29,4 @@ returns-2 c =
     )
 
 pub candidates-spec : {M : Type 1} → statement M
-candidates-spec = tie.close (tie.spec (λ c κs. search rules) returns allowed-requires returns-2)
+candidates-spec = tie.close (tie.spec cannot-extend-requires returns allowed-requires returns-2)

@@ -1,16 +1,15 @@
 -- The drives one after the other, each with the drives of its list; one that is no sender changes nothing.
 use mathlib.Core.Path.{◌≡◌, refl, sym, ap, ◌∙◌}
-use mathlib.Core.Logic.{⊎_elim}
 use mathlib.Core.List.{map}
 use Prim.Native.Nat.{ℕ, ◌-◌}
 use native.Mathlib.Nat.{sub-zero}
 use native.Mathlib.Omega.{arith}
-use lib.ListN.{length, take, set}
+use lib.ListN.{length, take}
 use Rattle.runs.specs.World.{delivers}
 use Rattle.runs.specs.World as worlds
 use Rattle.agreement.specs.Document01.{apply_all}
 use Rattle.simulated_sends.specs.States.{world_of, due_of}
-use Rattle.simulated_rounds.proofs.Deliveries.{list_drives, Delivering, deliver_end, deliver_bounds, deliver_fewer, deliver_turn, kept_at}
+use Rattle.simulated_rounds.proofs.Deliveries.{list_drives, Delivering, deliver_end, deliver_bounds, deliver_fewer, deliver_turn}
 use Rattle.simulated_rounds.proofs.SenderCalls.{Sending, send_turn, send_end}
 use Rattle.simulated_rounds.proofs.Walks.{walk_start}
 use borrow.Author.Rules.{rules}
@@ -47,11 +46,11 @@ send-all-spec =
     (λ c. let b = deliver_bounds (due_of c.before.before.loop2.due) c.before.before.loop2.invariant c.if1.true in omega (arith, b.0)) (λ c. search rules)
     (λ c. let b = deliver_bounds (due_of c.before.before.loop2.due) c.before.before.loop2.invariant c.if1.true in omega (arith, b.1, c.before.before.before.before.before.before.before.before.before.before.before.requires.0))
     (λ c. let b = deliver_bounds (due_of c.before.before.loop2.due) c.before.before.loop2.invariant c.if1.true in omega (arith, b.0, b.1, c.before.before.before.before.before.before.before.before.before.before.before.requires.0))
-    (λ c. search rules) (λ c. search rules) (λ c. let sent = c.before.before.before.before.before.before.before.before.sent-by in omega (arith, sent.ensures.1.1, sent.auto.1.1.1.1.1.1.0, c.before.before.before.before.before.before.before.before.before.before.before.before.loop.invariant.1)) (λ c κs. search rules) (λ c. search rules)
-    (λ c. let b = deliver_bounds (due_of c.before.before.before.before.before.before.before.before.before.loop2.due) c.before.before.before.before.before.before.before.before.before.loop2.invariant c.before.before.before.before.before.before.before.if1.true in omega (arith, b.1, c.before.before.before.before.before.before.before.before.before.before.before.before.before.before.before.before.before.before.requires.0))
-    (λ c. let b = deliver_bounds (due_of c.before.before.before.before.before.before.before.before.before.loop2.due) c.before.before.before.before.before.before.before.before.before.loop2.invariant c.before.before.before.before.before.before.before.if1.true in omega (arith, b.0, b.1, c.before.before.before.before.before.before.before.before.before.before.before.before.before.before.before.before.before.before.requires.0)) (λ c. search rules) (λ c κs. search rules) (λ c κs. search rules)
+    (λ c. search rules) (λ c. search rules) (λ c. let sent = c.before.before.before.before.before.before.before.before.sent-by in omega (arith, sent.ensures.1.1, sent.auto.1.1.1.1.1.1.0, c.before.before.before.before.before.before.before.before.before.before.before.before.loop.invariant.1)) (λ c κs. search rules)
+    (λ c. let b = deliver_bounds (due_of c.before.before.before.before.before.before.before.loop2.due) c.before.before.before.before.before.before.before.loop2.invariant c.before.before.before.before.before.if1.true in omega (arith, b.1, c.before.before.before.before.before.before.before.before.before.before.before.before.before.before.before.before.requires.0))
+    (λ c. let b = deliver_bounds (due_of c.before.before.before.before.before.before.before.loop2.due) c.before.before.before.before.before.before.before.loop2.invariant c.before.before.before.before.before.if1.true in omega (arith, b.0, b.1, c.before.before.before.before.before.before.before.before.before.before.before.before.before.before.before.before.requires.0)) (λ c κs. search rules) (λ c κs. search rules)
     (λ c. let l = c.before.before.before.before.before.before.before.before.before.loop2 in rw c.before.rest.ensures (deliver_fewer (due_of l.due) l.invariant c.before.before.before.before.before.before.before.if1.true))
-    (λ c. let l = c.before.before.before.before.before.before.before.before.before.loop2 in let m = c.before.before.before.message in deliver_turn c.before.before.before.before.before.before.before.before.before.before.before.before.before.before.before.before.before.before.requires.0 (due_of l.due) l.invariant c.before.before.before.before.before.before.before.if1.true (⊎_elim (λ w. w.3 ∙ ap (set l.all (l.to.0 - 1)) m.ensures.state) (λ w. kept_at l.all (l.to.0 - 1) m.ensures w.1.given.1 w.2) c.before.before.match.branch) c.before.rest.ensures c.first2.ensures)
+    (λ c. let l = c.before.before.before.before.before.before.before.before.before.loop2 in deliver_turn c.before.before.before.before.before.before.before.before.before.before.before.before.before.before.before.before.before.before.requires.0 (due_of l.due) l.invariant c.before.before.before.before.before.before.before.if1.true c.before.before.before.message.ensures.state c.before.rest.ensures c.first2.ensures)
     (λ c. search rules) (λ c. search rules)
     (λ c. let a = c.before.before.before.before.before.before.before.before.before.before.before.args in let l = c.before.before.before.before.before.before.before.before.before.before.loop in let each = c.before.before.loop2 in let sent = c.before.before.before.before.before.before.sent-by in (
       send_turn a.n a.core a.crashes a.round.0 a.t1 l.all l.i each.all l.invariant.0 (omega arith) each.invariant.long

@@ -17,5 +17,5 @@ finish_spec =
     (tie.spec
     (λ c. search rules) (λ c κs. search rules) (λ c. search rules) (λ c. search rules) (λ c. search rules)
     (λ c. let long : length c.before.before.before.before.before.before.args.listed.table.sets ≡ 128 = search rules in omega (arith, c.before.before.before.before.before.before.requires.1)) (λ c κs. search rules)
-    (λ c. (rw (c.refused.ensures.0, c.before.before.answer.given.1), c.refused.ensures.1))
+    (λ c. (rw (c.refused.ensures.0, ← c.before.before.before.before.before.before.before.requires.0, c.before.before.answer.given.1), c.refused.ensures.1))
     (λ c. let l = c.before.before.before.before.before.before.before.before.args.listed in (c.accept.ensures.0 ∙ (ap (complete_table l.table.n) (first_taken l.table) ∙ listed_complete l _ c.before.before.before.before.before.before.before.before.requires.0 c.before.before.before.enum_told.given.1), c.accept.ensures.1)))

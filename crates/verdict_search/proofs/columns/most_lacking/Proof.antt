@@ -1,7 +1,7 @@
 -- The most of the sets seen.
 use mathlib.Core.Logic.{⊎_elim}
 use borrow.Author.Rules.{rules}
-use Rattle.verdict_search.proofs.Asking.{Most, most_turn, most_end}
+use Rattle.verdict_search.proofs.Building.{Most, most_turn, most_end}
 use native.Mathlib.Omega.{arith}
 use lib.ListN.{length}
 use Prim.Native.Nat.{◌-◌}

@@ -1,2 +1,0 @@
--- What a message makes of a state.
-pub mod Taking
