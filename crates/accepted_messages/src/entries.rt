@@ -21,7 +21,7 @@ fn conflicts(d: Drive, known: u64, held: Pattern, v: Pattern) -> bool
 
 // What the entries say: whether a number differs from the one known for its drive, and where none does the pattern
 // numbers with those of the entries.
-#[derive(Drop)]
+#[derive(Clone, Copy)]
 pub(crate) struct Told {
     pub differs: bool,
     pub numbers: [Pattern; 64],

@@ -1,9 +1,11 @@
 // What a message of a core drive says of a state: whether a pattern number differs from the one known, and the state
 // after the message is accepted.
+#![tactic(auto)]
+
 ghost use Rattle.std.specs.Prelude.{◌≡◌};
 ghost use Rattle.drive_states.specs.Messages.{entries_in, sender_of, content_of, message_of};
 ghost use Rattle.agreement.specs.Calls.{any_differs, lower, announcing, accept};
-ghost use Rattle.drive_sets.specs.Refusals.{refuse_if, result};
+ghost use Rattle.drive_sets.specs.Refusals.{refuse_if, yields};
 ghost use Rattle.exchange.specs.Replies.{Replied};
 
 use drive_sets::{Answer, Drive, Pattern, Refusal};
@@ -16,7 +18,7 @@ mod entries;
 
 // The announcement of the lower-numbered sender.
 fn lower(announced: Announcement, d: Drive, v: Pattern) -> Announcement
-    ensures* { λ r. ⌜ r ≡ lower announced d.0 v.0 ⌝ }
+    ensures { result ≡ lower announced d.0 v.0 }
 {
     match announced {
         Announcement::Absent => Announcement::By(d, v),
@@ -31,7 +33,7 @@ fn lower(announced: Announcement, d: Drive, v: Pattern) -> Announcement
 
 // A DC or DW announces a decision.
 fn announcing(announced: Announcement, kind: Kind, s: &[u8]) -> Announcement
-    ensures* { λ r. ⌜ r ≡ announcing announced (sender_of s.now) (content_of kind s.now) ⌝ }
+    ensures { result ≡ announcing announced (sender_of s.now) (content_of kind s.now) }
 {
     if reading::is_known(kind) {
         return announced;
@@ -46,7 +48,7 @@ fn announcing(announced: Announcement, kind: Kind, s: &[u8]) -> Announcement
 // A message that meets no earlier refusal: 25 where a pattern number differs from the one known for its drive. Else
 // every accepted sender counts as heard, a KN or KW adds its drives' numbers, a DC or DW announces a decision.
 pub fn accept(kind: Kind, x: Exchange, s: &[u8]) -> Reply
-    ensures* { λ r. ⌜ Replied (refuse_if (any_differs x (entries_in (content_of kind s.now))) Refusal.PatternDiffers (result (accept x (message_of kind s.now)))) x r ⌝ }
+    ensures { Replied (refuse_if (any_differs x (entries_in (content_of kind s.now))) Refusal.PatternDiffers (yields (accept x (message_of kind s.now)))) x result }
 {
     let mask = reading::mask_in(kind, s);
     let told = entries::read_all(kind, x, mask, s);

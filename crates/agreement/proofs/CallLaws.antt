@@ -15,7 +15,7 @@ use Rattle.drive_sets.specs.Options.{is_some}
 use Rattle.drive_sets.specs.Lists.{elem}
 use Rattle.drive_sets.specs.Lists.Laws.{elem_head, elem_tail}
 use Rattle.drive_sets.specs.Masks.{has}
-use Rattle.drive_sets.specs.Refusals.{Outcome, refused, result, refuse_if, number}
+use Rattle.drive_sets.specs.Refusals.{Outcome, refused, yields, refuse_if, number}
 use Rattle.drive_sets.specs.Refusals.Laws.{same_result, passed, first_result}
 use Rattle.drive_sets.specs.Lent.{fitting}
 use Rattle.survivor_tables.specs.Tables.{chosen, normal_table}
@@ -26,8 +26,8 @@ use Rattle.drive_states.specs.State.{in_core, number_of, is_decided, broken}
 use Rattle.drive_states.specs.Messages.{Message, entry_of, entries_in, message_bytes, read_message}
 use Rattle.agreement.specs.Calls.{initial, opening, outgoing, sending, outside_core, any_differs, accept, admitting, receiving, decision_on, next, closing}
 
-pub opening_accepted : (n : ℕ) (sets table : List ℕ) (own number : ℕ) → normal_table n sets ≡ result table → is_drive n own ≡ true
-    → opening n sets own number ≡ result (initial n (chosen table) own number)
+pub opening_accepted : (n : ℕ) (sets table : List ℕ) (own number : ℕ) → normal_table n sets ≡ yields table → is_drive n own ≡ true
+    → opening n sets own number ≡ yields (initial n (chosen table) own number)
 unfolding opening
 opening_accepted n sets table own number accepted drive = rw (accepted, drive)
 
@@ -38,7 +38,7 @@ unfolding opening
 opening_same_table n sets other own number same = rw same
 
 -- an opening that is not refused
-pub opened_initial : (n : ℕ) (sets : List ℕ) (own number : ℕ) {y : Exchange} → opening n sets own number ≡ result y → (core : ℕ) × (y ≡ initial n core own number)
+pub opened_initial : (n : ℕ) (sets : List ℕ) (own number : ℕ) {y : Exchange} → opening n sets own number ≡ yields y → (core : ℕ) × (y ≡ initial n core own number)
 unfolding opening
 opened_initial n sets own number e =
     let t = first_result (normal_table n sets) _ e in (chosen t.0, sym (same_result (passed (not (is_drive n own)) DriveNumber _ t.2).1))
@@ -63,7 +63,7 @@ pub record Acceptable (x : Exchange) (m : Message) : Type 0 where
   pub heard : has m.sender x.heard ≡ false
   pub same : any_differs x (entries_in m.content) ≡ false
 
-admitting_accepted : (x : Exchange) (m : Message) → Acceptable x m → admitting x m ≡ result (accept x m)
+admitting_accepted : (x : Exchange) (m : Message) → Acceptable x m → admitting x m ≡ yields (accept x m)
 unfolding admitting
 admitting_accepted x m ok = rw (ok.core, eq-eqb m.round x.round.0 ok.round, ok.before, ok.heard, ok.same)
 
@@ -72,7 +72,7 @@ module _ (x : Exchange) (sound : broken x ≡ false) (running : x.halted ≡ fal
   started : {A : Type 0} {rest given : Outcome A} → rest ≡ given → refuse_if (broken x) BrokenState (refuse_if x.halted Halted rest) ≡ given
   started e = rw (sound, running) e
 
-  pub sending_accepted : (room start : ℕ) → in_core x ≡ true → start + length (message_bytes (outgoing x)) ≤ room → sending x room start ≡ result (message_bytes (outgoing x))
+  pub sending_accepted : (room start : ℕ) → in_core x ≡ true → start + length (message_bytes (outgoing x)) ≤ room → sending x room start ≡ yields (message_bytes (outgoing x))
   unfolding sending fitting
   sending_accepted room start core fits = started (rw (core, le-leb (start + length (message_bytes (outgoing x))) room fits))
 
@@ -81,26 +81,26 @@ module _ (x : Exchange) (sound : broken x ≡ false) (running : x.halted ≡ fal
   unfolding sending fitting
   sending_crowded room start core crowded = started (rw (core, lt-leb (start + length (message_bytes (outgoing x))) room crowded))
 
-  pub closing_accepted : closing x ≡ result (next x)
+  pub closing_accepted : closing x ≡ yields (next x)
   unfolding closing
   closing_accepted = started refl
 
-  pub receiving_accepted : (s : List ℕ) (m : Message) → read_message x.n s ≡ result m → Acceptable x m → receiving x s ≡ result (accept x m)
+  pub receiving_accepted : (s : List ℕ) (m : Message) → read_message x.n s ≡ yields m → Acceptable x m → receiving x s ≡ yields (accept x m)
   unfolding receiving
   receiving_accepted s m read ok = started (rw read (admitting_accepted x m ok))
 
 -- ---- calls that were not refused
 
 -- 28 and 23 were not met
-began : {A : Type 0} (x : Exchange) (rest : Outcome A) {a : A} → refuse_if (broken x) BrokenState (refuse_if x.halted Halted rest) ≡ result a
-    → (x.halted ≡ false) × (rest ≡ result a)
+began : {A : Type 0} (x : Exchange) (rest : Outcome A) {a : A} → refuse_if (broken x) BrokenState (refuse_if x.halted Halted rest) ≡ yields a
+    → (x.halted ≡ false) × (rest ≡ yields a)
 began x rest e = passed x.halted Halted rest (passed (broken x) BrokenState _ e).1
 
-pub closed_next : (x : Exchange) {y : Exchange} → closing x ≡ result y → y ≡ next x
+pub closed_next : (x : Exchange) {y : Exchange} → closing x ≡ yields y → y ≡ next x
 unfolding closing
 closed_next x e = sym (same_result (began x _ e).1)
 
-admitted : (x : Exchange) (m : Message) {y : Exchange} → admitting x m ≡ result y → y ≡ accept x m
+admitted : (x : Exchange) (m : Message) {y : Exchange} → admitting x m ≡ yields y → y ≡ accept x m
 unfolding admitting
 admitted x m e =
     let round = (passed (not (eqb m.round x.round.0)) OtherRound _ (passed (outside_core x m) OutsideCore _ e).1).1 in
@@ -108,7 +108,7 @@ admitted x m e =
     sym (same_result (passed (any_differs x (entries_in m.content)) PatternDiffers _ fresh).1)
 
 -- a message taken in: the drive had not halted
-pub received : (x : Exchange) (s : List ℕ) {y : Exchange} → receiving x s ≡ result y → (x.halted ≡ false) × (m : Message) × (y ≡ accept x m)
+pub received : (x : Exchange) (s : List ℕ) {y : Exchange} → receiving x s ≡ yields y → (x.halted ≡ false) × (m : Message) × (y ≡ accept x m)
 unfolding receiving
 received x s e =
     let b = began x _ e in

@@ -24,7 +24,7 @@ use Rattle.drive_sets.specs.Lists.Places.{get_or_elem}
 use Rattle.drive_sets.specs.Masks.{has, single, minus, size, drives}
 use Rattle.drive_sets.specs.Masks.Laws.{has_minus, has_single, has_common, has_bounds, minus_lt}
 use Rattle.drive_sets.specs.Masks.Sizes.{size_remove, elem_drives, drives_rising, length_drives, rising_unique}
-use Rattle.drive_sets.specs.Refusals.{result}
+use Rattle.drive_sets.specs.Refusals.{yields}
 use Rattle.survivor_tables.specs.Order.{normal}
 use Rattle.survivor_tables.specs.Tables.{chosen, normal_table, Accepted}
 use Rattle.survivor_tables.specs.Tables.Laws.{ChosenCore, table_accepted, chosen_core_law}
@@ -46,7 +46,7 @@ use Rattle.agreement.proofs.Refinement.Runs.{rounds_decide}
 use Rattle.agreement.proofs.Tight.Turns.{in_turn, turn_stays, turn_crashes, turn_round, turn_at}
 pub mod Turns
 
-module _ (n : ℕ) (sets : List ℕ) (accepted : normal_table n sets ≡ result (normal sets))
+module _ (n : ℕ) (sets : List ℕ) (accepted : normal_table n sets ≡ yields (normal sets))
     (proposal : ℕ → ℕ) (patterns : (d : ℕ) → is_drive n d ≡ true → proposal d < pattern_limit) (f : ℕ) (few : f < size (chosen (normal sets))) where
   -- ---- the core and its drives other than p
 

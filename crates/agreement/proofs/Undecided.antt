@@ -8,7 +8,7 @@ use Prim.Native.Nat.{ℕ, zero, suc}
 use lib.ListN.{take, drop, get_or}
 use borrow.Author.Tests.{eq-eqb, not-true}
 use Rattle.drive_sets.specs.Bools.Laws.{clash, by_test, and_intro, and_left, and_right, or_second, or_cases, or_right, false_of}
-use Rattle.drive_sets.specs.Refusals.{result}
+use Rattle.drive_sets.specs.Refusals.{yields}
 use Rattle.drive_states.specs.declared.Exchange.{Exchange}
 use Rattle.drive_states.specs.declared.Announcement.{Announcement}
 use Rattle.drive_states.specs.declared.Decision.{Decision}
@@ -38,7 +38,7 @@ unfolding is_decided
 undecided_is Undecided h = refl
 undecided_is (Decided v) h = absurd (clash refl h)
 
-message_same : {slot : Slot} {x y : Exchange} (bytes : List ℕ) → slot ≡ opened x → receiving x bytes ≡ result y → y.decision ≡ decision_of slot
+message_same : {slot : Slot} {x y : Exchange} (bytes : List ℕ) → slot ≡ opened x → receiving x bytes ≡ yields y → y.decision ≡ decision_of slot
 unfolding accept decision_of
 message_same {x = x} bytes there q = ap (λ (z : Exchange). z.decision) (received x bytes q).2 ∙ sym (ap decision_of there)
 

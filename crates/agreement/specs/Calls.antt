@@ -6,7 +6,7 @@ use Rattle.drive_sets.specs.declared.Pattern.{Pattern}
 use Rattle.drive_sets.specs.declared.Refusal.TheVariants.{DriveNumber, AlreadyAccepted, OutsideCore, Halted, SenderMissing, PatternDiffers, OtherRound, ListenerSends, BrokenState}
 use Rattle.drive_sets.specs.Lists.{smallest}
 use Rattle.drive_sets.specs.Masks.{has, single, union, subset, size, drives}
-use Rattle.drive_sets.specs.Refusals.{Outcome, result, refuse_if, and_then}
+use Rattle.drive_sets.specs.Refusals.{Outcome, yields, refuse_if, and_then}
 use Rattle.drive_sets.specs.Lent.{fitting}
 use Rattle.survivor_tables.specs.Tables.{chosen, normal_table}
 use Rattle.drive_states.specs.declared.Exchange.{Exchange}
@@ -44,7 +44,7 @@ unfoldable pub opening : ℕ → List ℕ → ℕ → ℕ → Outcome Exchange
 opening n sets own number =
     and_then (normal_table n sets) (λ table.
     refuse_if (not (is_drive n own)) DriveNumber
-    (result (initial n (chosen table) own number)))
+    (yields (initial n (chosen table) own number)))
 
 -- ---- send: 28, 23, 27, 14
 
@@ -116,7 +116,7 @@ admitting x m =
     (refuse_if (not (has m.sender x.before)) SenderMissing
     (refuse_if (has m.sender x.heard) AlreadyAccepted
     (refuse_if (any_differs x (entries_in m.content)) PatternDiffers
-    (result (accept x m))))))
+    (yields (accept x m))))))
 
 -- 28, 23, then what is read, and what follows
 unfoldable pub receiving : Exchange → List ℕ → Outcome Exchange
@@ -181,4 +181,4 @@ unfoldable pub closing : Exchange → Outcome Exchange
 closing x =
     refuse_if (broken x) BrokenState
     (refuse_if x.halted Halted
-    (result (next x)))
+    (yields (next x)))

@@ -3,7 +3,7 @@
 use Rattle.std.specs.Prelude.{◌≡◌, List, [], ◌∷◌, ◌++◌, map, ℕ, zero, suc}
 use Rattle.drive_sets.specs.Lists.{filter}
 use Rattle.drive_sets.specs.Masks.{size}
-use Rattle.drive_sets.specs.Refusals.{Outcome, refused, result}
+use Rattle.drive_sets.specs.Refusals.{Outcome, refused, yields}
 use Rattle.drive_states.specs.declared.Decision.{Decision}
 use Rattle.drive_states.specs.declared.Decision.TheVariants.{Undecided, Decided}
 use Rattle.drive_states.specs.Messages.{longest_message}
@@ -24,7 +24,7 @@ opening_calls s = map (λ d. opens d s.n s.sets d (s.proposal d)) (frame s)
 
 unfoldable pub deliveries : Outcome (List ℕ) → List ℕ → List Call
 deliveries (refused r) es = []
-deliveries (result bytes) es = map (λ e. delivers e bytes) es
+deliveries (yields bytes) es = map (λ e. delivers e bytes) es
 
 -- the messages of these senders in round r
 unfoldable pub message_calls : Scenario → ℕ → World → List ℕ → List Call

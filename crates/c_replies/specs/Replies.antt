@@ -3,7 +3,7 @@
 use Rattle.std.specs.Prelude.{Bool, true, false, ℕ}
 use Rattle.drive_sets.specs.declared.Answer.{Answer}
 use Rattle.drive_sets.specs.declared.Answer.TheVariants.{Accepted, Refused}
-use Rattle.drive_sets.specs.Refusals.{Outcome, refused, result, number}
+use Rattle.drive_sets.specs.Refusals.{Outcome, refused, yields, number}
 use Rattle.c_replies.specs.declared.SizeReply.{SizeReply}
 pub mod Laws
 
@@ -16,13 +16,13 @@ refusal_in (Refused r) = number r
 module _ {A : Type 0} where
   abbrev pub refusal_of : Outcome A → ℕ
   refusal_of (refused r) = r
-  refusal_of (result a) = 0
+  refusal_of (yields a) = 0
 
 -- ---- how many sets or bytes
 
 abbrev pub size_reply : Outcome ℕ → SizeReply
 size_reply (refused r) = record { size = 0; refusal = r }
-size_reply (result size) = record { size = size; refusal = 0 }
+size_reply (yields size) = record { size = size; refusal = 0 }
 
 -- ---- flags
 

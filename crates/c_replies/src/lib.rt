@@ -1,4 +1,6 @@
 // Replies to C as numbers: a refusal, 0 for none; how many places of lent memory were filled; a flag.
+#![tactic(auto)]
+
 ghost use Rattle.std.specs.Prelude.{◌≡◌};
 ghost use Rattle.drive_sets.specs.Refusals.{refused, number};
 ghost use Rattle.lent_bytes.specs.LentBuffers.{writing_outcome};
@@ -9,7 +11,7 @@ use lent_bytes::Writing;
 
 // How many sets or bytes were put into lent memory.
 #[repr(C)]
-#[derive(Drop)]
+#[derive(Clone, Copy)]
 pub struct SizeReply {
     pub size: usize,
     pub refusal: u32,

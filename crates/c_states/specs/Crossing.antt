@@ -3,7 +3,7 @@
 use Rattle.std.specs.Prelude.{Bool, not, cond, ℕ, eqb, replicate}
 use Rattle.drive_sets.specs.declared.Drive.{Drive}
 use Rattle.drive_sets.specs.declared.Pattern.{Pattern}
-use Rattle.drive_sets.specs.Refusals.{Outcome, refused, result}
+use Rattle.drive_sets.specs.Refusals.{Outcome, refused, yields}
 use Rattle.drive_states.specs.declared.Exchange.{Exchange}
 use Rattle.drive_states.specs.declared.Announcement.{Announcement}
 use Rattle.drive_states.specs.declared.Announcement.TheVariants.{Absent, By}
@@ -89,4 +89,4 @@ state_of x = record {
 -- an accepted call gives the new state; a refused one its number, and the state as it was handed
 abbrev pub answered : State → Outcome Exchange → StateReply
 answered s (refused r) = record { state = s; refusal = r }
-answered s (result x) = record { state = state_of x; refusal = 0 }
+answered s (yields x) = record { state = state_of x; refusal = 0 }

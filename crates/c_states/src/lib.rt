@@ -1,4 +1,6 @@
 // The state of a drive for C, as a struct of numbers, and back, and the reply to a call that was handed one.
+#![tactic(auto)]
+
 ghost use Rattle.std.specs.Prelude.{◌≡◌};
 ghost use Rattle.drive_sets.specs.Refusals.{outcome_of};
 ghost use Rattle.c_states.specs.Crossing.{announcement_in, decision_in, exchange_of, announced_flag, announced_drive, announced_number, decided_flag, decided_number, state_of, answered};
@@ -9,7 +11,7 @@ use drive_states::{Announcement, Decision, Exchange};
 // The state of one drive, without gaps between its numbers. A flag is set where it is not 0; a call that is accepted
 // gives it as 0 or 1.
 #[repr(C)]
-#[derive(Drop)]
+#[derive(Clone, Copy)]
 pub struct State {
     // The chosen core: its drives talk, the others listen.
     pub core: u64,
@@ -47,7 +49,7 @@ pub struct State {
 
 // What a call that is handed a state gives: the new state, or the refusal's number and the state as it was handed.
 #[repr(C)]
-#[derive(Drop)]
+#[derive(Clone, Copy)]
 pub struct StateReply {
     pub state: State,
     // 0 for none.

@@ -5,7 +5,7 @@ use Prim.Native.Nat.{ℕ}
 use native.Mathlib.Omega.{arith}
 use lib.ListN.{take}
 use Rattle.drive_sets.specs.declared.Refusal.{Refusal}
-use Rattle.drive_sets.specs.Refusals.{Outcome, refused, result, and_then, number, outcome_of}
+use Rattle.drive_sets.specs.Refusals.{Outcome, refused, yields, and_then, number, outcome_of}
 use Rattle.drive_sets.specs.Refusals.Laws.{first_result, same_result}
 use Rattle.drive_sets.specs.declared.Answer.{Answer}
 use Rattle.drive_sets.specs.declared.Answer.TheVariants as answers
@@ -16,13 +16,13 @@ use Rattle.complete_tables.specs.Complete.{sets_of, Complete, with_cores, comple
 
 module _ {A B : Type 0} where
   -- a refusal of what is made of a result is one of the result
-  pub then_refused : (o : Outcome A) (f : A → B) {q : ℕ} → and_then o (λ a. result (f a)) ≡ refused q → o ≡ refused q
+  pub then_refused : (o : Outcome A) (f : A → B) {q : ℕ} → and_then o (λ a. yields (f a)) ≡ refused q → o ≡ refused q
   then_refused (refused r) f e = cc
-  then_refused (result a) f e = absurd (let z : ◌≡◌ {A = ℕ} 0 1 = cc in omega arith)
+  then_refused (yields a) f e = absurd (let z : ◌≡◌ {A = ℕ} 0 1 = cc in omega arith)
 
 -- an answer with a table made complete, of whatever table is due
-module _ (n : ℕ) (due : Outcome (List ℕ)) (t : TableWithCores) (e : complete_outcome t ≡ and_then due (λ table. result (with_cores n table))) where
-  answer_is : (a : Answer) → t.answer ≡ a → outcome_of a (record { n = t.table.n; sets = sets_of t.table; cores = take t.found t.cores }) ≡ and_then due (λ table. result (with_cores n table))
+module _ (n : ℕ) (due : Outcome (List ℕ)) (t : TableWithCores) (e : complete_outcome t ≡ and_then due (λ table. yields (with_cores n table))) where
+  answer_is : (a : Answer) → t.answer ≡ a → outcome_of a (record { n = t.table.n; sets = sets_of t.table; cores = take t.found t.cores }) ≡ and_then due (λ table. yields (with_cores n table))
   unfolding complete_outcome
   answer_is a f =
       ap (λ (b : Answer). outcome_of b (record { n = t.table.n; sets = sets_of t.table; cores = take t.found t.cores })) (sym f) ∙ e
@@ -30,13 +30,13 @@ module _ (n : ℕ) (due : Outcome (List ℕ)) (t : TableWithCores) (e : complete
   pub due_refused : (q : Refusal) → t.answer ≡ answers.Refused q → due ≡ refused (number q)
   due_refused q f = then_refused due (with_cores n) (sym (answer_is (answers.Refused q) f))
 
-  pub due_given : t.answer ≡ answers.Accepted → (due ≡ result (sets_of t.table)) × (take t.found t.cores ≡ cores (sets_of t.table))
+  pub due_given : t.answer ≡ answers.Accepted → (due ≡ yields (sets_of t.table)) × (take t.found t.cores ≡ cores (sets_of t.table))
   unfolding with_cores
   due_given f =
-      let w = first_result due (λ table. result (with_cores n table)) (sym (answer_is answers.Accepted f)) in
+      let w = first_result due (λ table. yields (with_cores n table)) (sym (answer_is answers.Accepted f)) in
       let q = same_result w.2 in
       let same = ap (λ (c : Complete). c.sets) q in
-      (w.1 ∙ ap (λ (l : List ℕ). result l) same, sym (ap (λ (c : Complete). c.cores) q) ∙ ap cores same)
+      (w.1 ∙ ap (λ (l : List ℕ). yields l) same, sym (ap (λ (c : Complete). c.cores) q) ∙ ap cores same)
 
 module _ (n : ℕ) (sets : List ℕ) (t : TableWithCores) (e : complete_outcome t ≡ complete_table n sets) where
   pub accept_refused : (q : Refusal) → t.answer ≡ answers.Refused q → normal_table n sets ≡ refused (number q)
@@ -45,7 +45,7 @@ module _ (n : ℕ) (sets : List ℕ) (t : TableWithCores) (e : complete_outcome 
 
   -- an accepted table: the normal table, and its cores
   pub record Taken : Type 0 where
-    pub table : normal_table n sets ≡ result (sets_of t.table)
+    pub table : normal_table n sets ≡ yields (sets_of t.table)
     pub list : take t.found t.cores ≡ cores (sets_of t.table)
     pub whole : Accepted n (sets_of t.table)
 

@@ -12,7 +12,7 @@ use Rattle.drive_sets.specs.declared.Refusal.TheVariants.{TooManyCores}
 use Rattle.drive_sets.specs.declared.Refusal.{Refusal}
 use Rattle.drive_sets.specs.declared.Answer.{Answer}
 use Rattle.drive_sets.specs.declared.Answer.TheVariants as answers
-use Rattle.drive_sets.specs.Refusals.{Outcome, refused, result, and_then, number, outcome_of}
+use Rattle.drive_sets.specs.Refusals.{Outcome, refused, yields, and_then, number, outcome_of}
 use Rattle.drive_sets.specs.Refusals.Laws.{refused_no_result, same_result, then_refuse, then_assoc}
 use Rattle.normal_forms.specs.declared.NormalForm.{NormalForm}
 use Rattle.normal_forms.specs.declared.NormalForm.TheVariants as forms
@@ -43,7 +43,7 @@ zeros = replicate max_sets 0
 
 -- the normal form of at most 128 sets, in an array of as many zeros
 module _ (sets : List ℕ) (most : length sets ≤ max_sets) (form : NormalForm) (says : form_outcome form ≡ size_written (normal_list max_sets sets)) where
-  is_normal : normal_list max_sets sets ≡ result (normal sets)
+  is_normal : normal_list max_sets sets ≡ yields (normal sets)
   is_normal = normal_list_result max_sets sets most most
 
   pub form_given : {r : Refusal} → form ≡ forms.Refused r → ⊥
@@ -75,17 +75,17 @@ module _ (n : ℕ) {part out out' : List ℕ} {found : ℕ} (table : List ℕ) (
   unfolding complete_normal
   too_many h = rw (lt-ltb max_cores (length (cores table)) (omega (arith, f.total, core_count)))
 
-  pub completed : found ≤ max_cores → result (record { n = n; sets = table; cores = take found out' }) ≡ complete_normal n table
+  pub completed : found ≤ max_cores → yields (record { n = n; sets = table; cores = take found out' }) ≡ complete_normal n table
   unfolding complete_normal with_cores cores
   completed h =
-      ap (λ (c : List ℕ). result (record { n = n; sets = table; cores = c }))
+      ap (λ (c : List ℕ). yields (record { n = n; sets = table; cores = c }))
       (found_listed f (omega arith) ∙ ap₂ (λ (b : ℕ → ℕ → Bool) (l : List ℕ). sort b (minimals l)) by_size_law e)
       ∙ rw (le-ltb max_cores (length (cores table)) (omega (arith, f.total, core_count)))
 
 pub complete_normal_law : (n : ℕ) (sets : List ℕ) → complete_normal n (normal sets) ≡ complete_sets n sets
 unfolding complete_normal complete_sets within_core_limit
 complete_normal_law n sets =
-    sym (then_refuse (ltb max_cores (length (cores (normal sets)))) TooManyCores (normal sets) (λ table. result (with_cores n table)))
+    sym (then_refuse (ltb max_cores (length (cores (normal sets)))) TooManyCores (normal sets) (λ table. yields (with_cores n table)))
 
 -- the answer of the check, then the rest
 module _ (kind : MaskKind) (n : ℕ) (masks : List ℕ) (answer : Answer) (e : outcome_of answer masks ≡ checked_masks kind n masks) where
@@ -99,7 +99,7 @@ module _ (kind : MaskKind) (n : ℕ) (masks : List ℕ) (answer : Answer) (e : o
 module _ (n : ℕ) (sets : List ℕ) (answer : Answer) (e : outcome_of answer sets ≡ checked_sets n sets) where
   pub complete_said : (a : Answer) → answer ≡ a → and_then (outcome_of a sets) (complete_sets n) ≡ complete_table n sets
   unfolding complete_table complete_sets normal_table
-  complete_said a f = ap (λ (o : Outcome (List ℕ)). and_then o (complete_sets n)) (check_said SurvivorSet n sets answer e a f) ∙ sym (then_assoc (checked_sets n sets) within_core_limit (λ table. result (with_cores n table)))
+  complete_said a f = ap (λ (o : Outcome (List ℕ)). and_then o (complete_sets n)) (check_said SurvivorSet n sets answer e a f) ∙ sym (then_assoc (checked_sets n sets) within_core_limit (λ table. yields (with_cores n table)))
 
 -- a table's sets, as a part of its array from the start on
 pub first_taken : (t : Table) → take (t.count - 0) t.sets ≡ sets_of t

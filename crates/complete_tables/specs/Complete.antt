@@ -3,7 +3,7 @@ use Rattle.std.specs.Prelude.{List, ℕ, ◌≤◌, ltb, length, take, replicate
 use Rattle.drive_sets.specs.declared.Answer.TheVariants.{Refused}
 use Rattle.drive_sets.specs.declared.Refusal.{Refusal}
 use Rattle.drive_sets.specs.declared.Refusal.TheVariants.{TooManyCores}
-use Rattle.drive_sets.specs.Refusals.{Outcome, result, refuse_if, and_then, outcome_of, Alone}
+use Rattle.drive_sets.specs.Refusals.{Outcome, yields, refuse_if, and_then, outcome_of, Alone}
 use Rattle.complete_tables.specs.declared.TableWithCores.{TableWithCores}
 use Rattle.drive_sets.specs.Limits.{max_sets, max_cores}
 use Rattle.survivor_tables.specs.Tables.{cores, within_core_limit, normal_table}
@@ -24,15 +24,15 @@ with_cores n table = record { n = n; sets = table; cores = cores table }
 
 -- the same where there are at most 1024; else 13
 unfoldable pub complete_normal : ℕ → List ℕ → Outcome Complete
-complete_normal n table = refuse_if (ltb max_cores (length (cores table))) TooManyCores (result (with_cores n table))
+complete_normal n table = refuse_if (ltb max_cores (length (cores table))) TooManyCores (yields (with_cores n table))
 
 -- the normal table of some sets, with its cores; 13 where there are more than 1024
 unfoldable pub complete_sets : ℕ → List ℕ → Outcome Complete
-complete_sets n sets = and_then (within_core_limit sets) (λ table. result (with_cores n table))
+complete_sets n sets = and_then (within_core_limit sets) (λ table. yields (with_cores n table))
 
 -- the same after the refusals of a call given n and sets
 unfoldable pub complete_table : ℕ → List ℕ → Outcome Complete
-complete_table n sets = and_then (normal_table n sets) (λ table. result (with_cores n table))
+complete_table n sets = and_then (normal_table n sets) (λ table. yields (with_cores n table))
 
 -- what an answer says
 unfoldable pub complete_outcome : TableWithCores → Outcome Complete

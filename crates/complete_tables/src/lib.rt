@@ -1,9 +1,11 @@
 // A table made complete: the normal table and its cores, at most 1024.
+#![tactic(auto)]
+
 ghost use Rattle.std.specs.Prelude.{◌≡◌, ◌≤◌, length};
 ghost use Rattle.complete_tables.specs.Complete.{complete_normal, complete_sets, complete_table, complete_outcome, CompleteWithin, sets_of};
 ghost use Rattle.drive_sets.specs.Limits.{max_sets};
 ghost use Rattle.survivor_tables.specs.Tables.{each_mask, checked_masks};
-ghost use Rattle.drive_sets.specs.Refusals.{refused, result, number, outcome_of};
+ghost use Rattle.drive_sets.specs.Refusals.{refused, yields, number, outcome_of};
 
 use drive_sets::{Answer, Refusal};
 use normal_forms::NormalForm;
@@ -12,7 +14,7 @@ use survivor_tables::frames::{MaskKind, Table, check_mask, is_frame};
 use survivor_tables::{MAX_CORES, MAX_SETS};
 
 // A normal table with its cores, the first `found` of the array, where it is accepted.
-#[derive(Drop)]
+#[derive(Clone, Copy)]
 pub struct TableWithCores {
     pub answer: Answer,
     pub table: Table,
@@ -22,8 +24,8 @@ pub struct TableWithCores {
 
 // The answer that is this refusal, and nothing else.
 pub fn refused(r: Refusal) -> TableWithCores
-    ensures* t_value { λ t. ⌜ complete_outcome t ≡ refused (number r) ⌝ }
-    ensures* within { λ t. ⌜ CompleteWithin t ⌝ }
+    ensures value { complete_outcome result ≡ refused (number r) }
+    ensures within { CompleteWithin result }
 {
     TableWithCores {
         answer: Answer::Refused(r),
@@ -40,8 +42,8 @@ pub fn refused(r: Refusal) -> TableWithCores
 // A normal table with its cores; 13 where there are more than 1024.
 fn with_cores(table: Table) -> TableWithCores
     requires { table.count ≤ max_sets }
-    ensures* r_value { λ r. ⌜ complete_outcome r ≡ complete_normal table.n (sets_of table) ⌝ }
-    ensures* within { λ r. ⌜ CompleteWithin r ⌝ }
+    ensures value { complete_outcome result ≡ complete_normal table.n (sets_of table) }
+    ensures within { CompleteWithin result }
 {
     let count = table.count;
     let sets = table.sets;
@@ -65,8 +67,8 @@ fn with_cores(table: Table) -> TableWithCores
 // The normal table of at most 128 sets and its cores; 13 where there are more than 1024.
 fn complete_sets(n: u8, sets: &[u64]) -> TableWithCores
     requires { length sets.now ≤ max_sets }
-    ensures* r_value { λ r. ⌜ complete_outcome r ≡ complete_sets n sets.now ⌝ }
-    ensures* within { λ r. ⌜ CompleteWithin r ⌝ }
+    ensures value { complete_outcome result ≡ complete_sets n sets.now }
+    ensures within { CompleteWithin result }
 {
     let mut normal = [0u64; MAX_SETS];
     let form = normal_forms::normal(sets, &mut normal);
@@ -82,7 +84,7 @@ fn complete_sets(n: u8, sets: &[u64]) -> TableWithCores
 
 // What the masks meet, mask by mask.
 fn check_each(kind: MaskKind, n: u8, masks: &[u64]) -> Answer
-    ensures* { λ r. ⌜ outcome_of r masks.now ≡ each_mask kind n masks.now (result masks.now) ⌝ }
+    ensures { outcome_of result masks.now ≡ each_mask kind n masks.now (yields masks.now) }
 {
     let mut i = 0;
     while i < masks.len() {
@@ -97,7 +99,7 @@ fn check_each(kind: MaskKind, n: u8, masks: &[u64]) -> Answer
 
 // What n and survivor sets or fault groups meet before the cores are looked for: 3, 2, 5, then mask by mask.
 pub fn check_masks(kind: MaskKind, n: u8, masks: &[u64]) -> Answer
-    ensures* { λ r. ⌜ outcome_of r masks.now ≡ checked_masks kind n masks.now ⌝ }
+    ensures { outcome_of result masks.now ≡ checked_masks kind n masks.now }
 {
     if !is_frame(n) {
         return Answer::Refused(Refusal::FrameSize);
@@ -113,8 +115,8 @@ pub fn check_masks(kind: MaskKind, n: u8, masks: &[u64]) -> Answer
 
 // The normal table of n drives and some sets, with its cores: 3, 2, 5, 4, 13.
 pub fn accept(n: u8, sets: &[u64]) -> TableWithCores
-    ensures* r_value { λ r. ⌜ complete_outcome r ≡ complete_table n sets.now ⌝ }
-    ensures* within { λ r. ⌜ CompleteWithin r ⌝ }
+    ensures value { complete_outcome result ≡ complete_table n sets.now }
+    ensures within { CompleteWithin result }
 {
     let checked = check_masks(MaskKind::SurvivorSet, n, sets);
     match checked {

@@ -1,5 +1,7 @@
 // One drive's part in an exchange for C: the state goes in and comes back by value, as a struct of numbers. A refusal
 // hands it back as it came. The header `include/regdulyn.h` declares what stands here.
+#![tactic(auto)]
+
 ghost use Rattle.std.specs.Prelude.{◌≡◌, length};
 ghost use Rattle.drive_sets.specs.Lent.{buffer_after};
 ghost use Rattle.c_states.specs.Crossing.{exchange_of};

@@ -6,7 +6,7 @@ use native.Mathlib.Omega.{arith}
 use lib.ListN.{length}
 use Rattle.drive_sets.specs.Bools.Laws.{by_test, cond_true, cond_false}
 use Rattle.drive_sets.specs.Limits.{max_sets, max_text}
-use Rattle.drive_sets.specs.Refusals.{Outcome, refused, result}
+use Rattle.drive_sets.specs.Refusals.{Outcome, refused, yields}
 use Rattle.drive_sets.specs.Refusals.Laws.{same_result, first_result}
 use Rattle.survivor_tables.specs.declared.frames.MaskKind.{MaskKind}
 use Rattle.survivor_tables.specs.declared.frames.MaskKind.TheVariants.{SurvivorSet, FaultGroup}
@@ -23,21 +23,21 @@ use Rattle.convert_files.specs.ConvertFiles.{is_fault_list, write_table_from, ta
 short : (kind : MaskKind) (n : ℕ) (masks : List ℕ) {file : List ℕ} → file_bytes kind n masks ≡ file → length masks ≤ max_sets → length file ≤ max_text
 short kind n masks e few = omega (arith, ap length e, length_file kind n masks, few)
 
-table_short : (s : List ℕ) {file : List ℕ} → table_file s ≡ result file → length file ≤ max_text
+table_short : (s : List ℕ) {file : List ℕ} → table_file s ≡ yields file → length file ≤ max_text
 unfolding table_file write_table_from
 table_short s e =
     let read = first_result (read_faults s) _ e in
     let l = read.0 in
-    let made = first_result (table_from_faults l.n l.sets) (λ table. result (table_bytes l.n table)) read.2 in
+    let made = first_result (table_from_faults l.n l.sets) (λ table. yields (table_bytes l.n table)) read.2 in
     let w = from_faults l.n l.sets made.1 in
     short SurvivorSet l.n made.0 (same_result made.2) (omega (arith, ap length w.is, (accepted_normal l.n (rests l.n l.sets) w.accepted).most))
 
-fault_short : (s : List ℕ) {file : List ℕ} → fault_file s ≡ result file → length file ≤ max_text
+fault_short : (s : List ℕ) {file : List ℕ} → fault_file s ≡ yields file → length file ≤ max_text
 unfolding fault_file write_faults_from
 fault_short s e =
     let read = first_result (read_whole s) _ e in
     let t = read.0 in
-    let made = first_result (faults_from_table t.n t.sets) (λ groups. result (fault_bytes t.n groups)) read.2 in
+    let made = first_result (faults_from_table t.n t.sets) (λ groups. yields (fault_bytes t.n groups)) read.2 in
     short FaultGroup t.n made.0 (same_result made.2) (list_again t.n made.0 (table_list t.n t.sets made.1).1).0.most
 
 pub program_length : (input : List ℕ) → length (convert_program input) ≤ max_text
@@ -46,7 +46,7 @@ program_length input = go (convert_file input) refl
   where
     go : (o : Outcome (List ℕ)) → convert_file input ≡ o → length (printed o) ≤ max_text
     go (refused r) e = refusal_length r
-    go (result file) e =
+    go (yields file) e =
         by_test (is_fault_list input)
         (λ is. table_short input (sym (cond_true _ _ is) ∙ e))
         (λ no. fault_short input (sym (cond_false _ _ no) ∙ e))

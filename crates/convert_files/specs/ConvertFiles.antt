@@ -1,7 +1,7 @@
 -- The convert program: from the file of a fault list to that of its table, and from the file of a table to that of its
 -- fault list, or the line of a refusal. Document 02 (vi): "We convert both ways."
 use Rattle.std.specs.Prelude.{Bool, cond, List, ℕ, drop}
-use Rattle.drive_sets.specs.Refusals.{Outcome, result, and_then}
+use Rattle.drive_sets.specs.Refusals.{Outcome, yields, and_then}
 use Rattle.records.specs.declared.Kind.TheVariants.{Fault}
 use Rattle.records.specs.Marks.{is_kind, kind_at}
 use Rattle.table_files.specs.Files.{read_whole, table_bytes}
@@ -16,7 +16,7 @@ is_fault_list s = is_kind Fault (kind_at (drop 3 s))
 
 -- the bytes of the normal table of a fault list
 unfoldable pub write_table_from : ℕ → List ℕ → Outcome (List ℕ)
-write_table_from n groups = and_then (table_from_faults n groups) (λ table. result (table_bytes n table))
+write_table_from n groups = and_then (table_from_faults n groups) (λ table. yields (table_bytes n table))
 
 -- the file of the normal table of a fault list
 unfoldable pub table_file : List ℕ → Outcome (List ℕ)
@@ -35,8 +35,8 @@ convert_file s =
 -- the file itself in normal form
 unfoldable pub normal_file : List ℕ → Outcome (List ℕ)
 normal_file s =
-    let faults = and_then (read_faults s) (λ l. result (fault_bytes l.n l.sets)) in
-    let table = and_then (read_whole s) (λ t. result (table_bytes t.n t.sets)) in
+    let faults = and_then (read_faults s) (λ l. yields (fault_bytes l.n l.sets)) in
+    let table = and_then (read_whole s) (λ t. yields (table_bytes t.n t.sets)) in
     cond (is_fault_list s) faults table
 
 -- what the convert program prints for the bytes on its input

@@ -2,6 +2,8 @@
 // line of a refusal, and nothing else.
 //
 // Input behind the first 4096 bytes changes nothing (`convert_program_prefix` in convert_files), and is left unread.
+#![tactic(auto)]
+
 use libc::{STDIN_FILENO, STDOUT_FILENO};
 use text::printing::{MAX_INPUT, MAX_TEXT};
 

@@ -25,7 +25,7 @@ fn room_in(places: usize) -> usize
 fn search_into(order: Order, sets: &[u64], list: &mut [u64], out: &mut [u64]) -> Attempt
     requires { length list.old ≡ room_in out.old }
     ensures found { Found (precedes order) sets.now out.old out.new result.found }
-    ensures done_value { result.done ≡ true }
+    ensures done { result.done ≡ true }
 {
     let r = search_until_done(order, sets, list);
     let found = r.found;
@@ -40,7 +40,7 @@ fn search_into(order: Order, sets: &[u64], list: &mut [u64], out: &mut [u64]) ->
 // no result.
 pub fn measured_search(order: Order, sets: &[u64], out: &mut [u64]) -> Attempt
     ensures found { Found (precedes order) sets.now out.old out.new result.found }
-    ensures done_value { result.done ≡ true }
+    ensures done { result.done ≡ true }
 {
     let room = room_in(out.len());
     let mut list = [0u64; MAX_CORES];

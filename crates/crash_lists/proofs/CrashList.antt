@@ -14,7 +14,7 @@ use Rattle.drive_sets.specs.Bools.Laws.{clash}
 use Rattle.drive_sets.specs.Masks.{has}
 use Rattle.drive_sets.specs.Masks.Laws.{has_none}
 use Rattle.drive_sets.specs.Masks.OneDrive.{insert_cases, insert_lt}
-use Rattle.drive_sets.specs.Refusals.{Outcome, refused, result, number}
+use Rattle.drive_sets.specs.Refusals.{Outcome, refused, yields, number}
 use Rattle.drive_sets.specs.Refusals.Laws.{same_result, first_result}
 use Rattle.records.specs.declared.Due.TheVariants.{AtRecordOrEnd}
 use Rattle.records.specs.declared.Kind.TheVariants as kinds
@@ -98,7 +98,7 @@ module _ {s : List ℕ} {n core : ℕ} {c : Crashes} {last count at : ℕ} (r : 
     pub listed_within : at + 3 ≤ length s
     listed_within = end_within (crash_list n core) (read_all n core s) s (listed c last) at r.reading refl (said End e)
 
-    pub listing_end : result (record { list = listed c last; rest = drop (at + 3) s }) ≡ read_all n core s
+    pub listing_end : yields (record { list = listed c last; rest = drop (at + 3) s }) ≡ read_all n core s
     listing_end = reading_end (crash_list n core) (read_all n core s) s (listed c last) at r.reading refl (said End e)
 
   -- one more crash
@@ -107,7 +107,7 @@ module _ {s : List ℕ} {n core : ℕ} {c : Crashes} {last count at : ℕ} (r : 
     unfolding taken_crash crash_record
     crash_bounds =
         let taken = step_taken (crash_list n core) (read_all n core s) s (listed c last) at r.reading refl (said (Crash d q m) e) in
-        let w = first_result (checked_crash n core last (crash_fields (drop at s))) (λ x. result (record { crashes = crashes_in c ++ (x ∷ []); last = x.drive })) taken in
+        let w = first_result (checked_crash n core last (crash_fields (drop at s))) (λ x. yields (record { crashes = crashes_in c ++ (x ∷ []); last = x.drive })) taken in
         let passes = checked_passes n core last (crash_fields (drop at s)) w.1 in
         next_bounds n last d.0
         (subst (λ (x : ℕ). is_next n last x ≡ true) (ap (λ (x : CrashRecord). x.drive) passes.0 ∙ ap (λ (x : CrashList). x.last) (same_result w.2)) passes.1.next)

@@ -1,7 +1,7 @@
 -- The CR records of a run file as bytes: CR (none is fine), EN with their count. They are one list of records, so
 -- reading finds the refusals from left to right.
 use Rattle.std.specs.Prelude.{false, List, [], ◌∷◌, ◌++◌, ℕ, length}
-use Rattle.drive_sets.specs.Refusals.{Outcome, result, and_then}
+use Rattle.drive_sets.specs.Refusals.{Outcome, yields, and_then}
 use Rattle.records.specs.declared.Due.TheVariants.{AtRecordOrEnd}
 use Rattle.records.specs.declared.Kind.TheVariants.{Crash}
 use Rattle.records.specs.Fields.{field_at}
@@ -24,7 +24,7 @@ no_crash = record { crashes = []; last = 0 }
 -- one CR more: 8, then 9 and 10
 unfoldable pub taken_crash : ℕ → ℕ → CrashList → List ℕ → Outcome CrashList
 taken_crash n core l s =
-    and_then (checked_crash n core l.last (crash_fields s)) (λ c. result (record { crashes = l.crashes ++ (c ∷ []); last = c.drive }))
+    and_then (checked_crash n core l.last (crash_fields s)) (λ c. yields (record { crashes = l.crashes ++ (c ∷ []); last = c.drive }))
 
 -- the records behind the last PR or PW
 abbrev pub crash_list : ℕ → ℕ → ListFormat CrashList

@@ -4,7 +4,7 @@ use Rattle.std.specs.Prelude.{List, [], ◌∷◌, ◌++◌, ℕ, drop}
 use Rattle.std.proofs.Math.Option.{Option, none, some}
 use Rattle.drive_sets.specs.declared.Answer.TheVariants.{Refused}
 use Rattle.drive_sets.specs.declared.Refusal.{Refusal}
-use Rattle.drive_sets.specs.Refusals.{Outcome, refused, result, number, outcome_of}
+use Rattle.drive_sets.specs.Refusals.{Outcome, refused, yields, number, outcome_of}
 use Rattle.records.specs.RecordLists.{ReadList}
 use Rattle.drive_crashes.specs.Crashes.{crash_record, crashes_in, no_crashes}
 use Rattle.crash_lists.specs.declared.CrashesRead.{CrashesRead}
@@ -23,5 +23,5 @@ refused_crashes r = record { answer = Refused r; crashes = no_crashes; last = re
 -- what a step makes of the CR records listed
 abbrev pub step_outcome : CrashList → Step → Outcome (Option CrashList)
 step_outcome l (Stop r) = refused (number r)
-step_outcome l End = result none
-step_outcome l (Crash drive round sends) = result (some (record { crashes = l.crashes ++ (crash_record drive round sends ∷ []); last = drive.0 }))
+step_outcome l End = yields none
+step_outcome l (Crash drive round sends) = yields (some (record { crashes = l.crashes ++ (crash_record drive round sends ∷ []); last = drive.0 }))

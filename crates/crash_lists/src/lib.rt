@@ -1,5 +1,7 @@
 // The CR records of a run file and its EN, a record at a time: the crashes by drive, or the first refusal. What is left
 // to read gives at each record what the whole gives.
+#![tactic(auto)]
+
 ghost use Rattle.std.specs.Prelude.{◌≡◌, ◌≤◌, ltb, length};
 ghost use Rattle.drive_sets.specs.Limits.{max_drives};
 ghost use Rattle.drive_sets.specs.Refusals.{refuse_if, Alone};
@@ -13,7 +15,7 @@ use drive_sets::{Answer, Drive, MAX_DRIVES, Refusal, Round};
 use records::{CRASH_WIDTH, Due, END_WIDTH, Kind, Next};
 
 // The crashes read, the drive of the last, and how many bytes they took with EN, where all are accepted.
-#[derive(Drop)]
+#[derive(Clone, Copy)]
 pub struct CrashesRead {
     pub answer: Answer,
     pub crashes: Crashes,
@@ -22,7 +24,7 @@ pub struct CrashesRead {
 }
 
 // What stands where a CR or the end is due.
-#[derive(Drop)]
+#[derive(Clone, Copy)]
 enum Step {
     Crash(Drive, Round, u8),
     End,
@@ -81,7 +83,7 @@ fn note(c: Crashes, drive: Drive, round: Round, made: u8) -> Crashes
 // The records behind the last PR or PW, for any n and core: 3 where n is above 64, then their refusals. Beside a
 // refusal nothing is told.
 pub fn read_crashes(s: &[u8], n: u8, core: u64) -> CrashesRead
-    ensures s_value { crashes_outcome result s.now ≡ refuse_if (ltb max_drives n) Refusal.FrameSize (read_list (crash_list n core) no_crash s.now) }
+    ensures value { crashes_outcome result s.now ≡ refuse_if (ltb max_drives n) Refusal.FrameSize (read_list (crash_list n core) no_crash s.now) }
     ensures within { result.used ≤ length s.now }
     ensures alone { Alone (λ (u : CrashesRead). u.answer) refused_crashes result }
 {

@@ -1,4 +1,6 @@
 // Crashes of drives: what a CR says by drive, and refusals 8, 9 and 10.
+#![tactic(auto)]
+
 ghost use Rattle.std.specs.Prelude.{◌≡◌};
 ghost use Rattle.drive_sets.specs.Refusals.{outcome_of};
 ghost use Rattle.runs.specs.CrashRecords.{is_next, most_sends, checked_crash};
@@ -7,7 +9,7 @@ ghost use Rattle.drive_crashes.specs.Crashes.{no_crashes, crash_record};
 use drive_sets::{Answer, Drive, Refusal, Round};
 
 // Crashes by drive: the drives with a CR, and of each such drive d, at place d - 1, the round and the sends.
-#[derive(Drop)]
+#[derive(Clone, Copy)]
 pub struct Crashes {
     pub crashed: u64,
     pub rounds: [Round; 64],

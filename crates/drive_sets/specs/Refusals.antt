@@ -40,7 +40,7 @@ number AllDrives = 34
 -- what a call gives
 pub data Outcome (A : Type 0) : Type 0 where
   refused : ℕ → Outcome A  -- by its number
-  result : A → Outcome A
+  yields : A → Outcome A
 
 -- the refusal where the condition holds, and else what comes next: so the first refusal is given
 module _ {A : Type 0} where
@@ -51,12 +51,12 @@ module _ {A : Type 0} where
 module _ {A B : Type 0} where
   abbrev pub and_then : Outcome A → (A → Outcome B) → Outcome B
   and_then (refused r) f = refused r
-  and_then (result a) f = f a
+  and_then (yields a) f = f a
 
 -- what an answer says, where its result stands beside it
 module _ {A : Type 0} where
   abbrev pub outcome_of : Answer → A → Outcome A
-  outcome_of Accepted a = result a
+  outcome_of Accepted a = yields a
   outcome_of (Refused r) a = refused (number r)
 
   -- a refusal is its number alone: all else is what it is beside each such refusal

@@ -1,5 +1,7 @@
 // Sets of drives as 64-bit masks, the three counts that are never mixed up, positions in a list, and the refusals of
 // every call. Each function is total and gives what its definition in specs/ gives.
+#![tactic(auto)]
+
 ghost use Rattle.std.specs.Prelude.{◌≡◌, eqb};
 ghost use Rattle.drive_sets.specs.Counts.{is_drive, is_round};
 ghost use Rattle.drive_sets.specs.Masks.{has, single, full, union, minus, outside, meets, subset, size, lowest, lowest_alone};
@@ -8,17 +10,17 @@ ghost use Rattle.drive_sets.specs.Refusals.{number};
 
 // A drive's number, from 1: a process. The three counts cross to C as the numbers that they are.
 #[repr(C)]
-#[derive(Drop)]
+#[derive(Clone, Copy)]
 pub struct Drive(pub u8);
 
 // A round's number, from 1.
 #[repr(C)]
-#[derive(Drop)]
+#[derive(Clone, Copy)]
 pub struct Round(pub u8);
 
 // A pattern number: the value that is proposed and decided. Each of 0 to 4294967295 is one.
 #[repr(C)]
-#[derive(Drop)]
+#[derive(Clone, Copy)]
 pub struct Pattern(pub u32);
 
 pub const MAX_DRIVES: u8 = 64;
@@ -29,7 +31,7 @@ pub const PATTERN_BYTES: usize = 4;
 pub const NARROW_PATTERN_BYTES: usize = 2;
 
 // Why a call is refused, by the lists of documents 01 and 02; `number` has its numbers.
-#[derive(Drop)]
+#[derive(Clone, Copy)]
 pub enum Refusal {
     // From the input.
     EndsTooSoon,
@@ -66,14 +68,14 @@ pub enum Refusal {
 }
 
 // What a call answers, where its result stands beside the answer.
-#[derive(Drop)]
+#[derive(Clone, Copy)]
 pub enum Answer {
     Accepted,
     Refused(Refusal),
 }
 
 // A position in a list, counted from 1, or none.
-#[derive(Drop)]
+#[derive(Clone, Copy)]
 pub enum Position {
     None,
     At(usize),

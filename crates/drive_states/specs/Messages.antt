@@ -4,7 +4,7 @@
 use Rattle.std.specs.Prelude.{◌≡◌, Bool, true, false, not, ◌&&◌, ◌||◌, cond, List, [], ◌∷◌, ◌++◌, map, ℕ, ◌+◌, ◌*◌, ◌^◌, ◌<◌, ltb, length, take, drop}
 use Rattle.drive_sets.specs.declared.Refusal.TheVariants.{EndsTooSoon, TrailingBytes, DriveNumber, KnownMask}
 use Rattle.drive_sets.specs.Masks.{has, full, subset, size, drives}
-use Rattle.drive_sets.specs.Refusals.{Outcome, result, refuse_if}
+use Rattle.drive_sets.specs.Refusals.{Outcome, yields, refuse_if}
 use Rattle.records.specs.declared.Due.TheVariants.{AtMessage}
 use Rattle.records.specs.declared.Kind.{Kind}
 use Rattle.records.specs.declared.Kind.TheVariants.{Known, Decide, WideKnown, WideDecide}
@@ -144,7 +144,7 @@ checked n width bytes m =
     (refuse_if (wrong_mask n m.sender m.content) KnownMask
     (refuse_if (ltb bytes (length_in width m.content)) EndsTooSoon
     (refuse_if (ltb (length_in width m.content) bytes) TrailingBytes
-    (result m))))
+    (yields m))))
 
 -- mark cut (1), 2, the rest up to the mask of a KN or KW cut (1), and what follows
 unfoldable pub read_message : ℕ → List ℕ → Outcome Message

@@ -1,23 +1,25 @@
 // The state that a drive keeps from call to call in an exchange. No code: the calls that work on it stand in the crates
 // `exchange`, `sending` and `receiving`, above what is stated and proved of them.
+#![tactic(auto)]
+
 use drive_sets::{Drive, Pattern, Round};
 
 // What a drive has decided on.
-#[derive(Drop)]
+#[derive(Clone, Copy)]
 pub enum Decision {
     Undecided,
     Decided(Pattern),
 }
 
 // The decision that the lowest-numbered sender of a DC or DW announced in this round: the sender and its decision.
-#[derive(Drop)]
+#[derive(Clone, Copy)]
 pub enum Announcement {
     Absent,
     By(Drive, Pattern),
 }
 
 // The state of one drive.
-#[derive(Drop)]
+#[derive(Clone, Copy)]
 pub struct Exchange {
     // The drives of the frame.
     pub n: u8,

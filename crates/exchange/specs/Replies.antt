@@ -1,6 +1,6 @@
 -- What the answer of a call that is handed a state says: a refusal, which keeps the state, or the new state.
 use Rattle.std.specs.Prelude.{◌≡◌}
-use Rattle.drive_sets.specs.Refusals.{Outcome, refused, result, outcome_of}
+use Rattle.drive_sets.specs.Refusals.{Outcome, refused, yields, outcome_of}
 use Rattle.drive_states.specs.declared.Exchange.{Exchange}
 use Rattle.exchange.specs.declared.Reply.{Reply}
 use Rattle.agreement.specs.Calls.{initial}
@@ -12,7 +12,7 @@ reply_of r = outcome_of r.answer r.state
 -- the state after a call that was handed a state
 abbrev pub state_after : Exchange → Outcome Exchange → Exchange
 state_after x (refused r) = x
-state_after x (result y) = y
+state_after x (yields y) = y
 
 -- the state of a drive that was never opened: one of no drives, which every call but an opening refuses with 28
 unfoldable pub not_opened : Exchange

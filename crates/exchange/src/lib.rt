@@ -1,6 +1,8 @@
 // One drive's part in an exchange, which is one instance of consensus by SyncCrash: the rules that its state keeps, its
 // first state and the close of a round. The opening, the send and the message call are the crates `opening`, `sending`
 // and `receiving`. What each call gives is defined, and shown to reach agreement, in the crate `agreement`.
+#![tactic(auto)]
+
 ghost use Rattle.std.specs.Prelude.{◌≡◌, not, ◌&&◌};
 ghost use Rattle.drive_sets.specs.Masks.{has, subset};
 ghost use Rattle.drive_sets.specs.Refusals.{refused, number};
@@ -15,7 +17,7 @@ pub mod starting;
 
 // What a call that is handed a state gives: the new state where it is accepted, and where it is refused the state as it
 // was handed.
-#[derive(Drop)]
+#[derive(Clone, Copy)]
 pub struct Reply {
     pub answer: Answer,
     pub state: Exchange,

@@ -1,6 +1,8 @@
 // The library's calls about fault lists for programs in C: a slice passes as a pointer and a length, and a reply comes
 // back by value, as a struct of numbers whose `refusal` is 0 where the call is accepted. Beside a refusal the rest of a
 // reply is 0, and lent memory is as it was.
+#![tactic(auto)]
+
 ghost use Rattle.std.specs.Prelude.{◌≡◌, length};
 ghost use Rattle.drive_sets.specs.Lent.{fitting, size_written, buffer_after};
 ghost use Rattle.drive_sets.specs.Refusals.{and_then};

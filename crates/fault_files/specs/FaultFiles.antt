@@ -3,7 +3,7 @@ use Rattle.std.specs.Prelude.{List, [], ℕ, ◌≤◌, replicate}
 use Rattle.drive_sets.specs.declared.Answer.TheVariants.{Refused}
 use Rattle.drive_sets.specs.declared.Refusal.{Refusal}
 use Rattle.drive_sets.specs.Limits.{max_sets}
-use Rattle.drive_sets.specs.Refusals.{Outcome, result, and_then, outcome_of, Alone}
+use Rattle.drive_sets.specs.Refusals.{Outcome, yields, and_then, outcome_of, Alone}
 use Rattle.survivor_tables.specs.declared.frames.MaskKind.TheVariants.{FaultGroup}
 use Rattle.survivor_tables.specs.Tables.{within_core_limit}
 use Rattle.complete_tables.specs.Complete.{sets_of}
@@ -16,7 +16,7 @@ pub mod Laws
 
 -- the fault list in normal form; 13 comes last, where its survivor sets have more than 1024 cores
 unfoldable pub accepted_faults : ReadTable → Outcome ReadTable
-accepted_faults t = and_then (within_core_limit (rests t.n t.sets)) (λ table. result (record { n = t.n; sets = largest t.sets; rest = t.rest }))
+accepted_faults t = and_then (within_core_limit (rests t.n t.sets)) (λ table. yields (record { n = t.n; sets = largest t.sets; rest = t.rest }))
 
 -- a fault list and nothing more: bytes after the end meet 7
 unfoldable pub read_faults : List ℕ → Outcome ReadTable
@@ -29,11 +29,11 @@ fault_bytes = file_bytes FaultGroup
 
 -- the bytes of the fault list in normal form, after the refusals of a call given n and groups
 unfoldable pub write_faults : ℕ → List ℕ → Outcome (List ℕ)
-write_faults n groups = and_then (fault_list n groups) (λ list. result (fault_bytes n list))
+write_faults n groups = and_then (fault_list n groups) (λ list. yields (fault_bytes n list))
 
 -- the bytes of the fault list of a table, after the refusals of a call given n and sets
 unfoldable pub write_faults_from : ℕ → List ℕ → Outcome (List ℕ)
-write_faults_from n sets = and_then (faults_from_table n sets) (λ list. result (fault_bytes n list))
+write_faults_from n sets = and_then (faults_from_table n sets) (λ list. yields (fault_bytes n list))
 
 -- ---- what an answer says
 

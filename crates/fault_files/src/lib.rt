@@ -1,6 +1,8 @@
 // Fault lists as bytes: the reader, which shares its loop with that of tables, and the writer.
+#![tactic(auto)]
+
 ghost use Rattle.std.specs.Prelude.{◌≡◌, []};
-ghost use Rattle.drive_sets.specs.Refusals.{refused, result, and_then, number};
+ghost use Rattle.drive_sets.specs.Refusals.{refused, yields, and_then, number};
 ghost use Rattle.lent_bytes.specs.LentBuffers.{WrittenIfRoom};
 ghost use Rattle.tables.specs.Answers.{list_outcome, ListWithin};
 ghost use Rattle.fault_lists.specs.FaultLists.{fault_list};
@@ -17,7 +19,7 @@ use table_writing::write_list;
 use tables::calls::SetList;
 
 // A fault list that was read: n and its largest groups by mask rising, where it is accepted.
-#[derive(Drop)]
+#[derive(Clone, Copy)]
 pub struct FaultsRead {
     pub answer: Answer,
     pub list: Table,
@@ -25,8 +27,8 @@ pub struct FaultsRead {
 
 // The answer that is this refusal, and nothing else.
 fn refused(r: Refusal) -> FaultsRead
-    ensures* t_value { λ t. ⌜ faults_outcome t ≡ refused (number r) ⌝ }
-    ensures* within { λ t. ⌜ FaultsWithin t ⌝ }
+    ensures value { faults_outcome result ≡ refused (number r) }
+    ensures within { FaultsWithin result }
 {
     FaultsRead {
         answer: Answer::Refused(r),
@@ -40,8 +42,8 @@ fn refused(r: Refusal) -> FaultsRead
 
 // The fault list of n and groups in normal form.
 fn finish(n: u8, groups: &[u64]) -> FaultsRead
-    ensures* r_value { λ r. ⌜ faults_outcome r ≡ and_then (fault_list n groups.now) (list_read n []) ⌝ }
-    ensures* within { λ r. ⌜ FaultsWithin r ⌝ }
+    ensures value { faults_outcome result ≡ and_then (fault_list n groups.now) (list_read n []) }
+    ensures within { FaultsWithin result }
 {
     let list = fault_list(n, groups);
     let answer = list.answer;
@@ -58,8 +60,8 @@ fn finish(n: u8, groups: &[u64]) -> FaultsRead
 
 // The fault list that the bytes are. Left to right 1 to 5 and 34, 6, then 7 and 13.
 pub fn read_faults(s: &[u8]) -> FaultsRead
-    ensures* r_value { λ r. ⌜ faults_outcome r ≡ read_faults s.now ⌝ }
-    ensures* within { λ r. ⌜ FaultsWithin r ⌝ }
+    ensures value { faults_outcome result ≡ read_faults s.now }
+    ensures within { FaultsWithin result }
 {
     let listed = read_listed(s, MaskKind::FaultGroup);
     let answer = listed.answer;
@@ -80,7 +82,7 @@ pub fn read_faults(s: &[u8]) -> FaultsRead
 // The groups that a call gives, from the starting place on; its refusal, or 14.
 fn write_groups(n: u8, list: SetList, buf: &mut [u8], start: usize) -> Writing
     requires { ListWithin list }
-    ensures* { λ r. ⌜ WrittenIfRoom (and_then (list_outcome list) (λ groups. result (fault_bytes n groups))) start buf.old buf.new r ⌝ }
+    ensures { WrittenIfRoom (and_then (list_outcome list) (λ groups. yields (fault_bytes n groups))) start buf.old buf.new result }
 {
     let answer = list.answer;
     let groups = list.sets;
@@ -94,14 +96,14 @@ fn write_groups(n: u8, list: SetList, buf: &mut [u8], start: usize) -> Writing
 // The writer: the fault list of n and groups in normal form into the lent buffer, from the starting place on, touching
 // only its own bytes. 3, 2, 5, then 4 and 34 group by group, 13, then 14; on a refusal the buffer stays as it was.
 pub fn write_faults(n: u8, groups: &[u64], buf: &mut [u8], start: usize) -> Writing
-    ensures* { λ r. ⌜ WrittenIfRoom (write_faults n groups.now) start buf.old buf.new r ⌝ }
+    ensures { WrittenIfRoom (write_faults n groups.now) start buf.old buf.new result }
 {
     write_groups(n, fault_list(n, groups), buf, start)
 }
 
 // The same of a table, given as n and sets: the fault list that it is converted to. 3, 2, 5, 4, 13, then 14.
 pub fn write_faults_from(n: u8, sets: &[u64], buf: &mut [u8], start: usize) -> Writing
-    ensures* { λ r. ⌜ WrittenIfRoom (write_faults_from n sets.now) start buf.old buf.new r ⌝ }
+    ensures { WrittenIfRoom (write_faults_from n sets.now) start buf.old buf.new result }
 {
     write_groups(n, faults_from_table(n, sets), buf, start)
 }

@@ -3,7 +3,7 @@
 use Rattle.std.specs.Prelude.{Bool, not, ◌&&◌, List, [], ◌∷◌, ◌++◌, ℕ, eqb}
 use Rattle.drive_sets.specs.Lists.{any}
 use Rattle.drive_sets.specs.Masks.{outside, subset}
-use Rattle.drive_sets.specs.Refusals.{Outcome, result, and_then}
+use Rattle.drive_sets.specs.Refusals.{Outcome, yields, and_then}
 use Rattle.survivor_tables.specs.declared.frames.MaskKind.TheVariants.{FaultGroup}
 use Rattle.survivor_tables.specs.Order.{sorted_unless}
 use Rattle.survivor_tables.specs.Tables.{within_core_limit, checked_masks, normal_table}
@@ -34,14 +34,14 @@ table_from_faults n groups = and_then (checked_masks FaultGroup n groups) (λ fa
 
 -- the same with its cores
 unfoldable pub complete_from_faults : ℕ → List ℕ → Outcome Complete
-complete_from_faults n groups = and_then (table_from_faults n groups) (λ table. result (with_cores n table))
+complete_from_faults n groups = and_then (table_from_faults n groups) (λ table. yields (with_cores n table))
 
 -- the fault list itself in normal form
 unfoldable pub fault_list : ℕ → List ℕ → Outcome (List ℕ)
-fault_list n groups = and_then (table_from_faults n groups) (λ table. result (largest groups))
+fault_list n groups = and_then (table_from_faults n groups) (λ table. yields (largest groups))
 
 -- ---- the call given n and sets: 3, 2, 5, 4, 13
 
 -- the fault list of a table
 unfoldable pub faults_from_table : ℕ → List ℕ → Outcome (List ℕ)
-faults_from_table n sets = and_then (normal_table n sets) (λ table. result (largest (rests n table)))
+faults_from_table n sets = and_then (normal_table n sets) (λ table. yields (largest (rests n table)))

@@ -1,5 +1,7 @@
 // Fault lists: the conversions between a fault list, given as n and groups, and a survivor table, given as n and sets;
 // and the fault list in normal form. Each survivor set is the rest of the frame.
+#![tactic(auto)]
+
 ghost use Rattle.std.specs.Prelude.{◌≡◌, ◌≤◌, length, take};
 ghost use Rattle.drive_sets.specs.Refusals.{and_then};
 ghost use Rattle.complete_tables.specs.Complete.{complete_outcome, CompleteWithin};
@@ -30,7 +32,7 @@ fn put_rests(n: u8, masks: &[u64], out: &mut [u64])
 // The rests of the sets of a table, where it is accepted.
 fn rests_of(t: TableWithCores) -> SetList
     requires { CompleteWithin t }
-    ensures result_value { list_outcome result ≡ and_then (complete_outcome t) rests_of }
+    ensures value { list_outcome result ≡ and_then (complete_outcome t) rests_of }
     ensures within { ListWithin result }
 {
     let answer = t.answer;
@@ -53,7 +55,7 @@ fn rests_of(t: TableWithCores) -> SetList
 
 // The normal table of a fault list, with its cores: 3, 2, 5, then 4 and 34 group by group, then 13.
 pub fn table_from_faults(n: u8, groups: &[u64]) -> TableWithCores
-    ensures result_value { complete_outcome result ≡ complete_from_faults n groups.now }
+    ensures value { complete_outcome result ≡ complete_from_faults n groups.now }
     ensures within { CompleteWithin result }
 {
     let checked = check_masks(MaskKind::FaultGroup, n, groups);
@@ -70,7 +72,7 @@ pub fn table_from_faults(n: u8, groups: &[u64]) -> TableWithCores
 
 // A fault list in normal form, its largest groups by mask rising: 3, 2, 5, then 4 and 34 group by group, then 13.
 pub fn fault_list(n: u8, groups: &[u64]) -> SetList
-    ensures result_value { list_outcome result ≡ fault_list n groups.now }
+    ensures value { list_outcome result ≡ fault_list n groups.now }
     ensures within { ListWithin result }
 {
     rests_of(table_from_faults(n, groups))
@@ -78,7 +80,7 @@ pub fn fault_list(n: u8, groups: &[u64]) -> SetList
 
 // The fault list of a table, in normal form: 3, 2, 5, 4, 13.
 pub fn faults_from_table(n: u8, sets: &[u64]) -> SetList
-    ensures result_value { list_outcome result ≡ faults_from_table n sets.now }
+    ensures value { list_outcome result ≡ faults_from_table n sets.now }
     ensures within { ListWithin result }
 {
     rests_of(accept(n, sets))

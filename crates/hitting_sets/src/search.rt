@@ -18,7 +18,7 @@ use set_orders::MOST_COUNT;
 // ---- what is forbidden
 
 // A set for each drive, at its place.
-#[derive(Drop)]
+#[derive(Clone, Copy)]
 struct ByDrive {
     of: [u64; 64],
 }
@@ -153,14 +153,14 @@ fn candidates(
 }
 
 // How a search goes: with look-ahead or without, and whether it spends fuel.
-#[derive(Drop)]
+#[derive(Clone, Copy)]
 pub struct Mode {
     pub look_ahead: bool,
     pub limited: bool,
 }
 
 // How many are found, and the fuel that is left.
-#[derive(Drop)]
+#[derive(Clone, Copy)]
 pub struct Tally {
     pub found: usize,
     pub left: usize,

@@ -11,7 +11,7 @@ use borrow.Rule.Slice.PartMut.{put_mid}
 use Rattle.drive_sets.specs.Bools.Laws.{by_test, cond_true, cond_false}
 use Rattle.drive_sets.specs.declared.Refusal.{Refusal}
 use Rattle.drive_sets.specs.declared.Refusal.TheVariants.{NoRoom}
-use Rattle.drive_sets.specs.Refusals.{Outcome, refused, result, number}
+use Rattle.drive_sets.specs.Refusals.{Outcome, refused, yields, number}
 use Rattle.lent_bytes.specs.declared.Writing.{Writing}
 use Rattle.lent_bytes.specs.declared.Writing.TheVariants as writings
 use Rattle.drive_sets.specs.Lent.{written, fitting}
@@ -45,4 +45,4 @@ module _ (bytes : List ℕ) (start : ℕ) (old : List ℕ) (size : ℕ) (same : 
       → Written (fitting start (length old) bytes) start old (put_mid start (length old - start) old back) (writings.Wrote size)
   unfolding fitting
   written_all h back f =
-      written_as (sym (cond_false _ _ (ap not fits_is ∙ h))) (record { answer = ap (λ (k : ℕ). result k) same; buffer = part_written old back bytes start f })
+      written_as (sym (cond_false _ _ (ap not fits_is ∙ h))) (record { answer = ap (λ (k : ℕ). yields k) same; buffer = part_written old back bytes start f })

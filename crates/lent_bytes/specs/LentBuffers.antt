@@ -1,13 +1,13 @@
 -- What a call that writes bytes into a lent buffer answers, and what it leaves there.
 use Rattle.std.specs.Prelude.{◌≡◌, List, ℕ, length}
-use Rattle.drive_sets.specs.Refusals.{Outcome, refused, result, and_then, number}
+use Rattle.drive_sets.specs.Refusals.{Outcome, refused, yields, and_then, number}
 use Rattle.lent_bytes.specs.declared.Writing.{Writing}
 use Rattle.lent_bytes.specs.declared.Writing.TheVariants as writings
 use Rattle.drive_sets.specs.Lent.{fitting, size_written, buffer_after}
 
 -- what an answer says
 abbrev pub writing_outcome : Writing → Outcome ℕ
-writing_outcome (writings.Wrote size) = result size
+writing_outcome (writings.Wrote size) = yields size
 writing_outcome (writings.Refused r) = refused (number r)
 
 -- the answer and the lent bytes, each as what is due has it

@@ -1,5 +1,7 @@
 // Bytes in a lent buffer: the room for them, fields and records of one field put into the part that starts at the
 // cursor, and what a call that writes answers.
+#![tactic(auto)]
+
 ghost use Rattle.std.specs.Prelude.{◌≡◌, ◌+◌, leb};
 ghost use Rattle.records.specs.Fields.{to_bytes};
 ghost use Rattle.drive_sets.specs.Lent.{written};
@@ -8,7 +10,7 @@ ghost use Rattle.records.specs.Marks.{record_bytes};
 use drive_sets::Refusal;
 
 // How many bytes were written into a lent buffer, from the starting place on.
-#[derive(Drop)]
+#[derive(Clone, Copy)]
 pub enum Writing {
     Wrote(usize),
     Refused(Refusal),

@@ -1,4 +1,6 @@
 // The messages of an exchange written as bytes, and how long they are.
+#![tactic(auto)]
+
 use drive_sets::{MAX_DRIVES, PATTERN_BYTES};
 
 // How long a DW is.

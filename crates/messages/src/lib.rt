@@ -1,2 +1,4 @@
 // The messages of an exchange read from bytes: the fields of a message.
+#![tactic(auto)]
+
 pub mod reading;

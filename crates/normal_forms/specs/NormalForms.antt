@@ -2,7 +2,7 @@
 use Rattle.std.specs.Prelude.{◌≡◌, List, ℕ, ◌≤◌, ltb, length, take}
 use Rattle.drive_sets.specs.Limits.{max_sets}
 use Rattle.drive_sets.specs.declared.Refusal.TheVariants.{TooManySets}
-use Rattle.drive_sets.specs.Refusals.{Outcome, refused, result, refuse_if, number}
+use Rattle.drive_sets.specs.Refusals.{Outcome, refused, yields, refuse_if, number}
 use Rattle.survivor_tables.specs.Order.{normal}
 use Rattle.normal_forms.specs.declared.NormalForm.{NormalForm}
 use Rattle.normal_forms.specs.declared.NormalForm.TheVariants.{Sets, Refused}
@@ -15,7 +15,7 @@ normal_list room sets = refuse_if (ltb max_sets (length sets)) TooManySets (fitt
 
 -- what an answer says: how many sets the normal form has
 abbrev pub form_outcome : NormalForm → Outcome ℕ
-form_outcome (Sets count) = result count
+form_outcome (Sets count) = yields count
 form_outcome (Refused r) = refused (number r)
 
 -- the first r places hold the normal form

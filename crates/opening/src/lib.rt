@@ -1,4 +1,6 @@
 // The opening of an exchange from a table, a drive number and a pattern number.
+#![tactic(auto)]
+
 ghost use Rattle.agreement.specs.Calls.{opening};
 ghost use Rattle.exchange.specs.Replies.{Replied};
 

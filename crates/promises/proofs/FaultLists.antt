@@ -13,7 +13,7 @@ use borrow.Author.Tests.{eqb-true, eqb-false}
 use Rattle.drive_sets.specs.Bools.Laws.{true_of, cond_true, cond_false}
 use Rattle.drive_sets.specs.Lists.{elem}
 use Rattle.drive_sets.specs.Masks.{outside, Below}
-use Rattle.drive_sets.specs.Refusals.{Outcome, result, and_then}
+use Rattle.drive_sets.specs.Refusals.{Outcome, yields, and_then}
 use Rattle.drive_sets.specs.Refusals.Laws.{first_result, same_result}
 use Rattle.survivor_tables.specs.Executions.{Describes}
 use Rattle.survivor_tables.specs.Hitting.Critical.{all_critical, critical_all}
@@ -82,14 +82,14 @@ largest_of groups = record {
 }
 
 -- a list that is given is that of the largest groups, of groups within the frame
-faults_given : (n : ℕ) (groups list : List ℕ) → fault_list n groups ≡ result list → list ≡ largest groups
+faults_given : (n : ℕ) (groups list : List ℕ) → fault_list n groups ≡ yields list → list ≡ largest groups
 unfolding fault_list
-faults_given n groups list e = sym (same_result (first_result (table_from_faults n groups) (λ table. result (largest groups)) e).2)
+faults_given n groups list e = sym (same_result (first_result (table_from_faults n groups) (λ table. yields (largest groups)) e).2)
 
-table_given : (n : ℕ) (sets list : List ℕ) → faults_from_table n sets ≡ result list → Accepted n sets × (list ≡ largest (rests n sets))
+table_given : (n : ℕ) (sets list : List ℕ) → faults_from_table n sets ≡ yields list → Accepted n sets × (list ≡ largest (rests n sets))
 unfolding faults_from_table
 table_given n sets list e =
-    let first = first_result (normal_table n sets) (λ table. result (largest (rests n table))) e in
+    let first = first_result (normal_table n sets) (λ table. yields (largest (rests n table))) e in
     let w = table_accepted n sets first.0 first.1 in
     let a = w.0 in (
       a,
@@ -111,7 +111,7 @@ pub written_faults_read_back : WrittenFaultsReadBack
 unfolding WrittenFaultsReadBack write_faults
 written_faults_read_back n groups start old new r size w e =
     let there = stands (write_faults n groups) start old new r size w e in
-    let list = first_result (fault_list n groups) (λ l. result (fault_bytes n l)) there.are_due in (
+    let list = first_result (fault_list n groups) (λ l. yields (fault_bytes n l)) there.are_due in (
       list.0,
       list.1,
       ap read_faults (ap (take size) there.from_start ∙ (take_at there.bytes (drop (start + size) old) size there.many ∙ sym (same_result list.2))) ∙ faults_written n groups list.1,
@@ -119,14 +119,14 @@ written_faults_read_back n groups start old new r size w e =
 
 pub read_faults_written : ReadFaultsWritten
 unfolding ReadFaultsWritten write_faults
-read_faults_written s t e = ap (λ (o : Outcome (List ℕ)). and_then o (λ l. result (fault_bytes t.n l))) (faults_read s e).0
+read_faults_written s t e = ap (λ (o : Outcome (List ℕ)). and_then o (λ l. yields (fault_bytes t.n l))) (faults_read s e).0
 
 -- ---- failure models
 
 pub faults_fail_prone : FaultsFailProne
 unfolding FaultsFailProne fault_list
 faults_fail_prone n groups list e =
-    let made = first_result (table_from_faults n groups) (λ table. result (largest groups)) e in
+    let made = first_result (table_from_faults n groups) (λ table. yields (largest groups)) e in
     rw (faults_given n groups list e) (fail_prone n groups (groups_below n groups (from_faults n groups made.1).checked))
 
 pub tables_fail_prone : TablesFailProne
@@ -160,10 +160,10 @@ record Listed (n : ℕ) (groups list : List ℕ) : Type 0 where
   own : (g : ℕ) → elem g list ≡ true → elem g groups ≡ true
   table : rests n list ≡ normal (rests n groups)
 
-listed : (n : ℕ) (groups list : List ℕ) → fault_list n groups ≡ result list → Listed n groups list
+listed : (n : ℕ) (groups list : List ℕ) → fault_list n groups ≡ yields list → Listed n groups list
 unfolding fault_list
 listed n groups list e =
-    let made = first_result (table_from_faults n groups) (λ table. result (largest groups)) e in
+    let made = first_result (table_from_faults n groups) (λ table. yields (largest groups)) e in
     let w = from_faults n groups made.1 in
     let a = w.accepted in
     let below = groups_below n groups w.checked in
@@ -207,10 +207,10 @@ largest_tell n groups list e Φ faulty told = record {
 }
 
 -- the table of a fault list is that of its rests
-made_table : (n : ℕ) (groups : List ℕ) {t : Complete} → complete_from_faults n groups ≡ result t → TableOf n (rests n groups) t
+made_table : (n : ℕ) (groups : List ℕ) {t : Complete} → complete_from_faults n groups ≡ yields t → TableOf n (rests n groups) t
 unfolding complete_from_faults
 made_table n groups made =
-    let first = first_result (table_from_faults n groups) (λ table. result (with_cores n table)) made in
+    let first = first_result (table_from_faults n groups) (λ table. yields (with_cores n table)) made in
     let w = from_faults n groups first.1 in
     record { accepted = w.accepted; is = sym (same_result first.2) ∙ ap (with_cores n) w.is }
 
@@ -220,16 +220,16 @@ cores_of_faults n groups list t e made Φ faulty told =
     let l = listed n groups list e in
     let sets = rests n groups in
     let is = (made_table n groups made).is in
-    let given : complete_table n sets ≡ result t = ap (λ (o : Outcome (List ℕ)). and_then o (λ table. result (with_cores n table))) (accepted_table n sets l.accepted) ∙ ap result (sym is) in
+    let given : complete_table n sets ≡ yields t = ap (λ (o : Outcome (List ℕ)). and_then o (λ table. yields (with_cores n table))) (accepted_table n sets l.accepted) ∙ ap yields (sym is) in
     let described = fails_described n list (λ g h. l.below g (l.own g h)) l.accepted.high faulty told in
     cores_of_call n sets t given Φ (λ φ. outside n (faulty φ)) (subst (λ (s : List ℕ). Describes n s (λ φ. outside n (faulty φ))) (l.table ∙ sym (ap (λ (c : Complete). c.sets) is)) described)
 
 pub cores_of_model : CoresOfModel
 unfolding CoresOfModel CoresOfFaults LargestTell complete_from_faults fault_list
 cores_of_model n groups t made c =
-    let first = first_result (table_from_faults n groups) (λ table. result (with_cores n table)) made in
+    let first = first_result (table_from_faults n groups) (λ table. yields (with_cores n table)) made in
     let w = from_faults n groups first.1 in
-    let e = ap (λ (o : Outcome (List ℕ)). and_then o (λ table. result (largest groups))) first.1 in
+    let e = ap (λ (o : Outcome (List ℕ)). and_then o (λ table. yields (largest groups))) first.1 in
     let told = largest_tell n groups (largest groups) e _ _ (model_told n groups (groups_below n groups w.checked)) in
     let says = (cores_of_faults n groups (largest groups) t e made _ _ told).cores c in
     ((λ h. core_for n w.accepted.high (CanFail groups) c (says.0 h)), (λ core. says.1 (for_core n w.accepted.high (CanFail groups) c core)))

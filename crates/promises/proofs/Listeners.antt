@@ -10,7 +10,7 @@ use Rattle.drive_sets.specs.Masks.Laws.{has_bounds}
 use Rattle.drive_sets.specs.declared.Refusal.TheVariants.{NoneUntouched, TrailingBytes}
 use Rattle.drive_sets.specs.Positions.{is_none}
 use Rattle.survivor_tables.specs.Hitting.{first_missed}
-use Rattle.drive_sets.specs.Refusals.{Outcome, result, refuse_if, and_then}
+use Rattle.drive_sets.specs.Refusals.{Outcome, yields, refuse_if, and_then}
 use Rattle.drive_sets.specs.Refusals.Laws.{same_result, passed, first_result, then_same}
 use Rattle.survivor_tables.specs.Order.{normal}
 use Rattle.survivor_tables.specs.Tables.{is_empty, chosen, normal_table, chosen_core}
@@ -39,18 +39,18 @@ pub listeners_unused : ListenersUnused
 unfolding ListenersUnused ListenersFree simulated scenario core_of core_crashes
 listeners_unused n sets numbers others crs same =
     then_same (normal_table n sets) (λ table e.
-    ap (λ (es : List Ending). checked_crashes n (chosen table) 0 crs (refuse_if (is_none (first_missed sets (crashed crs))) NoneUntouched (result (record { endings = es; core = chosen (normal sets); stops = core_crashes (scenario n sets numbers crs) }))))
+    ap (λ (es : List Ending). checked_crashes n (chosen table) 0 crs (refuse_if (is_none (first_missed sets (crashed crs))) NoneUntouched (yields (record { endings = es; core = chosen (normal sets); stops = core_crashes (scenario n sets numbers crs) }))))
     (listeners_free (scenario n sets numbers crs) (table_accepted n sets table e).0 (λ d. get_or others (d - 1) 0) same))
 
 -- ---- the numbers of core drives
 
 -- 7 and 11 do not depend on the numbers
-whole_other : (sets numbers others : List ℕ) (c : ReadList CrashList) {f : RunFile} → whole_run sets (said numbers c) ≡ result f
-    → ((said numbers c).file ≡ f) × (whole_run sets (said others c) ≡ result (said others c).file)
+whole_other : (sets numbers others : List ℕ) (c : ReadList CrashList) {f : RunFile} → whole_run sets (said numbers c) ≡ yields f
+    → ((said numbers c).file ≡ f) × (whole_run sets (said others c) ≡ yields (said others c).file)
 unfolding whole_run untouched_left
 whole_other sets numbers others c e =
     let ended = passed (not (is_empty c.rest)) TrailingBytes (untouched_left sets (said numbers c).file) e in
-    let left = passed (is_none (first_missed sets (crashed c.list.crashes))) NoneUntouched (result (said numbers c).file) ended.1 in
+    let left = passed (is_none (first_missed sets (crashed c.list.crashes))) NoneUntouched (yields (said numbers c).file) ended.1 in
     (same_result left.1, rw (ended.0, left.0))
 
 pub run_file_numbers : RunFileNumbers
@@ -82,7 +82,7 @@ files_before n sets s f e =
     record {
       file = (said numbers second.0).file;
       reads =
-          ap (λ (o : Outcome ℕ). and_then o (λ k. read_behind n k sets s)) (found.1 ∙ ap (λ (k : ℕ). result k) (sym given.1))
+          ap (λ (o : Outcome ℕ). and_then o (λ k. read_behind n k sets s)) (found.1 ∙ ap (λ (k : ℕ). yields k) (sym given.1))
           ∙ (behind_is n core sets s
           ∙ (ap (λ (o : Outcome (ReadList ProposalList)). and_then o (behind_records n core sets)) still.reads
           ∙ (ap (behind_numbers n core sets numbers) still.behind ∙ (ap (λ (o : Outcome (ReadList CrashList)). and_then o (λ c. whole_run sets (said numbers c))) second.1 ∙ whole.1))));

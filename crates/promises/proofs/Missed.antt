@@ -14,7 +14,7 @@ use Rattle.drive_sets.specs.Lists.Laws.{any_elem, any_intro}
 use Rattle.drive_sets.specs.Lists.Places.{get_or_elem}
 use Rattle.drive_sets.specs.Masks.{meets, subset}
 use Rattle.drive_sets.specs.Masks.Laws.{has_meets, meets_has, meets_not}
-use Rattle.drive_sets.specs.Refusals.{result}
+use Rattle.drive_sets.specs.Refusals.{yields}
 use Rattle.drive_sets.specs.Refusals.Laws.{first_result, same_result, passed}
 use Rattle.drive_sets.specs.declared.Refusal.TheVariants.{BadSet}
 use Rattle.survivor_tables.specs.Hitting.{first_missed, hits}
@@ -29,11 +29,11 @@ use Rattle.promises.specs.Missed.{Meet, MissedOfCall, NoneOfCall, NoneOfListed, 
 -- ---- what the call gives
 
 module _ (n : ℕ) (sets : List ℕ) (group : ℕ) where
-  given : Accepted n sets → is_set n group ≡ true → missed_set n sets group ≡ result (first_missed (normal sets) group)
+  given : Accepted n sets → is_set n group ≡ true → missed_set n sets group ≡ yields (first_missed (normal sets) group)
   unfolding missed_set
   given a s = rw (accepted_table n sets a, s)
 
-  taken : {p : Position} → missed_set n sets group ≡ result p → Accepted n sets × (is_set n group ≡ true) × (first_missed (normal sets) group ≡ p)
+  taken : {p : Position} → missed_set n sets group ≡ yields p → Accepted n sets × (is_set n group ≡ true) × (first_missed (normal sets) group ≡ p)
   unfolding missed_set
   taken e =
       let first = first_result (normal_table n sets) _ e in
@@ -66,11 +66,11 @@ missed_of_call n sets group p e =
 -- ---- none
 
 module _ (n : ℕ) (sets : List ℕ) (group : ℕ) (a : Accepted n sets) (s : is_set n group ≡ true) where
-  none_hits : missed_set n sets group ≡ result None → hits (normal sets) group ≡ true
+  none_hits : missed_set n sets group ≡ yields None → hits (normal sets) group ≡ true
   none_hits e = (none_missed (normal sets) group).0 (taken n sets group e).2
 
-  hits_none : hits (normal sets) group ≡ true → missed_set n sets group ≡ result None
-  hits_none h = given n sets group a s ∙ ap (λ (p : Position). result p) ((none_missed (normal sets) group).1 h)
+  hits_none : hits (normal sets) group ≡ true → missed_set n sets group ≡ yields None
+  hits_none h = given n sets group a s ∙ ap (λ (p : Position). yields p) ((none_missed (normal sets) group).1 h)
 
 -- of a list of accepted sets
 hits_each : (n : ℕ) (sets : List ℕ) (group : ℕ) → Accepted n sets → (hits sets group ≡ true) ↔ ((set : ℕ) → elem set sets ≡ true → Meet set group)

@@ -18,7 +18,7 @@ use Rattle.drive_sets.specs.Masks.{has, lowest}
 use Rattle.drive_sets.specs.Masks.Laws.{has_none, has_bounds, none_has}
 use Rattle.drive_sets.specs.Masks.Sizes.{lowest_least}
 use Rattle.drive_sets.specs.declared.Refusal.TheVariants.{DriveNumber}
-use Rattle.drive_sets.specs.Refusals.{Outcome, refused, result, and_then, number}
+use Rattle.drive_sets.specs.Refusals.{Outcome, refused, yields, and_then, number}
 use Rattle.survivor_tables.specs.Order.{normal}
 use Rattle.survivor_tables.specs.Tables.{chosen, chosen_core, Accepted}
 use Rattle.survivor_tables.specs.Tables.Laws.{accepted_table, chosen_core_law}
@@ -44,7 +44,7 @@ module _ (n : ℕ) (sets : List ℕ) (a : Accepted n sets) (c : ℕ) (ps : List 
   behind_records_law : (rest : List ℕ) → read_run_file n sets (proposal_bytes ps ++ rest) ≡ read_on n core sets read.end rest
   unfolding read_run_file chosen_core
   behind_records_law rest =
-      ap (λ (o : Outcome (List ℕ)). and_then (and_then o (λ table. result (chosen table))) (λ k. read_behind n k sets (proposal_bytes ps ++ rest))) (accepted_table n sets a)
+      ap (λ (o : Outcome (List ℕ)). and_then (and_then o (λ table. yields (chosen table))) (λ k. read_behind n k sets (proposal_bytes ps ++ rest))) (accepted_table n sets a)
       ∙ (file_read n core sets ps rest fit ∙ ap (λ (o : Outcome ProposalList). and_then o (λ x. read_on n core sets x rest)) read.says_end)
 
   -- one record more that is refused

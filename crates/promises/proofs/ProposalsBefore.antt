@@ -19,7 +19,7 @@ use Rattle.drive_sets.specs.Masks.OneDrive.{has_remove}
 use Rattle.drive_sets.specs.Masks.Sizes.{lowest_from}
 use Rattle.drive_sets.specs.Counts.{is_drive}
 use Rattle.drive_sets.specs.declared.Refusal.TheVariants.{DriveNumber}
-use Rattle.drive_sets.specs.Refusals.{Outcome, result, and_then}
+use Rattle.drive_sets.specs.Refusals.{Outcome, yields, and_then}
 use Rattle.drive_sets.specs.Refusals.Laws.{refused_no_result, same_result, passed, first_result}
 use Rattle.records.specs.declared.Due.TheVariants.{AtProposal}
 use Rattle.records.specs.Fields.{from_bytes}
@@ -60,7 +60,7 @@ module _ (n core : ℕ) (frame : n ≤ 64) (within : core < 2 ^ n) where
 
     module _ (h : length given < n) where
       -- the next drive's record is in its place
-      in_place : (v : ℕ) → placed n l (suc (length given)) v ≡ result (with_proposal l (suc (length given)) v)
+      in_place : (v : ℕ) → placed n l (suc (length given)) v ≡ yields (with_proposal l (suc (length given)) v)
       unfolding is_next is_drive
       in_place v =
           rw (le-leb 1 (suc (length given)) (omega arith), le-leb (suc (length given)) n h, lt-ltb l.last (suc (length given)) (omega (arith, a.last)), le-ltb (lowest l.owed) (suc (length given)) (lowest_from l.owed (suc (length given)) a.word (omega arith) (λ e t. ltb-true (length given) e (and_right (has e core) _ (sym (a.owed e) ∙ t)))))
@@ -104,13 +104,13 @@ module _ (n core : ℕ) (frame : n ≤ 64) (within : core < 2 ^ n) where
   -- what was read is read: the bytes behind it are the same, and all drives were read
   pub record Still (bytes : ℕ) (l : ProposalList) (s : List ℕ) (p : ReadList (List ℕ)) : Type 0 where
     pub now_read : ReadList ProposalList
-    pub reads : read_from (proposal_list n) bytes l s ≡ result now_read
+    pub reads : read_from (proposal_list n) bytes l s ≡ yields now_read
     pub behind : now_read.rest ≡ p.rest
     pub alike : Matching p.list now_read.list
     pub whole : n ≤ length p.list
 
   -- where drive n was read, both end
-  still_ended : (bytes : ℕ) (given : List ℕ) (l : ProposalList) (s : List ℕ) {p : ReadList (List ℕ)} → Matching given l → leb n (length given) ≡ true → read_from (list_before n) bytes given s ≡ result p → Still bytes l s p
+  still_ended : (bytes : ℕ) (given : List ℕ) (l : ProposalList) (s : List ℕ) {p : ReadList (List ℕ)} → Matching given l → leb n (length given) ≡ true → read_from (list_before n) bytes given s ≡ yields p → Still bytes l s p
   unfolding proposals_end
   still_ended bytes given l s a t e =
       subst (Still bytes l s) (same_result (sym (read_complete_law (list_before n) bytes given s t) ∙ e)) (record {
@@ -128,10 +128,10 @@ module _ (n core : ℕ) (frame : n ≤ 64) (within : core < 2 ^ n) where
 
     record Step (t : List ℕ) : Type 0 where
       goes_on : proposals_end n l.last l.owed s ≡ false
-      steps : step_of (proposal_list n) l s ≡ result (some next)
+      steps : step_of (proposal_list n) l s ≡ yields (some next)
       alike : Matching t next
 
-    step_still : {t : List ℕ} → step_of (list_before n) given s ≡ result (some t) → Step t
+    step_still : {t : List ℕ} → step_of (list_before n) given s ≡ yields (some t) → Step t
     unfolding step_of taken_before taken_proposal proposals_end is_due is_kind mark mark_text ascii from_bytes
     step_still {t} e =
         let w = step_more (list_before n) given s e in
@@ -146,11 +146,11 @@ module _ (n core : ℕ) (frame : n ≤ 64) (within : core < 2 ^ n) where
         }
 
     -- EN was not due
-    no_end : step_of (list_before n) given s ≡ result none → ⊥
+    no_end : step_of (list_before n) given s ≡ yields none → ⊥
     unfolding is_due is_kind mark mark_text ascii from_bytes
     no_end e = clash (step_end (list_before n) given s e).is_due_law refl
 
-  pub still_read : (bytes : ℕ) (given : List ℕ) (l : ProposalList) (s : List ℕ) {p : ReadList (List ℕ)} → Matching given l → read_from (list_before n) bytes given s ≡ result p → Still bytes l s p
+  pub still_read : (bytes : ℕ) (given : List ℕ) (l : ProposalList) (s : List ℕ) {p : ReadList (List ℕ)} → Matching given l → read_from (list_before n) bytes given s ≡ yields p → Still bytes l s p
   unfolding read_from
   still_read zero given l s a e = by_test (leb n (length given)) (λ t. still_ended zero given l s a t e) (λ t. absurd (refused_no_result (sym (cond_false _ _ t) ∙ e)))
   still_read (suc bytes) given l s {p} a e =
@@ -158,8 +158,8 @@ module _ (n core : ℕ) (frame : n ≤ 64) (within : core < 2 ^ n) where
       (λ t. let w = first_result (step_of (list_before n) given s) (following (list_before n) (read_from (list_before n) bytes) given s) (sym (cond_false _ _ t) ∙ e) in
       go t w.0 w.1 w.2 (λ x m b. still_read bytes x m (drop (width_at s) s) b))
     where
-      go : leb n (length given) ≡ false → (o : Option (List ℕ)) → step_of (list_before n) given s ≡ result o → following (list_before n) (read_from (list_before n) bytes) given s o ≡ result p
-          → ((x : List ℕ) (m : ProposalList) → Matching x m → read_from (list_before n) bytes x (drop (width_at s) s) ≡ result p → Still bytes m (drop (width_at s) s) p) → Still (suc bytes) l s p
+      go : leb n (length given) ≡ false → (o : Option (List ℕ)) → step_of (list_before n) given s ≡ yields o → following (list_before n) (read_from (list_before n) bytes) given s o ≡ yields p
+          → ((x : List ℕ) (m : ProposalList) → Matching x m → read_from (list_before n) bytes x (drop (width_at s) s) ≡ yields p → Still bytes m (drop (width_at s) s) p) → Still (suc bytes) l s p
       go t none step f later = absurd (no_end a t s step)
       go t (some x) step f later =
           let i = step_still a t s step in

@@ -18,7 +18,7 @@ use Rattle.drive_sets.specs.Masks.{has, single, lowest}
 use Rattle.drive_sets.specs.Masks.Laws.{minus_lt}
 use Rattle.drive_sets.specs.Masks.OneDrive.{remove_keeps, remove_has}
 use Rattle.drive_sets.specs.Masks.Sizes.{lowest_from}
-use Rattle.drive_sets.specs.Refusals.{Outcome, result, and_then, number}
+use Rattle.drive_sets.specs.Refusals.{Outcome, yields, and_then, number}
 use Rattle.runs.specs.CrashRecords.{is_next}
 use Rattle.proposal_lists.specs.ProposalLists.{ProposalList, no_proposal, with_proposal, ProposalRecord, record_drives}
 use Rattle.promises.specs.Listeners.{InPlace}
@@ -35,7 +35,7 @@ module _ (n c : ℕ) (frame : n ≤ 64) where
   -- all are taken, and what is owed in the end
   pub record AllTaken (l : ProposalList) (ps : List ProposalRecord) : Type 0 where
     pub end : ProposalList
-    pub says_end : says_all n l ps ≡ result end
+    pub says_end : says_all n l ps ≡ yields end
     pub word : end.owed < 2 ^ 64
     pub none_below : (d : ℕ) → has d end.owed ≡ true → (has d l.owed ≡ true) × (c ≤ d)
     pub still_owed : (d : ℕ) → has d l.owed ≡ true → c ≤ d → has d end.owed ≡ true
@@ -61,7 +61,7 @@ module _ (n c : ℕ) (frame : n ≤ 64) where
     unfolding all
     below = ltb-true p.drive c (and_right (is_drive n p.drive) _ (and_left (is_drive n p.drive && ltb p.drive c) _ r.in_frame))
 
-    taken : says n l p ≡ result (with_proposal l p.drive p.number)
+    taken : says n l p ≡ yields (with_proposal l p.drive p.number)
     unfolding is_next
     taken =
         rw (

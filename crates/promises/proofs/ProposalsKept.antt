@@ -15,7 +15,7 @@ use Rattle.drive_sets.specs.Lists.{all, elem}
 use Rattle.drive_sets.specs.Lists.Laws.{elem_head, elem_tail, elem_cases, elem_none, all_elem, all_intro}
 use Rattle.drive_sets.specs.Masks.{single, minus, lowest}
 use Rattle.drive_sets.specs.Masks.OneDrive.{remove_keeps}
-use Rattle.drive_sets.specs.Refusals.{result}
+use Rattle.drive_sets.specs.Refusals.{yields}
 use Rattle.drive_sets.specs.Refusals.Laws.{refused_no_result, same_result, passed, first_result}
 use Rattle.records.specs.RecordLists.{ReadList, read_list}
 use Rattle.records.specs.RecordLists.Laws.{read_keeps}
@@ -48,7 +48,7 @@ kept_one n l d v next =
     record { rises = omega (arith, b.2); stays = λ e low high. noted_other l d v e low (omega (arith, b.2)) }
 
 -- so does reading on
-pub read_kept : (n : ℕ) (l : ProposalList) (s : List ℕ) {p : ReadList ProposalList} → read_list (proposal_list n) l s ≡ result p → Extends l p.list
+pub read_kept : (n : ℕ) (l : ProposalList) (s : List ℕ) {p : ReadList ProposalList} → read_list (proposal_list n) l s ≡ yields p → Extends l p.list
 unfolding read_list
 read_kept n l s e =
     (read_keeps (proposal_list n) (λ t b. Extends l t) (λ t b u k going q. let w = was_taken n t b q in kept_then k (subst (Extends t) w.is (kept_one n t (drive_at b) (number_at b) w.next))) (length s) l s kept_all e).1
@@ -65,7 +65,7 @@ own_more owed d low high numbers (p ∷ ps) above own = (
 )
 
 module _ (n : ℕ) (frame : n ≤ 64) where
-  says_taken : (l : ProposalList) (p : ProposalRecord) {t : ProposalList} → says n l p ≡ result t → (is_next n l.last p.drive ≡ true) × (with_proposal l p.drive p.number ≡ t)
+  says_taken : (l : ProposalList) (p : ProposalRecord) {t : ProposalList} → says n l p ≡ yields t → (is_next n l.last p.drive ≡ true) × (with_proposal l p.drive p.number ≡ t)
   says_taken l p e =
       by_test (eqb l.owed 0 && leb n l.last)
       (λ t. absurd (refused_no_result (sym (cond_true _ _ t) ∙ e)))
@@ -74,7 +74,7 @@ module _ (n : ℕ) (frame : n ≤ 64) where
       (not-false (is_next n l.last p.drive) first.0, same_result second.1))
 
   -- each is above those before it, and its number stays to the end
-  pub said_own : (ps : List ProposalRecord) (l : ProposalList) {t : ProposalList} → length l.numbers ≡ n → says_all n l ps ≡ result t
+  pub said_own : (ps : List ProposalRecord) (l : ProposalList) {t : ProposalList} → length l.numbers ≡ n → says_all n l ps ≡ yields t
       → {u : ProposalList} → Extends t u → Own l.owed u.numbers ps × Extends l u × (all (ltb l.last) (record_drives ps) ≡ true)
   unfolding says_all all with_proposal
   said_own [] l room e {u} k = (tt, subst (λ (x : ProposalList). Extends x u) (sym (same_result e)) k, refl)
@@ -93,7 +93,7 @@ module _ (n : ℕ) (frame : n ≤ 64) where
       )
 
   -- the last drive is that of a record, and no record's is above it
-  pub said_last : (ps : List ProposalRecord) (l : ProposalList) {t : ProposalList} → says_all n l ps ≡ result t
+  pub said_last : (ps : List ProposalRecord) (l : ProposalList) {t : ProposalList} → says_all n l ps ≡ yields t
       → (elem t.last (l.last ∷ record_drives ps) ≡ true) × (l.last ≤ t.last) × ((d : ℕ) → elem d (record_drives ps) ≡ true → d ≤ t.last)
   unfolding says_all with_proposal
   said_last [] l e =

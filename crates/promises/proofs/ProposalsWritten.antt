@@ -10,7 +10,7 @@ use lib.Seq.{take_at}
 use Rattle.drive_sets.specs.Bools.Laws.{by_test, or_false, cond_true, cond_false}
 use Rattle.drive_sets.specs.declared.Refusal.TheVariants.{WrongMark}
 use Rattle.drive_sets.specs.Refusals.Laws.{then_same, then_assoc}
-use Rattle.drive_sets.specs.Refusals.{Outcome, refused, result, and_then, number}
+use Rattle.drive_sets.specs.Refusals.{Outcome, refused, yields, and_then, number}
 use Rattle.records.specs.declared.Due.TheVariants.{AtProposal}
 use Rattle.records.specs.declared.Kind.TheVariants.{End}
 use Rattle.records.specs.Fields.{from_bytes, to_bytes, field_at}
@@ -80,7 +80,7 @@ module _ (n : ℕ) where
   says l p = cond (eqb l.owed 0 && leb n l.last) (refused (number WrongMark)) (placed n l p.drive p.number)
 
   unfoldable pub says_all : ProposalList → List ProposalRecord → Outcome ProposalList
-  says_all l [] = result l
+  says_all l [] = yields l
   says_all l (p ∷ ps) = and_then (says l p) (λ t. says_all t ps)
 
   -- PR or PW makes no difference

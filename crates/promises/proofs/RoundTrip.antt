@@ -10,7 +10,7 @@ use lib.ListN.{length, take, drop, length-drop}
 use lib.Seq.{length-take-le, drop-drop, take_at, drop_at}
 use borrow.Author.Tests.{leb-true, not-false}
 use Rattle.drive_sets.specs.declared.Refusal.TheVariants.{NoRoom}
-use Rattle.drive_sets.specs.Refusals.{Outcome, result, and_then}
+use Rattle.drive_sets.specs.Refusals.{Outcome, yields, and_then}
 use Rattle.drive_sets.specs.Refusals.Laws.{passed, first_result, same_result}
 use Rattle.lent_bytes.specs.declared.Writing.{Writing}
 use Rattle.drive_sets.specs.Lent.{written_at, fitting, buffer_after}
@@ -33,7 +33,7 @@ use Rattle.promises.proofs.Tables.{TableOf, read_table_law}
 -- the bytes that are due stand in the buffer from the starting place on, and behind them what stood there before
 pub record Stands (due : Outcome (List ℕ)) (start size : ℕ) (old new : List ℕ) : Type 0 where
   pub bytes : List ℕ
-  pub are_due : due ≡ result bytes
+  pub are_due : due ≡ yields bytes
   pub many : length bytes ≡ size
   pub from_start : drop start new ≡ bytes ++ drop (start + size) old
 
@@ -45,18 +45,18 @@ written_from bytes old start room =
     ∙ (written_fits bytes (drop start old) (omega (arith, length-drop start old)) ∙ ap (λ (l : List ℕ). bytes ++ l) (drop-drop (length bytes) start old))
 
 pub stands : (due : Outcome (List ℕ)) (start : ℕ) (old new : List ℕ) (r : Writing) (size : ℕ)
-    → WrittenIfRoom due start old new r → writing_outcome r ≡ result size → Stands due start size old new
+    → WrittenIfRoom due start old new r → writing_outcome r ≡ yields size → Stands due start size old new
 unfolding fitting
 stands due start old new r size w e =
-    let sized = first_result (and_then due (fitting start (length old))) (λ bytes. result (length bytes)) (sym w.answer ∙ e) in
+    let sized = first_result (and_then due (fitting start (length old))) (λ bytes. yields (length bytes)) (sym w.answer ∙ e) in
     let first = first_result due (fitting start (length old)) sized.1 in
-    let fits = passed (not (leb (start + length first.0) (length old))) NoRoom (result first.0) first.2 in
+    let fits = passed (not (leb (start + length first.0) (length old))) NoRoom (yields first.0) first.2 in
     let same = same_result fits.1 in
     let room = leb-true (start + length first.0) (length old) (not-false _ fits.0) in
     let many = same_result sized.2 in
     record {
       bytes = sized.0;
-      are_due = first.1 ∙ ap result same;
+      are_due = first.1 ∙ ap yields same;
       many = many;
       from_start =
           ap (drop start) (w.buffer ∙ ap (λ (o : Outcome (List ℕ)). buffer_after o start old) sized.1)
@@ -68,20 +68,20 @@ stands due start old new r size w e =
 
 -- the bytes of a normal table, with anything behind them
 table_back : (n : ℕ) (sets rest : List ℕ) → Accepted n sets
-    → read_complete (table_bytes n (normal sets) ++ rest) ≡ result (record { table = with_cores n (normal sets); rest = rest })
+    → read_complete (table_bytes n (normal sets) ++ rest) ≡ yields (record { table = with_cores n (normal sets); rest = rest })
 unfolding read_complete read_with_cores
 table_back n sets rest a = ap (λ (o : Outcome ReadTable). and_then o read_with_cores) (read_written n sets rest a)
 
 whole_back : (n : ℕ) (sets : List ℕ) → Accepted n sets
-    → read_whole_complete (table_bytes n (normal sets)) ≡ result (with_cores n (normal sets))
+    → read_whole_complete (table_bytes n (normal sets)) ≡ yields (with_cores n (normal sets))
 unfolding read_whole_complete
-whole_back n sets a = ap (λ (o : Outcome ReadTable). and_then o (λ u. result (with_cores u.n u.sets))) (whole_written n sets a)
+whole_back n sets a = ap (λ (o : Outcome ReadTable). and_then o (λ u. yields (with_cores u.n u.sets))) (whole_written n sets a)
 
 -- what the writer writes is the normal table of accepted sets
-table_due : (n : ℕ) (sets : List ℕ) {bytes : List ℕ} → write_table n sets ≡ result bytes → Accepted n sets × (bytes ≡ table_bytes n (normal sets))
+table_due : (n : ℕ) (sets : List ℕ) {bytes : List ℕ} → write_table n sets ≡ yields bytes → Accepted n sets × (bytes ≡ table_bytes n (normal sets))
 unfolding write_table
 table_due n sets e =
-    let first = first_result (normal_table n sets) (λ table. result (table_bytes n table)) e in
+    let first = first_result (normal_table n sets) (λ table. yields (table_bytes n table)) e in
     let table = table_accepted n sets first.0 first.1 in
     (table.0, sym (same_result first.2) ∙ ap (table_bytes n) table.1)
 
@@ -119,5 +119,5 @@ unfolding ReadIsWritten write_table
 read_is_written s t read =
     let found = read_table_law s read in
     let own = normal_table_law t.table.n found.0 t.table found.1 in
-    ap (λ (o : Outcome (List ℕ)). and_then o (λ table. result (table_bytes t.table.n table)))
-    (accepted_table t.table.n t.table.sets own.0 ∙ ap result own.1)
+    ap (λ (o : Outcome (List ℕ)). and_then o (λ table. yields (table_bytes t.table.n table)))
+    (accepted_table t.table.n t.table.sets own.0 ∙ ap yields own.1)

@@ -2,7 +2,7 @@
 use mathlib.Core.Path.{◌≡◌, sym, ap, ap₂, ◌∙◌, subst}
 use mathlib.Core.List.{List, []}
 use Prim.Native.Nat.{ℕ}
-use Rattle.drive_sets.specs.Refusals.{Outcome, result, and_then}
+use Rattle.drive_sets.specs.Refusals.{Outcome, yields, and_then}
 use Rattle.drive_sets.specs.Refusals.Laws.{first_result, same_result}
 use Rattle.survivor_tables.specs.Order.{normal}
 use Rattle.survivor_tables.specs.Tables.{normal_table, Accepted}
@@ -17,14 +17,14 @@ pub record TableOf (n : ℕ) (sets : List ℕ) (t : Complete) : Type 0 where
   pub accepted : Accepted n sets
   pub is : t ≡ with_cores n (normal sets)
 
-pub call_table : (n : ℕ) (sets : List ℕ) {t : Complete} → complete_table n sets ≡ result t → TableOf n sets t
+pub call_table : (n : ℕ) (sets : List ℕ) {t : Complete} → complete_table n sets ≡ yields t → TableOf n sets t
 unfolding complete_table
 call_table n sets e =
-    let first = first_result (normal_table n sets) (λ table. result (with_cores n table)) e in
+    let first = first_result (normal_table n sets) (λ table. yields (with_cores n table)) e in
     let table = table_accepted n sets first.0 first.1 in
     record { accepted = table.0; is = sym (same_result first.2) ∙ ap (with_cores n) table.1 }
 
-pub read_table_law : (s : List ℕ) {r : ReadComplete} → read_complete s ≡ result r → (sets : List ℕ) × TableOf r.table.n sets r.table
+pub read_table_law : (s : List ℕ) {r : ReadComplete} → read_complete s ≡ yields r → (sets : List ℕ) × TableOf r.table.n sets r.table
 unfolding read_complete read_with_cores with_cores
 read_table_law s e =
     let first = first_result (read_table s) read_with_cores e in
@@ -35,10 +35,10 @@ read_table_law s e =
     )
 
 -- what the reader of whole files gives, the other gives too
-pub whole_read : (s : List ℕ) {t : Complete} → read_whole_complete s ≡ result t → read_complete s ≡ result (record { table = t; rest = [] })
+pub whole_read : (s : List ℕ) {t : Complete} → read_whole_complete s ≡ yields t → read_complete s ≡ yields (record { table = t; rest = [] })
 unfolding read_whole_complete read_complete read_with_cores
 whole_read s e =
-    let first = first_result (read_whole s) (λ u. result (with_cores u.n u.sets)) e in
+    let first = first_result (read_whole s) (λ u. yields (with_cores u.n u.sets)) e in
     let whole = whole_table s first.0 first.1 in
     ap (λ (o : Outcome ReadTable). and_then o read_with_cores) whole.0
-    ∙ ap₂ (λ (c : Complete) (l : List ℕ). result (record { table = c; rest = l })) (same_result first.2) whole.1
+    ∙ ap₂ (λ (c : Complete) (l : List ℕ). yields (record { table = c; rest = l })) (same_result first.2) whole.1

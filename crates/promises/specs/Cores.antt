@@ -5,7 +5,7 @@
 use Rattle.std.specs.Prelude.{◌≡◌, true, List, ◌⊎◌, ◌↔◌, ℕ, ◌^◌, ◌≤◌, ◌<◌}
 use Rattle.drive_sets.specs.Lists.{elem, ordered, distinct}
 use Rattle.drive_sets.specs.Masks.{size}
-use Rattle.drive_sets.specs.Refusals.{result}
+use Rattle.drive_sets.specs.Refusals.{yields}
 use Rattle.survivor_tables.specs.Executions.{Core, Survivor, Describes}
 use Rattle.survivor_tables.specs.Order.{HoldsLowest, normal}
 use Rattle.survivor_tables.specs.Order.Strict.{Strict}
@@ -57,26 +57,26 @@ ListingDescribes = (n : ℕ) (sets : List ℕ) → Accepted n sets → (Φ : Typ
 
 -- a table with its cores
 unfoldable pub CoresOfCall : Type 1
-CoresOfCall = (n : ℕ) (sets : List ℕ) (t : Complete) → complete_table n sets ≡ result t → SaysIfDescribed n t.sets t
+CoresOfCall = (n : ℕ) (sets : List ℕ) (t : Complete) → complete_table n sets ≡ yields t → SaysIfDescribed n t.sets t
 
 -- the chosen core
 unfoldable pub ChosenOfCall : Type 1
-ChosenOfCall = (n : ℕ) (sets : List ℕ) (core : ℕ) → chosen_core n sets ≡ result core
+ChosenOfCall = (n : ℕ) (sets : List ℕ) (core : ℕ) → chosen_core n sets ≡ yields core
     → (Φ : Type 0) (correct : Φ → ℕ) → Describes n (normal sets) correct → FirstCore n correct core
 
 -- ---- of the readers
 
 -- of a table with more behind it, and of a table and nothing more
 unfoldable pub CoresOfRead : Type 1
-CoresOfRead = (s : List ℕ) (r : ReadComplete) → read_complete s ≡ result r → SaysIfDescribed r.table.n r.table.sets r.table
+CoresOfRead = (s : List ℕ) (r : ReadComplete) → read_complete s ≡ yields r → SaysIfDescribed r.table.n r.table.sets r.table
 
 unfoldable pub CoresOfWhole : Type 1
-CoresOfWhole = (s : List ℕ) (t : Complete) → read_whole_complete s ≡ result t → SaysIfDescribed t.n t.sets t
+CoresOfWhole = (s : List ℕ) (t : Complete) → read_whole_complete s ≡ yields t → SaysIfDescribed t.n t.sets t
 
 -- ---- of the call, said by survivor sets
 
 -- executions whose survivor sets are exactly the table's sets are described by it
 unfoldable pub CoresOfSurvivors : Type 1
-CoresOfSurvivors = (n : ℕ) (sets : List ℕ) (t : Complete) → complete_table n sets ≡ result t
+CoresOfSurvivors = (n : ℕ) (sets : List ℕ) (t : Complete) → complete_table n sets ≡ yields t
     → (Φ : Type 0) (correct : Φ → ℕ) → ((φ : Φ) → correct φ < 2 ^ n) → ((s : ℕ) → (elem s t.sets ≡ true) ↔ Survivor correct s)
     → TableSays n correct t

@@ -4,7 +4,7 @@
 use Rattle.std.specs.Prelude.{◌≡◌, true, List, ◌↔◌, ℕ, ◌-◌, ◌≤◌, ◌<◌, length, get_or}
 use Rattle.drive_sets.specs.Counts.{is_drive}
 use Rattle.drive_sets.specs.Limits.{pattern_limit}
-use Rattle.drive_sets.specs.Refusals.{result}
+use Rattle.drive_sets.specs.Refusals.{yields}
 use Rattle.runs.specs.World.{Call}
 use Rattle.runs.specs.Scenario.{Scenario, core_of, has_crash}
 use Rattle.runs.specs.CrashRecords.{CrashRecord, scenario}
@@ -42,5 +42,5 @@ pub record ExchangeGives (s : Scenario) (r : Simulated) : Type 0 where
 
 -- of every simulated exchange that the call gives, of pattern numbers
 unfoldable pub ExchangeOfCall : Type 0
-ExchangeOfCall = (n : ℕ) (sets numbers : List ℕ) (crs : List CrashRecord) (r : Simulated) → simulated n sets numbers crs ≡ result r
+ExchangeOfCall = (n : ℕ) (sets numbers : List ℕ) (crs : List CrashRecord) (r : Simulated) → simulated n sets numbers crs ≡ yields r
     → ((d : ℕ) → is_drive n d ≡ true → get_or numbers (d - 1) 0 < pattern_limit) → ExchangeGives (scenario n sets numbers crs) r

@@ -7,7 +7,7 @@ use Rattle.drive_sets.specs.declared.Refusal.TheVariants.{WrongMark, DriveNumber
 use Rattle.drive_sets.specs.Counts.{is_drive}
 use Rattle.drive_sets.specs.Lists.{all, elem, ordered}
 use Rattle.drive_sets.specs.Masks.{has}
-use Rattle.drive_sets.specs.Refusals.{Outcome, refused, result, refuse_if, and_then, number}
+use Rattle.drive_sets.specs.Refusals.{Outcome, refused, yields, refuse_if, and_then, number}
 use Rattle.records.specs.declared.Due.TheVariants.{AtProposal}
 use Rattle.records.specs.Fields.{field_at}
 use Rattle.records.specs.Marks.{number_width, is_due, kind_at}
@@ -38,7 +38,7 @@ Own core numbers (p ∷ ps) = (has p.drive core ≡ true → get_or numbers (p.d
 -- so it is in every file that is accepted, whatever stands behind the records
 unfoldable pub RunFileNumbers : Type 0
 RunFileNumbers = (n : ℕ) (sets : List ℕ) (ps : List ProposalRecord) (rest : List ℕ) → RecordsFit ps
-    → (f : RunFile) → read_run_file n sets (proposal_bytes ps ++ rest) ≡ result f → Own (chosen (normal sets)) f.numbers ps
+    → (f : RunFile) → read_run_file n sets (proposal_bytes ps ++ rest) ≡ yields f → Own (chosen (normal sets)) f.numbers ps
 
 -- ---- new files: a record for each core drive, rising, and for any listeners between them
 
@@ -80,7 +80,7 @@ OutOfOrder = (n : ℕ) (sets : List ℕ) → Accepted n sets → (c : ℕ) (ps :
 unfoldable pub taken_before : List ℕ → List ℕ → Outcome (List ℕ)
 taken_before given s =
     refuse_if (not (eqb (field_at 2 1 s) (suc (length given)))) DriveNumber
-    (result (given ++ (field_at 3 (number_width (kind_at s)) s ∷ [])))
+    (yields (given ++ (field_at 3 (number_width (kind_at s)) s ∷ [])))
 
 abbrev pub list_before : ℕ → ListFormat (List ℕ)
 list_before n = record { due = λ given. AtProposal; count = length; complete = λ given s. leb n (length given); taken = taken_before }
@@ -90,7 +90,7 @@ unfoldable pub records_before : ℕ → ℕ → List ℕ → Outcome ReadRun
 records_before n core s =
     and_then (read_list (list_before n) [] s) (λ p.
     and_then (read_list (crash_list n core) no_crash p.rest) (λ c.
-    result (said p.list c)))
+    yields (said p.list c)))
 
 unfoldable pub file_before : ℕ → List ℕ → List ℕ → Outcome RunFile
 file_before n sets s = and_then (chosen_core n sets) (λ core. and_then (records_before n core s) (whole_run sets))
@@ -101,17 +101,17 @@ simulated_before n sets s = and_then (file_before n sets s) (λ f. simulated n s
 -- a file that was accepted is accepted, with the same CR records and the same numbers of core drives
 pub record AcceptedStill (n : ℕ) (sets s : List ℕ) (f : RunFile) : Type 0 where
   pub file : RunFile
-  pub reads : read_run_file n sets s ≡ result file
+  pub reads : read_run_file n sets s ≡ yields file
   pub crashes : file.crashes ≡ f.crashes
   pub numbers : (d : ℕ) → has d (chosen (normal sets)) ≡ true → get_or file.numbers (d - 1) 0 ≡ get_or f.numbers (d - 1) 0
 
 unfoldable pub FilesBefore : Type 0
-FilesBefore = (n : ℕ) (sets s : List ℕ) (f : RunFile) → file_before n sets s ≡ result f → AcceptedStill n sets s f
+FilesBefore = (n : ℕ) (sets s : List ℕ) (f : RunFile) → file_before n sets s ≡ yields f → AcceptedStill n sets s f
 
 -- so its simulated exchange is what it was, and so is what the run program prints of it behind any table
 unfoldable pub ExchangesBefore : Type 0
-ExchangesBefore = (n : ℕ) (sets s : List ℕ) (f : RunFile) → file_before n sets s ≡ result f → simulated_with n sets s ≡ simulated_before n sets s
+ExchangesBefore = (n : ℕ) (sets s : List ℕ) (f : RunFile) → file_before n sets s ≡ yields f → simulated_with n sets s ≡ simulated_before n sets s
 
 unfoldable pub ListingsBefore : Type 0
-ListingsBefore = (input : List ℕ) (t : ReadTable) (f : RunFile) → read_table input ≡ result t → file_before t.n t.sets t.rest ≡ result f
+ListingsBefore = (input : List ℕ) (t : ReadTable) (f : RunFile) → read_table input ≡ yields t → file_before t.n t.sets t.rest ≡ yields f
     → run_program input ≡ run_text (simulated_before t.n t.sets t.rest)

@@ -5,7 +5,7 @@ use Rattle.drive_sets.specs.declared.Position.{Position}
 use Rattle.drive_sets.specs.declared.Position.TheVariants.{None, At}
 use Rattle.drive_sets.specs.Lists.{elem}
 use Rattle.drive_sets.specs.Masks.{has, subset}
-use Rattle.drive_sets.specs.Refusals.{result}
+use Rattle.drive_sets.specs.Refusals.{yields}
 use Rattle.survivor_tables.specs.Order.{normal}
 use Rattle.survivor_tables.specs.Tables.{is_set, cores, missed_set, Accepted}
 use Rattle.verdict_search.specs.Verdicts.{set_at}
@@ -23,23 +23,23 @@ pub record FirstMissed (table : List ℕ) (group p : ℕ) : Type 0 where
 
 -- a position that is given is that of the first set of the normal table that the group misses
 unfoldable pub MissedOfCall : Type 0
-MissedOfCall = (n : ℕ) (sets : List ℕ) (group p : ℕ) → missed_set n sets group ≡ result (At p) → FirstMissed (normal sets) group p
+MissedOfCall = (n : ℕ) (sets : List ℕ) (group p : ℕ) → missed_set n sets group ≡ yields (At p) → FirstMissed (normal sets) group p
 
 -- none is given exactly where the group meets every set of the normal table, and exactly where it meets every set that
 -- was handed over, and exactly where it holds a core
 unfoldable pub NoneOfCall : Type 0
 NoneOfCall = (n : ℕ) (sets : List ℕ) (group : ℕ) → Accepted n sets → is_set n group ≡ true
-    → (missed_set n sets group ≡ result None) ↔ ((set : ℕ) → elem set (normal sets) ≡ true → Meet set group)
+    → (missed_set n sets group ≡ yields None) ↔ ((set : ℕ) → elem set (normal sets) ≡ true → Meet set group)
 
 unfoldable pub NoneOfListed : Type 0
 NoneOfListed = (n : ℕ) (sets : List ℕ) (group : ℕ) → Accepted n sets → is_set n group ≡ true
-    → (missed_set n sets group ≡ result None) ↔ ((set : ℕ) → elem set sets ≡ true → Meet set group)
+    → (missed_set n sets group ≡ yields None) ↔ ((set : ℕ) → elem set sets ≡ true → Meet set group)
 
 unfoldable pub NoneHoldsCore : Type 0
 NoneHoldsCore = (n : ℕ) (sets : List ℕ) (group : ℕ) → Accepted n sets → is_set n group ≡ true
-    → (missed_set n sets group ≡ result None) ↔ ((core : ℕ) × (elem core (cores (normal sets)) ≡ true) × (subset core group ≡ true))
+    → (missed_set n sets group ≡ yields None) ↔ ((core : ℕ) × (elem core (cores (normal sets)) ≡ true) × (subset core group ≡ true))
 
 -- a table and a group that meet no refusal get an answer, and no others do
 unfoldable pub MissedGiven : Type 0
 MissedGiven = (n : ℕ) (sets : List ℕ) (group : ℕ)
-    → ((p : Position) × (missed_set n sets group ≡ result p)) ↔ (Accepted n sets × (is_set n group ≡ true))
+    → ((p : Position) × (missed_set n sets group ≡ yields p)) ↔ (Accepted n sets × (is_set n group ≡ true))

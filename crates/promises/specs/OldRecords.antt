@@ -2,7 +2,7 @@
 -- its value."
 use Rattle.std.specs.Prelude.{◌≡◌, true, false, List, ◌++◌, ℕ}
 use Rattle.drive_sets.specs.Counts.{is_drive}
-use Rattle.drive_sets.specs.Refusals.{result}
+use Rattle.drive_sets.specs.Refusals.{yields}
 use Rattle.records.specs.Marks.{Form, narrow, wide}
 use Rattle.drive_states.specs.declared.Exchange.{Exchange}
 use Rattle.drive_states.specs.Messages.{Message, Fits, bytes_in, wrong_mask, read_message}
@@ -18,7 +18,7 @@ use Rattle.run_listing.specs.RunListing.{run_program}
 -- a message is read back from its bytes, with narrow or wide numbers
 unfoldable pub MessageReadsBack : Type 0
 MessageReadsBack = (n : ℕ) (form : Form) (m : Message) → Fits form m
-    → is_drive n m.sender ≡ true → wrong_mask n m.sender m.content ≡ false → read_message n (bytes_in form m) ≡ result m
+    → is_drive n m.sender ≡ true → wrong_mask n m.sender m.content ≡ false → read_message n (bytes_in form m) ≡ yields m
 
 -- in every state the message call gives for a KN or DC what it gives for the KW or DW with the same numbers
 unfoldable pub OldMessages : Type 0

@@ -4,7 +4,7 @@
 use Rattle.std.specs.Prelude.{◌≡◌, true, List, ◌++◌, ◌⊎◌, ◌↔◌, ℕ, length}
 use Rattle.drive_sets.specs.Counts.{is_drive}
 use Rattle.drive_sets.specs.Lists.{elem}
-use Rattle.drive_sets.specs.Refusals.{result}
+use Rattle.drive_sets.specs.Refusals.{yields}
 use Rattle.table_files.specs.Files.{ReadTable, read_table}
 use Rattle.runs.specs.Statement.{last_round}
 use Rattle.runs.specs.CrashRecords.{scenario, drives_of}
@@ -18,9 +18,9 @@ use Rattle.promises.specs.Exchange.{ending_in, DecidesBy, ExchangeGives}
 pub record RunPrints (input : List ℕ) (r : Simulated) : Type 0 where
   -- the table that is read, and the run file behind it
   pub table : ReadTable
-  pub table_read_law : read_table input ≡ result table
+  pub table_read_law : read_table input ≡ yields table
   pub file : RunFile
-  pub file_read : read_run_file table.n table.sets table.rest ≡ result file
+  pub file_read : read_run_file table.n table.sets table.rest ≡ yields file
   -- what is simulated: the pattern numbers and the CR records of the file
   pub exchange : ExchangeGives (scenario table.n table.sets file.numbers file.crashes) r
   -- the text: a line for each drive of the frame, then the core and f
@@ -34,4 +34,4 @@ pub record RunPrints (input : List ℕ) (r : Simulated) : Type 0 where
 
 -- for every input of bytes
 unfoldable pub RunTextOfFile : Type 0
-RunTextOfFile = (input : List ℕ) → Bytes input → (r : Simulated) → simulated_file input ≡ result r → RunPrints input r
+RunTextOfFile = (input : List ℕ) → Bytes input → (r : Simulated) → simulated_file input ≡ yields r → RunPrints input r

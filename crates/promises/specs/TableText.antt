@@ -1,7 +1,7 @@
 -- What the table program prints of every table that is read. Document 01 has the lines of case A; document 02: "For a
 -- frame of k drives or fewer the program prints `k`, the number and `few`, (..)".
 use Rattle.std.specs.Prelude.{◌≡◌, cond, List, ◌++◌, ℕ, leb}
-use Rattle.drive_sets.specs.Refusals.{result}
+use Rattle.drive_sets.specs.Refusals.{yields}
 use Rattle.records.specs.Marks.{ascii}
 use Rattle.survivor_tables.specs.Tables.{cores, chosen}
 use Rattle.text.specs.declared.Base.TheVariants.{Decimal, Hexadecimal}
@@ -16,7 +16,7 @@ abbrev pub line_on : ℕ → ℕ → List ℕ → List ℕ
 line_on k n table = named (ascii "k") Decimal k ++ cond (leb n k) (ascii " few\n") (verdict_part (verdict_on k n table))
 
 unfoldable pub TableTextOfFile : Type 0
-TableTextOfFile = (input : List ℕ) (t : ReadTable) → read_whole input ≡ result t
+TableTextOfFile = (input : List ℕ) (t : ReadTable) → read_whole input ≡ yields t
     → table_program input
     ≡ line (ascii "drives") Decimal t.n
     ++ (lines (ascii "set") Hexadecimal t.sets

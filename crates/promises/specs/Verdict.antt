@@ -6,7 +6,7 @@
 -- block. (..) For a frame of k drives or fewer (..) the agreement with k-Partition covers larger frames only. It
 -- refuses with 33 a verdict on such a frame, after 12 and the table's own checks."
 use Rattle.std.specs.Prelude.{◌≡◌, List, ◌↔◌, ℕ, ◌≤◌, ◌<◌}
-use Rattle.drive_sets.specs.Refusals.{refused, result}
+use Rattle.drive_sets.specs.Refusals.{refused, yields}
 use Rattle.survivor_tables.specs.Order.{normal}
 use Rattle.survivor_tables.specs.Tables.{Accepted}
 use Rattle.verdict_search.specs.Verdicts.{Verdict, yes, no}
@@ -25,11 +25,11 @@ pub record VerdictSays (k n : ℕ) (table : List ℕ) (v : Verdict) : Type 0 whe
 
 -- of every verdict that the call gives
 unfoldable pub VerdictOfCall : Type 0
-VerdictOfCall = (k n : ℕ) (sets : List ℕ) (v : Verdict) → verdict k n sets ≡ result v → VerdictSays k n (normal sets) v
+VerdictOfCall = (k n : ℕ) (sets : List ℕ) (v : Verdict) → verdict k n sets ≡ yields v → VerdictSays k n (normal sets) v
 
 -- a frame of more than k drives gets a verdict, for k 2 to 4 and an accepted table, and no other does
 unfoldable pub VerdictGiven : Type 0
-VerdictGiven = (k n : ℕ) (sets : List ℕ) → ((v : Verdict) × (verdict k n sets ≡ result v)) ↔ ((2 ≤ k) × (k ≤ 4) × Accepted n sets × (k < n))
+VerdictGiven = (k n : ℕ) (sets : List ℕ) → ((v : Verdict) × (verdict k n sets ≡ yields v)) ↔ ((2 ≤ k) × (k ≤ 4) × Accepted n sets × (k < n))
 
 -- a frame of k drives or fewer meets 33, for k 2 to 4 and an accepted table, and no other does
 unfoldable pub FewRefused : Type 0

@@ -14,7 +14,7 @@ use Rattle.drive_sets.specs.declared.Pattern.{Pattern}
 use Rattle.drive_sets.specs.declared.Refusal.{Refusal}
 use Rattle.drive_sets.specs.Limits.{max_drives}
 use Rattle.drive_sets.specs.Masks.{has, single, minus}
-use Rattle.drive_sets.specs.Refusals.{Outcome, refused, result, and_then, number}
+use Rattle.drive_sets.specs.Refusals.{Outcome, refused, yields, and_then, number}
 use Rattle.records.specs.declared.Due.TheVariants.{AtProposal}
 use Rattle.records.specs.declared.Kind.{Kind}
 use Rattle.records.specs.declared.Kind.TheVariants as kinds
@@ -106,10 +106,10 @@ module _ {s : List ℕ} {n core : ℕ} {numbers : List Pattern} {last owed at : 
   ends_here : (b : Bool) → b ≡ proposals_end n last owed here → {t : Bool} → b ≡ t → proposals_end n last owed (drop at s) ≡ t
   ends_here b e h = ap (proposals_end n last owed) (sym (rest_is s at)) ∙ (sym e ∙ h)
 
-  pub proposing_end : (b : Bool) → b ≡ proposals_end n last owed here → b ≡ true → result (record { list = take n (values numbers); rest = drop at s }) ≡ read_proposals n core s
+  pub proposing_end : (b : Bool) → b ≡ proposals_end n last owed here → b ≡ true → yields (record { list = take n (values numbers); rest = drop at s }) ≡ read_proposals n core s
   unfolding read_proposals
   proposing_end b e h =
-      ap (λ (o : Outcome (ReadList ProposalList)). and_then o (λ p. result (numbers_read p)))
+      ap (λ (o : Outcome (ReadList ProposalList)). and_then o (λ p. yields (numbers_read p)))
       (reading_complete (proposal_list n) _ s (given n numbers last owed) at r.reading (ends_here b e h))
 
   module _ (b : Bool) (more : b ≡ proposals_end n last owed here) (going : b ≡ false) {step : Step}
@@ -120,7 +120,7 @@ module _ {s : List ℕ} {n core : ℕ} {numbers : List Pattern} {last owed at : 
     pub proposing_stop : {q : Refusal} → step ≡ Stop q → refused (number q) ≡ read_proposals n core s
     unfolding read_proposals
     proposing_stop {q} e =
-        ap (λ (o : Outcome (ReadList ProposalList)). and_then o (λ p. result (numbers_read p)))
+        ap (λ (o : Outcome (ReadList ProposalList)). and_then o (λ p. yields (numbers_read p)))
         (reading_stop (proposal_list n) _ s (given n numbers last owed) at r.reading (ends_here b more going) (number q) (said (Stop q) e))
 
     module _ {d : Drive} {v : Pattern} {width : ℕ} (e : step ≡ Number d v width) where

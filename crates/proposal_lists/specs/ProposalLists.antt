@@ -3,7 +3,7 @@
 use Rattle.std.specs.Prelude.{Bool, not, ◌&&◌, ◌||◌, cond, List, [], ◌∷◌, ◌++◌, map, ℕ, ◌-◌, ◌^◌, ◌<◌, eqb, leb, ltb, set, replicate}
 use Rattle.drive_sets.specs.declared.Refusal.TheVariants.{DriveNumber}
 use Rattle.drive_sets.specs.Masks.{has, single, minus, lowest}
-use Rattle.drive_sets.specs.Refusals.{Outcome, result, refuse_if, and_then}
+use Rattle.drive_sets.specs.Refusals.{Outcome, yields, refuse_if, and_then}
 use Rattle.records.specs.declared.Due.TheVariants.{AtProposal}
 use Rattle.records.specs.declared.Kind.{Kind}
 use Rattle.records.specs.declared.Kind.TheVariants.{Proposal, WideProposal}
@@ -46,7 +46,7 @@ abbrev pub placed : ℕ → ProposalList → ℕ → ℕ → Outcome ProposalLis
 placed n l d number =
     refuse_if (not (is_next n l.last d)) DriveNumber
     (refuse_if (ltb (lowest l.owed) d) DriveNumber
-    (result (with_proposal l d number)))
+    (yields (with_proposal l d number)))
 
 unfoldable pub taken_proposal : ℕ → ProposalList → List ℕ → Outcome ProposalList
 taken_proposal n l s = placed n l (drive_at s) (number_at s)
@@ -65,7 +65,7 @@ numbers_read p = record { list = p.list.numbers; rest = p.rest }
 
 -- the numbers of the drives 1 to n, where this is the chosen core
 unfoldable pub read_proposals : ℕ → ℕ → List ℕ → Outcome (ReadList (List ℕ))
-read_proposals n core s = and_then (read_list (proposal_list n) (no_proposal n core) s) (λ p. result (numbers_read p))
+read_proposals n core s = and_then (read_list (proposal_list n) (no_proposal n core) s) (λ p. yields (numbers_read p))
 
 -- ---- as they are written
 

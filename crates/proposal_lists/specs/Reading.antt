@@ -4,7 +4,7 @@ use Rattle.std.specs.Prelude.{List, ℕ, take, drop, replicate}
 use Rattle.std.proofs.Math.Option.{Option, some}
 use Rattle.drive_sets.specs.declared.Answer.TheVariants.{Refused}
 use Rattle.drive_sets.specs.declared.Refusal.{Refusal}
-use Rattle.drive_sets.specs.Refusals.{Outcome, refused, result, number, outcome_of}
+use Rattle.drive_sets.specs.Refusals.{Outcome, refused, yields, number, outcome_of}
 use Rattle.records.specs.RecordLists.{ReadList}
 use Rattle.drive_states.specs.State.{pattern, values}
 use Rattle.proposal_lists.specs.declared.ProposalsRead.{ProposalsRead}
@@ -23,4 +23,4 @@ refused_proposals r = record { answer = Refused r; numbers = replicate 64 (patte
 -- what a step makes of the records read
 abbrev pub step_outcome : ProposalList → Step → Outcome (Option ProposalList)
 step_outcome l (Stop r) = refused (number r)
-step_outcome l (Number drive v width) = result (some (with_proposal l drive.0 v.0))
+step_outcome l (Number drive v width) = yields (some (with_proposal l drive.0 v.0))

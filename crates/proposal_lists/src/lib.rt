@@ -1,6 +1,8 @@
 // The PR and PW records of a run file, a record at a time: the pattern numbers by drive, or the first refusal. A core
 // drive's number is kept; a listener's record is checked for its place and dropped. What is left to read gives at each
 // record what the whole gives.
+#![tactic(auto)]
+
 ghost use Rattle.std.specs.Prelude.{◌≡◌, cond, ℕ, ◌-◌, ◌≤◌, ltb, length, set};
 ghost use Rattle.drive_sets.specs.Limits.{max_drives};
 ghost use Rattle.drive_sets.specs.Masks.{has};
@@ -18,7 +20,7 @@ use records::{Due, Head};
 
 // The numbers read, drive 1 first, and how many bytes their records took, where all are accepted. At a listener's place
 // stands 0.
-#[derive(Drop)]
+#[derive(Clone, Copy)]
 pub struct ProposalsRead {
     pub answer: Answer,
     pub numbers: [Pattern; 64],
@@ -26,7 +28,7 @@ pub struct ProposalsRead {
 }
 
 // What stands where a record is due: a drive, its number and how many bytes the record has, or a refusal.
-#[derive(Drop)]
+#[derive(Clone, Copy)]
 enum Step {
     Number(Drive, Pattern, usize),
     Stop(Refusal),
@@ -54,7 +56,7 @@ fn ended(s: &[u8], n: u8, last: Drive, owed: u64) -> bool
 
 // The record at the start of the bytes, behind that of the last drive, where these core drives' are owed.
 fn next_step(s: &[u8], n: u8, last: Drive, owed: u64) -> Step
-    ensures result_value { (l : ProposalList) → l.last ≡ last.0 → l.owed ≡ owed → step_outcome l result ≡ step_of (proposal_list n) l s.now }
+    ensures value { (l : ProposalList) → l.last ≡ last.0 → l.owed ≡ owed → step_outcome l result ≡ step_of (proposal_list n) l s.now }
     ensures width { (d : Drive) (v : Pattern) (width : ℕ) → result ≡ Step.Number d v width → width ≡ width_at s.now }
 {
     let head = records::read_head(s, Due::AtProposal);
@@ -90,7 +92,7 @@ fn note(all: [Pattern; 64], drive: Drive, number: Pattern, owed: u64) -> [Patter
 // The records at the start of the bytes, for any n and core: 3 where n is above 64, then their refusals. Beside a
 // refusal nothing is told.
 pub fn read_proposals(s: &[u8], n: u8, core: u64) -> ProposalsRead
-    ensures s_value { proposals_outcome n result s.now ≡ refuse_if (ltb max_drives n) Refusal.FrameSize (read_proposals n core s.now) }
+    ensures value { proposals_outcome n result s.now ≡ refuse_if (ltb max_drives n) Refusal.FrameSize (read_proposals n core s.now) }
     ensures within { result.used ≤ length s.now }
     ensures alone { Alone (λ (u : ProposalsRead). u.answer) refused_proposals result }
 {

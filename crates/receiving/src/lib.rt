@@ -1,5 +1,7 @@
 // The message call: its refusals in document 01's order, then the state with what the message says, which
 // `accepted_messages` gives.
+#![tactic(auto)]
+
 ghost use Rattle.std.specs.Prelude.{◌≡◌, length};
 ghost use Rattle.drive_sets.specs.Refusals.{and_then};
 ghost use Rattle.records.specs.Marks.{number_width};

@@ -7,7 +7,7 @@ use Prim.Native.Nat.{ℕ, ◌+◌, ◌-◌, ◌≤◌, ◌<◌}
 use native.Mathlib.Omega.{arith}
 use lib.ListN.{length, get_or, take, drop, length-drop}
 use lib.Seq.{drop-cons, drop-drop}
-use Rattle.drive_sets.specs.Refusals.{Outcome, refused, result, and_then}
+use Rattle.drive_sets.specs.Refusals.{Outcome, refused, yields, and_then}
 use Rattle.records.specs.declared.Kind.{Kind}
 use Rattle.records.specs.declared.Next.TheVariants.{One}
 use Rattle.records.specs.Fields.{from_bytes, field_at}
@@ -34,7 +34,7 @@ module _ {S : Type 0} (f : ListFormat S) where
   reading_start s state at h = record { bytes = length (drop at s); enough = omega (arith, length-drop at s); within = h; same = refl }
 
   module _ (whole : Outcome (ReadList S)) (s : List ℕ) (state : S) (at : ℕ) (r : Reading whole s state at) where
-    pub reading_complete : f.complete state (drop at s) ≡ true → result (record { list = state; rest = drop at s }) ≡ whole
+    pub reading_complete : f.complete state (drop at s) ≡ true → yields (record { list = state; rest = drop at s }) ≡ whole
     reading_complete e = sym (read_complete_law f r.bytes state (drop at s) e) ∙ r.same
 
     -- a step on the part from `at` on
@@ -50,19 +50,19 @@ module _ {S : Type 0} (f : ListFormat S) where
       pub reading_stop : (q : ℕ) → refused q ≡ step_of f state (take (length s - at) (drop at s)) → refused q ≡ whole
       reading_stop q e = followed (refused q) e
 
-      module _ (e : result none ≡ step_of f state (take (length s - at) (drop at s))) where
+      module _ (e : yields none ≡ step_of f state (take (length s - at) (drop at s))) where
         pub end_within : at + 3 ≤ length s
         end_within = omega (arith, end_whole f state (drop at s) (step e), length-drop at s)
 
-        pub reading_end : result (record { list = state; rest = drop (at + 3) s }) ≡ whole
-        reading_end = ap (λ (l : List ℕ). result (record { list = state; rest = l })) (sym (drop-drop 3 at s)) ∙ followed (result none) e
+        pub reading_end : yields (record { list = state; rest = drop (at + 3) s }) ≡ whole
+        reading_end = ap (λ (l : List ℕ). yields (record { list = state; rest = l })) (sym (drop-drop 3 at s)) ∙ followed (yields none) e
 
-      module _ {t : S} (e : result (some t) ≡ step_of f state (take (length s - at) (drop at s))) where
+      module _ {t : S} (e : yields (some t) ≡ step_of f state (take (length s - at) (drop at s))) where
         one : next_of (f.due state) (f.count state) (drop at s) ≡ One
         one = (step_more f state (drop at s) (step e)).0
 
         -- the record was taken
-        pub step_taken : f.taken state (drop at s) ≡ result t
+        pub step_taken : f.taken state (drop at s) ≡ yields t
         step_taken = (step_more f state (drop at s) (step e)).1
 
         pub reading_turn : Reading whole s t (at + width_at (drop at s))
@@ -70,7 +70,7 @@ module _ {S : Type 0} (f : ListFormat S) where
           bytes = r.bytes - 1;
           enough = omega (arith, r.enough);
           within = omega (arith, one_whole (f.due state) (f.count state) (drop at s) one, length-drop at s, r.within);
-          same = ap (read_from f (r.bytes - 1) t) (sym (drop-drop (width_at (drop at s)) at s)) ∙ followed (result (some t)) e;
+          same = ap (read_from f (r.bytes - 1) t) (sym (drop-drop (width_at (drop at s)) at s)) ∙ followed (yields (some t)) e;
         }
 
         -- where all are of one kind

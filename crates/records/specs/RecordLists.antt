@@ -2,7 +2,7 @@
 use Rattle.std.specs.Prelude.{Bool, cond, List, [], ◌∷◌, ◌++◌, ℕ, zero, suc, ◌+◌, eqb, length, drop}
 use Rattle.std.proofs.Math.Option.{Option, none, some}
 use Rattle.drive_sets.specs.declared.Refusal.TheVariants.{EndsTooSoon, CountDiffers}
-use Rattle.drive_sets.specs.Refusals.{Outcome, refused, result, and_then, number}
+use Rattle.drive_sets.specs.Refusals.{Outcome, refused, yields, and_then, number}
 use Rattle.records.specs.declared.Kind.{Kind}
 use Rattle.records.specs.declared.Kind.TheVariants as kinds
 use Rattle.records.specs.declared.Due.{Due}
@@ -49,24 +49,24 @@ module _ {S : Type 0} where
   -- one step: a refusal, none at the end, or the next state
   abbrev pub step_at : Next → Outcome S → Outcome (Option S)
   step_at (Stop r) more = refused (number r)
-  step_at End more = result none
-  step_at One more = and_then more (λ state. result (some state))
+  step_at End more = yields none
+  step_at One more = and_then more (λ state. yields (some state))
 
   unfoldable pub step_of : ListFormat S → S → List ℕ → Outcome (Option S)
   step_of f state s = step_at (next_of (f.due state) (f.count state) s) (f.taken state s)
 
   -- what follows a step: what is read so far and what stands behind EN, or the records behind this one
   abbrev pub following : ListFormat S → (S → List ℕ → Outcome (ReadList S)) → S → List ℕ → Option S → Outcome (ReadList S)
-  following f later state s none = result (record { list = state; rest = drop 3 s })
+  following f later state s none = yields (record { list = state; rest = drop 3 s })
   following f later state s (some next) = later next (drop (width_at s) s)
 
   -- the records from a state on; the number is at least that of the bytes, so where it is zero they have ended
   unfoldable pub read_from : ListFormat S → ℕ → S → List ℕ → Outcome (ReadList S)
   read_from f zero state s =
-      cond (f.complete state s) (result (record { list = state; rest = s })) (refused (number EndsTooSoon))
+      cond (f.complete state s) (yields (record { list = state; rest = s })) (refused (number EndsTooSoon))
   read_from f (suc bytes) state s =
       let next = and_then (step_of f state s) (following f (read_from f bytes) state s) in
-      cond (f.complete state s) (result (record { list = state; rest = s })) next
+      cond (f.complete state s) (yields (record { list = state; rest = s })) next
 
   -- the whole list
   unfoldable pub read_list : ListFormat S → S → List ℕ → Outcome (ReadList S)

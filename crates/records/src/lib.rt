@@ -1,5 +1,7 @@
 // Records: a two-letter mark and byte fields, lowest byte first, read from a slice; lists of records. A mark is a
 // number, matched to a record kind and tested against what is due.
+#![tactic(auto)]
+
 ghost use Rattle.std.specs.Prelude.{◌≡◌, min, ◌||◌, eqb, take, drop};
 ghost use Rattle.records.specs.Fields.{from_bytes, field_at};
 ghost use Rattle.records.specs.Marks.{mark, kind_of, number_width, body_width, is_kind, is_due, kind_at, head_of};
@@ -8,7 +10,7 @@ ghost use Rattle.records.specs.RecordLists.{next_of};
 use drive_sets::{NARROW_PATTERN_BYTES, PATTERN_BYTES, Pattern, Refusal};
 
 // The kind of a record.
-#[derive(Drop)]
+#[derive(Clone, Copy)]
 pub enum Kind {
     Frame,
     Survivor,
@@ -26,7 +28,7 @@ pub enum Kind {
 }
 
 // The place of a record: which kinds are due there.
-#[derive(Drop)]
+#[derive(Clone, Copy)]
 pub enum Due {
     AtRecord(Kind),
     AtRecordOrEnd(Kind),
@@ -35,14 +37,14 @@ pub enum Due {
 }
 
 // What stands at the start of some bytes.
-#[derive(Drop)]
+#[derive(Clone, Copy)]
 pub enum Head {
     Record(Kind),
     Refused(Refusal),
 }
 
 // What stands where a record of a list or its end is due.
-#[derive(Drop)]
+#[derive(Clone, Copy)]
 pub enum Next {
     One,
     End,

@@ -16,7 +16,7 @@ use Rattle.drive_sets.specs.Lists.{range}
 use Rattle.drive_sets.specs.Masks.{has}
 use Rattle.drive_states.specs.State.{pattern, number_in}
 use Rattle.drive_sets.specs.Loops.Filling.{Filling, filling_start, filling_turn, filling_end}
-use Rattle.drive_sets.specs.Refusals.{Outcome, result, and_then, outcome_of}
+use Rattle.drive_sets.specs.Refusals.{Outcome, yields, and_then, outcome_of}
 use Rattle.drive_sets.specs.Refusals.Laws.{first_result}
 use Rattle.agreement.specs.RoundEndings.{Ending}
 use Rattle.runs.specs.CrashRecords.{CrashRecord}
@@ -106,7 +106,7 @@ module _ (n : ℕ) (s : simulations.Simulated) where
   pub simulated_frame : (sets numbers : List ℕ) (crs : List CrashRecord) → simulated_outcome n s ≡ simulated n sets numbers crs → s.answer ≡ Accepted → n ≤ max_drives
   unfolding simulated_outcome simulated
   simulated_frame sets numbers crs e f =
-      let is : result given ≡ simulated n sets numbers crs = ap (λ (a : Answer). outcome_of a given) (sym f) ∙ e in
+      let is : yields given ≡ simulated n sets numbers crs = ap (λ (a : Answer). outcome_of a given) (sym f) ∙ e in
       let w = first_result (normal_table n sets) (λ table. checked_crashes n (chosen table) 0 crs (unless_touched n sets numbers crs)) (sym is) in
       (table_accepted n sets w.0 w.1).0.high
 

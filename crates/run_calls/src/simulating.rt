@@ -19,7 +19,7 @@ use simulation_replies::{DriveEnding, SimulationReply, ending_of, no_ending, ref
 // What the core drives propose, drive 1 first, with any number for a listener, and which drives stop: of each such
 // drive d, at place d - 1, the round and the sends that it still makes.
 #[repr(C)]
-#[derive(Drop)]
+#[derive(Clone, Copy)]
 pub struct Scenario {
     pub stopped: u64,
     pub numbers: [Pattern; 64],

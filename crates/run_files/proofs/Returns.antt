@@ -1,6 +1,6 @@
 -- What the returns of the run file reader share.
 use mathlib.Core.Path.{◌≡◌, refl}
-use Rattle.drive_sets.specs.Refusals.{result, and_then, outcome_of, Alone}
+use Rattle.drive_sets.specs.Refusals.{yields, and_then, outcome_of, Alone}
 use Rattle.drive_sets.specs.Refusals.Laws.{refused_alone, accepted_alone}
 use Rattle.drive_sets.specs.declared.Refusal.{Refusal}
 use Rattle.drive_sets.specs.declared.Answer.{Answer}
@@ -9,7 +9,7 @@ use Rattle.run_files.specs.declared.reading.RunFile.{RunFile}
 use Rattle.run_files.specs.Reading.{refused_file}
 
 -- an answer's outcome, made of another
-pub outcome_made : {A B : Type 0} (a : Answer) (x : A) (f : A → B) → outcome_of a (f x) ≡ and_then (outcome_of a x) (λ y. result (f y))
+pub outcome_made : {A B : Type 0} (a : Answer) (x : A) (f : A → B) → outcome_of a (f x) ≡ and_then (outcome_of a x) (λ y. yields (f y))
 outcome_made (answers.Refused r) x f = refl
 outcome_made answers.Accepted x f = refl
 

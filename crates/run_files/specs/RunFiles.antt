@@ -2,7 +2,7 @@
 -- the refusals from left to right.
 use Rattle.std.specs.Prelude.{not, List, ℕ}
 use Rattle.drive_sets.specs.declared.Refusal.TheVariants.{TrailingBytes, NoneUntouched}
-use Rattle.drive_sets.specs.Refusals.{Outcome, result, refuse_if, and_then}
+use Rattle.drive_sets.specs.Refusals.{Outcome, yields, refuse_if, and_then}
 use Rattle.drive_sets.specs.Positions.{is_none}
 use Rattle.survivor_tables.specs.Hitting.{first_missed}
 use Rattle.records.specs.RecordLists.{ReadList, read_list}
@@ -34,11 +34,11 @@ unfoldable pub read_records : ℕ → ℕ → List ℕ → Outcome ReadRun
 read_records n core s =
     and_then (read_proposals n core s) (λ p.
     and_then (read_list (crash_list n core) no_crash p.rest) (λ c.
-    result (said p.list c)))
+    yields (said p.list c)))
 
 -- 11, every survivor set has a drive with a CR: none is missed by these drives
 unfoldable pub untouched_left : List ℕ → RunFile → Outcome RunFile
-untouched_left sets f = refuse_if (is_none (first_missed sets (crashed f.crashes))) NoneUntouched (result f)
+untouched_left sets f = refuse_if (is_none (first_missed sets (crashed f.crashes))) NoneUntouched (yields f)
 
 -- a run file and nothing more: 7, then 11
 unfoldable pub whole_run : List ℕ → ReadRun → Outcome RunFile

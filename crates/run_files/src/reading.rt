@@ -14,7 +14,7 @@ use tables::calls::Chosen;
 
 // What a run file says, where it is accepted: the pattern numbers, drive 1 first, with 0 at a listener's place, and the
 // crashes by drive.
-#[derive(Drop)]
+#[derive(Clone, Copy)]
 pub struct RunFile {
     pub answer: Answer,
     pub numbers: [Pattern; 64],
@@ -22,7 +22,7 @@ pub struct RunFile {
 }
 
 // The records of a run file and how many bytes they took with EN, where they are accepted.
-#[derive(Drop)]
+#[derive(Clone, Copy)]
 struct RunRecords {
     answer: Answer,
     numbers: [Pattern; 64],
@@ -54,7 +54,7 @@ fn refused_records(r: Refusal) -> RunRecords
 // PR or PW, CR, EN of a file for n drives with this chosen core, with anything behind it.
 fn read_records(s: &[u8], n: u8, core: u64) -> RunRecords
     requires { n ≤ max_drives }
-    ensures s_value { records_outcome n result s.now ≡ read_records n core s.now }
+    ensures value { records_outcome n result s.now ≡ read_records n core s.now }
     ensures within { result.used ≤ length s.now }
 {
     let given = read_proposals(s, n, core);
@@ -82,7 +82,7 @@ fn read_records(s: &[u8], n: u8, core: u64) -> RunRecords
 // drive with a CR.
 fn read_behind(n: u8, core: u64, sets: &[u64], s: &[u8]) -> RunFile
     requires { n ≤ max_drives }
-    ensures result_value { run_file_outcome n result ≡ read_behind n core sets.now s.now }
+    ensures value { run_file_outcome n result ≡ read_behind n core sets.now s.now }
     ensures alone { Alone (λ (u : RunFile). u.answer) refused_file result }
 {
     let read = read_records(s, n, core);
@@ -112,7 +112,7 @@ fn read_behind(n: u8, core: u64, sets: &[u64], s: &[u8]) -> RunFile
 // The run file reader, given n and sets and the bytes behind their table: the table's refusals, then those of the file.
 // Beside a refusal nothing is told.
 pub fn read_run_file(n: u8, sets: &[u64], s: &[u8]) -> RunFile
-    ensures result_value { run_file_outcome n result ≡ read_run_file n sets.now s.now }
+    ensures value { run_file_outcome n result ≡ read_run_file n sets.now s.now }
     ensures alone { Alone (λ (u : RunFile). u.answer) refused_file result }
 {
     let chosen = tables::calls::chosen_core(n, sets);

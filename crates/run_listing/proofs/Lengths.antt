@@ -5,7 +5,7 @@ use Prim.Native.Nat.{ℕ, suc, ◌*◌, ◌≤◌}
 use native.Mathlib.Omega.{arith}
 use lib.ListN.{length, length-append, length-map}
 use Rattle.drive_sets.specs.Lists.Places.{length_range}
-use Rattle.drive_sets.specs.Refusals.{Outcome, refused, result}
+use Rattle.drive_sets.specs.Refusals.{Outcome, refused, yields}
 use Rattle.drive_sets.specs.Refusals.Laws.{first_result}
 use Rattle.records.specs.Marks.{ascii}
 use Rattle.table_files.specs.Files.{read_table}
@@ -61,7 +61,7 @@ run_program_length input = go (simulated_file input) refl
   where
     go : (o : Outcome Simulated) → simulated_file input ≡ o → length (run_text o) ≤ max_text
     go (refused r) e = refusal_length r
-    go (result r) e =
+    go (yields r) e =
         let table = first_result (read_table input) _ e in
         let t = table.0 in
         let file = first_result (read_run_file t.n t.sets t.rest) _ table.2 in

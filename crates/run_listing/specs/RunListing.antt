@@ -1,6 +1,6 @@
 -- The text of the run program: how each drive ends, then the core and f. On a refusal only `refused` and its number.
 use Rattle.std.specs.Prelude.{List, [], ◌∷◌, ◌++◌, ℕ, suc}
-use Rattle.drive_sets.specs.Refusals.{Outcome, refused, result, and_then}
+use Rattle.drive_sets.specs.Refusals.{Outcome, refused, yields, and_then}
 use Rattle.records.specs.Marks.{ascii}
 use Rattle.table_files.specs.Files.{ReadTable, read_table}
 use Rattle.agreement.specs.RoundEndings.{Ending, decides, undecided, stopped}
@@ -31,7 +31,7 @@ core_line core stops = named (ascii "core") Hexadecimal core ++ line (ascii " st
 
 abbrev pub run_text : Outcome Simulated → List ℕ
 run_text (refused r) = refusal_line r
-run_text (result s) = ending_lines 1 s.endings ++ core_line s.core s.stops
+run_text (yields s) = ending_lines 1 s.endings ++ core_line s.core s.stops
 
 -- the simulated exchange of the run file behind a table, given what the table says
 unfoldable pub simulated_with : ℕ → List ℕ → List ℕ → Outcome Simulated

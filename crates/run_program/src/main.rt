@@ -2,6 +2,8 @@
 // exchange ends, the core and the number of stops, or the line of the refusal, and nothing else.
 //
 // Input behind the first 4096 bytes changes nothing (`run_program_prefix` in run_listing), and is left unread.
+#![tactic(auto)]
+
 use libc::{STDIN_FILENO, STDOUT_FILENO};
 use text::printing::{MAX_INPUT, MAX_TEXT};
 

@@ -2,7 +2,7 @@
 use Rattle.std.specs.Prelude.{Bool, not, ◌&&◌, cond, List, [], ◌∷◌, map, ℕ, ◌-◌, eqb, ltb, get_or}
 use Rattle.drive_sets.specs.declared.Refusal.TheVariants.{DriveNumber, CrashRound, CrashSends}
 use Rattle.drive_sets.specs.Masks.{has, of_drives}
-use Rattle.drive_sets.specs.Refusals.{Outcome, result, refuse_if}
+use Rattle.drive_sets.specs.Refusals.{Outcome, yields, refuse_if}
 use Rattle.drive_sets.specs.Counts.{is_drive, is_round}
 use Rattle.runs.specs.Scenario.{Crash, stays, crashes, Scenario}
 pub mod Laws
@@ -35,7 +35,7 @@ abbrev pub checked_stop : ℕ → ℕ → CrashRecord → Outcome CrashRecord
 checked_stop n core c =
     refuse_if (not (is_round core c.round)) CrashRound
     (refuse_if (ltb (most_sends n core c.drive) c.sends) CrashSends
-    (result c))
+    (yields c))
 
 -- a CR after that of the last drive: 8, then 9 and 10
 unfoldable pub checked_crash : ℕ → ℕ → ℕ → CrashRecord → Outcome CrashRecord

@@ -6,7 +6,7 @@ use Rattle.std.specs.Prelude.{◌≡◌, Bool, true, false, not, ◌&&◌, ◌||
 use Rattle.drive_sets.specs.declared.Refusal.TheVariants.{NoRoom}
 use Rattle.drive_sets.specs.Lists.{filter, all, any, elem}
 use Rattle.drive_sets.specs.Masks.{has, size}
-use Rattle.drive_sets.specs.Refusals.{Outcome, refused, result, number}
+use Rattle.drive_sets.specs.Refusals.{Outcome, refused, yields, number}
 use Rattle.drive_sets.specs.Counts.{is_drive}
 use Rattle.survivor_tables.specs.Order.{normal}
 use Rattle.survivor_tables.specs.Tables.{normal_table}
@@ -27,7 +27,7 @@ same_list (x ∷ l) (y ∷ m) = eqb x y && same_list l m
 -- the sets are accepted with this normal table, however they list it
 unfoldable pub is_table : Outcome (List ℕ) → List ℕ → Bool
 is_table (refused r) table = false
-is_table (result given) table = same_list given table
+is_table (yields given) table = same_list given table
 
 -- the call opens a drive that is not among those opened so far
 unfoldable pub due_opening : Scenario → (ℕ → Bool) → Call → Bool
@@ -91,11 +91,11 @@ module _ (P : Protocol) where
 
 unfoldable pub sent_by : Outcome (List ℕ) → Sent
 sent_by (refused r) = failed
-sent_by (result bytes) = wrote bytes
+sent_by (yields bytes) = wrote bytes
 
 unfoldable pub lacks_room : Outcome (List ℕ) → Bool
 lacks_room (refused r) = eqb r (number NoRoom)
-lacks_room (result bytes) = false
+lacks_room (yields bytes) = false
 
 -- ---- the part of round r, where w₀ is the world when it begins
 

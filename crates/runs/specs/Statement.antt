@@ -3,7 +3,7 @@
 use Rattle.std.specs.Prelude.{◌≡◌, Bool, true, false, not, ◌&&◌, ◌||◌, List, [], ◌∷◌, ◌++◌, ℕ, zero, suc, ◌-◌, ◌≤◌, ◌<◌, eqb, length, take, get_or}
 use Rattle.drive_sets.specs.Lists.{filter, elem}
 use Rattle.drive_sets.specs.Masks.{has, size, drives}
-use Rattle.drive_sets.specs.Refusals.{result}
+use Rattle.drive_sets.specs.Refusals.{yields}
 use Rattle.survivor_tables.specs.Order.{normal}
 use Rattle.survivor_tables.specs.Tables.{chosen, normal_table}
 use Rattle.drive_states.specs.declared.Decision.TheVariants.{Decided}
@@ -27,7 +27,7 @@ pub record Passes (s : Scenario) (d round sends : ℕ) : Type 0 where
 
 -- the table meets no refusal, so it is accepted; the drives propose pattern numbers; each CR passes
 pub record Valid (s : Scenario) : Type 0 where
-  pub accepted : normal_table s.n s.sets ≡ result (normal s.sets)
+  pub accepted : normal_table s.n s.sets ≡ yields (normal s.sets)
   pub patterns : (d : ℕ) → is_drive s.n d ≡ true → s.proposal d < pattern_limit
   pub passes : (d round sends : ℕ) → s.crash d ≡ crashes round sends → Passes s d round sends
 
@@ -132,7 +132,7 @@ pub record TightAt (P : Protocol) (n : ℕ) (sets : List ℕ) (proposal : ℕ �
   pub decides : Decides run drive value (last_round scenario)
 
 unfoldable pub Tight : Protocol → Type 0
-Tight P = (n : ℕ) (sets : List ℕ) → normal_table n sets ≡ result (normal sets) → (proposal : ℕ → ℕ) → ((d : ℕ) → is_drive n d ≡ true → proposal d < pattern_limit)
+Tight P = (n : ℕ) (sets : List ℕ) → normal_table n sets ≡ yields (normal sets) → (proposal : ℕ → ℕ) → ((d : ℕ) → is_drive n d ≡ true → proposal d < pattern_limit)
     → (f : ℕ) → f < size (chosen (normal sets)) → TightAt P n sets proposal f
 
 -- ---- every scenario has a run

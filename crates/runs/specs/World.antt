@@ -1,7 +1,7 @@
 -- Calls on the drives of a frame, and the world that a list of calls leaves: each call gets the state that the last
 -- call for its drive left, a refused one leaving it as it was.
 use Rattle.std.specs.Prelude.{Bool, true, false, not, cond, List, [], ◌∷◌, ℕ, eqb}
-use Rattle.drive_sets.specs.Refusals.{Outcome, refused, result}
+use Rattle.drive_sets.specs.Refusals.{Outcome, refused, yields}
 use Rattle.drive_states.specs.declared.Exchange.{Exchange}
 use Rattle.drive_states.specs.declared.Decision.{Decision}
 use Rattle.drive_states.specs.declared.Decision.TheVariants.{Undecided}
@@ -40,7 +40,7 @@ put w d slot e = cond (eqb e d) slot (w e)
 -- what a call leaves: as it was where the call is refused
 unfoldable pub after_call : Slot → Outcome Exchange → Slot
 after_call slot (refused r) = slot
-after_call slot (result x) = opened x
+after_call slot (yields x) = opened x
 
 unfoldable pub on_state : (Exchange → Outcome Exchange) → Slot → Slot
 on_state call unopened = unopened
@@ -63,7 +63,7 @@ module _ (P : Protocol) where
 module _ {A : Type 0} where
   unfoldable pub is_refused : Outcome A → Bool
   is_refused (refused r) = true
-  is_refused (result a) = false
+  is_refused (yields a) = false
 
 module _ (P : Protocol) where
   -- the call is refused in the state that is there; of a drive that is not open only openings are

@@ -1,4 +1,6 @@
 // One search for the minimal hitting sets of a list of sets, which may give up; what it finds, put in order.
+#![tactic(auto)]
+
 ghost use Rattle.std.specs.Prelude.{◌≡◌, true, false, ◌<◌, length};
 ghost use Rattle.set_orders.specs.Sorting.{precedes};
 ghost use Rattle.search_attempts.specs.Attempts.{Attempted};
@@ -10,7 +12,7 @@ use set_orders::sorting::Order;
 
 // A search that may give up: whether it is done and how many are found; and, for measuring, its turn, 0 for the first
 // search, and the fuel that it left.
-#[derive(Drop)]
+#[derive(Clone, Copy)]
 pub struct Attempt {
     pub done: bool,
     pub found: usize,
@@ -50,7 +52,7 @@ pub fn search_once(
     ends: &mut [u64],
 ) -> Attempt
     ensures attempted { Attempted (precedes order) sets.now (length list.old) list.new result.done result.found }
-    ensures done_value { mode.limited ≡ false → 0 < fuel → result.done ≡ true }
+    ensures done { mode.limited ≡ false → 0 < fuel → result.done ≡ true }
 {
     clear(ends);
     let tally = search::search_all(mode, sets, list, fuel, ends);

@@ -1,4 +1,6 @@
 // How far the search for cores has to go, for tests of its worst case (`bench/run climb`): no call of the C interface.
+#![tactic(auto)]
+
 ghost use Rattle.std.specs.Prelude.{◌≡◌, suc, min, length};
 ghost use Rattle.drive_sets.specs.Limits.{max_cores};
 ghost use Rattle.survivor_tables.specs.Hitting.{minimals};
@@ -9,7 +11,7 @@ use survivor_tables::MAX_CORES;
 // How many cores some sets have, 1025 for more than 1024; the turn of the search that found them, and the fuel then
 // left.
 #[repr(C)]
-#[derive(Drop)]
+#[derive(Clone, Copy)]
 pub struct Effort {
     pub found: u64,
     pub turn: u64,

@@ -1,6 +1,8 @@
 // Searches for the minimal hitting sets of a list of sets that take turns until one is done. Against each order of the
 // sets and each rule that was tried there is a table made, so that a search with little fuel is followed by others, in
 // other orders and by other rules, with more and more fuel.
+#![tactic(auto)]
+
 ghost use Rattle.std.specs.Prelude.{◌≡◌, true, ◌≤◌, length};
 ghost use Rattle.set_orders.specs.Sorting.{precedes};
 ghost use Rattle.search_orders.specs.Rearranged.{Permuted};
@@ -116,7 +118,7 @@ fn search_again(order: Order, sets: &[u64], list: &mut [u64], ends: &mut [u64]) 
 // known needs, has no limit.
 pub fn search_until_done(order: Order, sets: &[u64], list: &mut [u64]) -> Attempt
     ensures attempted { Attempted (precedes order) sets.now (length list.old) list.new result.done result.found }
-    ensures done_value { result.done ≡ true }
+    ensures done { result.done ≡ true }
 {
     let mut ends = [0u64; MAX_CORES];
     let plain = Mode {

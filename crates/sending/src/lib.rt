@@ -1,4 +1,6 @@
 // The message that a core drive sends in a round: KW or DW into the part of the lent buffer from the cursor on.
+#![tactic(auto)]
+
 ghost use Rattle.std.specs.Prelude.{◌≡◌, length};
 ghost use Rattle.drive_sets.specs.Lent.{written, fitting};
 ghost use Rattle.lent_bytes.specs.LentBuffers.{Written};

@@ -1,4 +1,6 @@
 // Lists of sets of drives put in order, by mask or in the order of cores, and copied.
+#![tactic(auto)]
+
 pub mod slices;
 pub mod sorting;
 

@@ -12,7 +12,7 @@ use borrow.Author.Tests.{eqb-true, eqb-false}
 use Rattle.drive_sets.specs.declared.Pattern.{Pattern}
 use Rattle.drive_sets.specs.Lists.{elem, range}
 use Rattle.drive_sets.specs.Lists.Laws.{elem_none, elem_head, elem_tail, elem_cases}
-use Rattle.drive_sets.specs.Refusals.{result}
+use Rattle.drive_sets.specs.Refusals.{yields}
 use Rattle.drive_sets.specs.Bools.Laws.{clash, by_test, false_of}
 use Rattle.drive_states.specs.declared.Exchange.{Exchange}
 use Rattle.drive_sets.specs.Counts.{is_drive}
@@ -74,12 +74,12 @@ module _ (n core : ℕ) (numbers : List Pattern) (c : Crashes) (s : Scenario) (g
   in_frame_law d h = ap (λ (m : ℕ). is_drive m d) g.says.frame_is ∙ h
 
   -- each opening is accepted
-  opening_gives : (d : ℕ) → is_drive n d ≡ true → opening s.n s.sets d (s.proposal d) ≡ result (first d)
+  opening_gives : (d : ℕ) → is_drive n d ≡ true → opening s.n s.sets d (s.proposal d) ≡ yields (first d)
   unfolding core_of
   opening_gives d h =
       opening_accepted s.n s.sets (normal s.sets) d (s.proposal d) g.valid.accepted (in_frame_law d h)
-      ∙ (ap₂ (λ (m k : ℕ). result (initial m k d (s.proposal d))) g.says.frame_is g.says.core_is
-      ∙ ap (λ (v : ℕ). result (initial n core d v)) (g.proposal_is_law d h))
+      ∙ (ap₂ (λ (m k : ℕ). yields (initial m k d (s.proposal d))) g.says.frame_is g.says.core_is
+      ∙ ap (λ (v : ℕ). yields (initial n core d v)) (g.proposal_is_law d h))
 
   after_openings : List ℕ → World → World
   after_openings ds w = apply_all w (map (λ d. opens d s.n s.sets d (s.proposal d)) ds)

@@ -11,14 +11,14 @@ use drive_sets::{Pattern, Round};
 use drive_states::{Decision, Exchange};
 
 // For each drive, drive 1 first, the round in which it decided, 0 where it has not, and the pattern number.
-#[derive(Drop)]
+#[derive(Clone, Copy)]
 pub struct Notes {
     pub rounds: [Round; 64],
     pub numbers: [Pattern; 64],
 }
 
 // The round in which one drive decided, 0 where it has not, and the pattern number.
-#[derive(Drop)]
+#[derive(Clone, Copy)]
 struct First {
     round: Round,
     number: Pattern,

@@ -39,7 +39,7 @@ fn run(n: u8, core: u64, numbers: [Pattern; 64], crashes: Crashes) -> Notes
 
 // The same of any frame and core: nothing where the frame does not hold the core, which no scenario has.
 pub fn first_decisions(n: u8, core: u64, numbers: [Pattern; 64], crashes: Crashes) -> Notes
-    ensures d_value { (s : Scenario) → Told n core numbers crashes s → (d : ℕ) → is_drive n d ≡ true → found_of result d ≡ canonical_ending s d }
+    ensures value { (s : Scenario) → Told n core numbers crashes s → (d : ℕ) → is_drive n d ≡ true → found_of result d ≡ canonical_ending s d }
     ensures none { (n ≤ 64 → core < 2 ^ n → ⊥) → result ≡ nothing_found }
 {
     if MAX_DRIVES < n {

@@ -5,6 +5,8 @@
 // [Exchange; 64]. An element is taken out, handed to a call by value, and the state that the call leaves is stored
 // back. The checker covers that where the state is first put into a local of its own, and likewise where a call's
 // result takes an array's place; it does not cover a slice of structs.
+#![tactic(auto)]
+
 mod closing;
 mod crashes;
 pub mod rounds;

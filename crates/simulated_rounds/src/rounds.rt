@@ -99,7 +99,7 @@ pub fn one_round(
     crashes: Crashes,
     round: Round,
 ) -> [Exchange; 64]
-    ensures result_value { n ≤ 64 → core < 2 ^ n → (s : Scenario) → Says n core crashes s → world_of n result ≡ apply_all (world_of n states) (round_calls s round.0 (world_of n states)) }
+    ensures value { n ≤ 64 → core < 2 ^ n → (s : Scenario) → Says n core crashes s → world_of n result ≡ apply_all (world_of n states) (round_calls s round.0 (world_of n states)) }
     ensures kept { (n ≤ 64 → core < 2 ^ n → ⊥) → result ≡ states }
 {
     if MAX_DRIVES < n {

@@ -11,7 +11,7 @@ use mathlib.Core.Bool.{not}
 use Rattle.drive_sets.specs.declared.Refusal.{Refusal}
 use Rattle.drive_sets.specs.declared.Refusal.TheVariants.{BrokenState, Halted, ListenerSends, NoRoom}
 use Rattle.drive_sets.specs.Bools.Laws.{cond_true}
-use Rattle.drive_sets.specs.Refusals.{Outcome, refused, result, number}
+use Rattle.drive_sets.specs.Refusals.{Outcome, refused, yields, number}
 use Rattle.drive_sets.specs.Refusals.Laws.{refused_no_result, same_result, passed, first_result}
 use Rattle.drive_sets.specs.Lent.{written, written_at, fitting, size_written, buffer_after}
 use Rattle.lent_bytes.specs.declared.Writing.{Writing}
@@ -27,12 +27,12 @@ use Rattle.agreement.specs.Canonical.{deliveries}
 -- the bytes that a send wrote
 pub record Wrote (x : Exchange) (room size : ℕ) (new : List ℕ) : Type 0 where
   pub bytes : List ℕ
-  pub given : sending x room 0 ≡ result bytes
+  pub given : sending x room 0 ≡ yields bytes
   pub fits : size ≤ room
   pub read : take size new ≡ bytes
 
 -- a message that is sent has room
-sent_fits : (x : Exchange) (room : ℕ) {bytes : List ℕ} → sending x room 0 ≡ result bytes → length bytes ≤ room
+sent_fits : (x : Exchange) (room : ℕ) {bytes : List ℕ} → sending x room 0 ≡ yields bytes → length bytes ≤ room
 unfolding sending fitting
 sent_fits x room e =
     let sound = passed (broken x) BrokenState _ e in
@@ -46,7 +46,7 @@ module _ (x : Exchange) (old new : List ℕ) (r : Writing) (sent : Written (send
   pub wrote : (size : ℕ) → r ≡ writings.Wrote size → Wrote x (length old) size new
   unfolding written_at written
   wrote size e =
-      let first = first_result (sending x (length old) 0) (λ bytes. result (length bytes)) (sym sent.answer ∙ ap writing_outcome e) in
+      let first = first_result (sending x (length old) 0) (λ bytes. yields (length bytes)) (sym sent.answer ∙ ap writing_outcome e) in
       let fits = sent_fits x (length old) first.1 in
       let long : length first.0 ≡ size = same_result first.2 in
       record {
@@ -63,7 +63,7 @@ module _ (x : Exchange) (old new : List ℕ) (r : Writing) (sent : Written (send
     where
       none : (due : Outcome (List ℕ)) → size_written due ≡ refused (number q) → deliveries due es ≡ []
       none (refused p) h = refl
-      none (result bytes) h = absurd (refused_no_result (sym h))
+      none (yields bytes) h = absurd (refused_no_result (sym h))
 
 -- the calls that a send makes due: the bytes read back from the buffer, to each drive of the list
 pub wrote_calls : (x : Exchange) (room size : ℕ) (new : List ℕ) → Wrote x room size new → (es : List ℕ)

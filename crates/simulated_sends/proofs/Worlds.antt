@@ -9,7 +9,7 @@ use lib.ListN.{length, set}
 use lib.Seq.{get_or-set_same, get_or-set_other}
 use borrow.Author.Tests.{eqb-true, eqb-false}
 use Rattle.drive_sets.specs.Bools.Laws.{by_test, cond_true}
-use Rattle.drive_sets.specs.Refusals.{Outcome, refused, result}
+use Rattle.drive_sets.specs.Refusals.{Outcome, refused, yields}
 use Rattle.drive_states.specs.declared.Exchange.{Exchange}
 use Rattle.drive_sets.specs.Counts.{is_drive}
 use Rattle.drive_sets.specs.Counts.Laws.{drive_bounds}
@@ -24,7 +24,7 @@ use Rattle.simulated_sends.specs.States.{blank, state_at, world_of}
 after_call_law : (x : Exchange) (o : Outcome Exchange) → after_call (opened x) o ≡ opened (state_after x o)
 unfolding after_call
 after_call_law x (refused r) = refl
-after_call_law x (result y) = refl
+after_call_law x (yields y) = refl
 
 module _ (n : ℕ) (states : List Exchange) (d : ℕ) (g : is_drive n d ≡ true) where
   pub world_at : world_of n states d ≡ opened (state_at states d)

@@ -12,7 +12,7 @@ use drive_states::Exchange;
 use lent_bytes::Writing;
 
 // The drives that the message has still to go to.
-#[derive(Drop)]
+#[derive(Clone, Copy)]
 pub struct Due {
     pub others: u64,
     pub listeners: u64,
@@ -58,7 +58,7 @@ pub fn rest(due: Due) -> Due
 }
 
 // A message of so many bytes in a buffer, and to whom it goes.
-#[derive(Drop)]
+#[derive(Clone, Copy)]
 pub struct Sent {
     pub size: usize,
     pub due: Due,

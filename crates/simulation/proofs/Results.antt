@@ -18,7 +18,7 @@ use Rattle.drive_sets.specs.Masks.{has, common, size, drives}
 use Rattle.drive_sets.specs.Masks.Laws.{has_common}
 use Rattle.drive_sets.specs.Masks.Sizes.{elem_drives, length_drives}
 use Rattle.drive_sets.specs.declared.Pattern.{Pattern}
-use Rattle.drive_sets.specs.Refusals.{Outcome, refused, result, and_then}
+use Rattle.drive_sets.specs.Refusals.{Outcome, refused, yields, and_then}
 use Rattle.drive_sets.specs.Refusals.Laws.{refused_no_result}
 use Rattle.survivor_tables.specs.Order.{normal}
 use Rattle.survivor_tables.specs.Tables.{chosen, normal_table, chosen_core, Accepted}
@@ -85,10 +85,10 @@ module _ (n core : ℕ) (c : Crashes) (s : Scenario) (g : Says n core c s) where
   pub result_is : Valid s → (found : ℕ → Ending) → ((d : ℕ) → is_drive n d ≡ true → found d ≡ canonical_ending s d)
       → (stops : ℕ) → stops ≡ size (common core c.crashed)
       → ◌≡◌ {A = Outcome Simulated}
-      (result (record { endings = map (λ d. cond (has d c.crashed) stopped (found d)) (range 1 n); core = core; stops = stops })) (result (simulated_of s))
+      (yields (record { endings = map (λ d. cond (has d c.crashed) stopped (found d)) (range 1 n); core = core; stops = stops })) (yields (simulated_of s))
   result_is ok found same stops e =
-      ap₂ (λ (es : List Ending) (k : ℕ). result (record { endings = es; core = core; stops = k })) (endings_found ok found same) (e ∙ stops_counted)
-      ∙ ap (λ (k : ℕ). result (record { endings = endings s; core = k; stops = core_crashes s })) (sym g.core_is)
+      ap₂ (λ (es : List Ending) (k : ℕ). yields (record { endings = es; core = core; stops = k })) (endings_found ok found same) (e ∙ stops_counted)
+      ∙ ap (λ (k : ℕ). yields (record { endings = endings s; core = k; stops = core_crashes s })) (sym g.core_is)
 
 -- ---- the scenario of a call
 
@@ -102,20 +102,20 @@ crash_listed c (x ∷ l) d =
     (λ t. rw (t, any_true (eqb d) x l (eq-eqb d x (sym (eqb-true x d t))), eqb-true x d t))
     (λ t. rw (t, any_false (eqb d) x l (ne_eqb d x (λ e. eqb-false x d t (sym e)))) (crash_listed c l d))
 
-module _ (n : ℕ) (sets : List ℕ) (numbers : List Pattern) (c : Crashes) (core : ℕ) (word : c.crashed < 2 ^ 64) (e : chosen_core n sets ≡ result core) where
+module _ (n : ℕ) (sets : List ℕ) (numbers : List Pattern) (c : Crashes) (core : ℕ) (word : c.crashed < 2 ^ 64) (e : chosen_core n sets ≡ yields core) where
   -- the table is accepted, and this is its chosen core
   given : Accepted n sets × (chosen (normal sets) ≡ core)
   given = core_given n sets e
 
   pub told : ((i : ℕ) → (get_or numbers i (pattern 0)).0 < pattern_limit)
-      → checked_crashes n core 0 (by_drive.crashes_in c) (result (by_drive.crashes_in c)) ≡ result (by_drive.crashes_in c)
+      → checked_crashes n core 0 (by_drive.crashes_in c) (yields (by_drive.crashes_in c)) ≡ yields (by_drive.crashes_in c)
       → Told n core numbers c (scenario n sets (take n (values numbers)) (by_drive.crashes_in c))
   unfolding scenario core_of crash_at number_in by_drive.crashes_in
   told small checks = record {
     says = record { frame_is_law = refl; core_is = given.1; crash_is = crash_is };
     valid = checked_valid n sets (take n (values numbers)) (by_drive.crashes_in c) (accepted_table n sets given.0)
         (λ d h. subst (λ (v : ℕ). v < pattern_limit) (sym (proposed d h)) (small (d - 1)))
-        (ap (λ (k : ℕ). checked_crashes n k 0 (by_drive.crashes_in c) (result (by_drive.crashes_in c))) given.1 ∙ checks);
+        (ap (λ (k : ℕ). checked_crashes n k 0 (by_drive.crashes_in c) (yields (by_drive.crashes_in c))) given.1 ∙ checks);
     proposal_is_law = proposed;
   }
     where
@@ -143,7 +143,7 @@ pub table_refused : (n : ℕ) (sets nums : List ℕ) (crs : List CrashRecord) (q
 unfolding simulated chosen_core
 table_refused n sets nums crs q e = go (normal_table n sets) e
   where
-    go : (o : Outcome (List ℕ)) → and_then o (λ t. result (chosen t)) ≡ refused q
+    go : (o : Outcome (List ℕ)) → and_then o (λ t. yields (chosen t)) ≡ refused q
         → refused q ≡ and_then o (λ table. checked_crashes n (chosen table) 0 crs (unless_touched n sets nums crs))
     go (refused r) h = cc
-    go (result t) h = absurd (refused_no_result (sym h))
+    go (yields t) h = absurd (refused_no_result (sym h))

@@ -2,7 +2,7 @@
 -- or how each drive ends by the rounds, the core and f. Every run of the scenario gives the same.
 use Rattle.std.specs.Prelude.{List, [], ◌∷◌, ℕ}
 use Rattle.drive_sets.specs.declared.Refusal.TheVariants.{NoneUntouched}
-use Rattle.drive_sets.specs.Refusals.{Outcome, result, refuse_if, and_then}
+use Rattle.drive_sets.specs.Refusals.{Outcome, yields, refuse_if, and_then}
 use Rattle.drive_sets.specs.Positions.{is_none}
 use Rattle.survivor_tables.specs.Hitting.{first_missed}
 use Rattle.survivor_tables.specs.Tables.{chosen, normal_table}
@@ -35,7 +35,7 @@ simulated_of s = record { endings = endings s; core = core_of s; stops = core_cr
 -- 11, every survivor set has a drive with a CR: none is missed by these drives; else what the scenario gives
 abbrev pub unless_touched : ℕ → List ℕ → List ℕ → List CrashRecord → Outcome Simulated
 unless_touched n sets numbers crs =
-    refuse_if (is_none (first_missed sets (crashed crs))) NoneUntouched (result (simulated_of (scenario n sets numbers crs)))
+    refuse_if (is_none (first_missed sets (crashed crs))) NoneUntouched (yields (simulated_of (scenario n sets numbers crs)))
 
 unfoldable pub simulated : ℕ → List ℕ → List ℕ → List CrashRecord → Outcome Simulated
 simulated n sets numbers crs =

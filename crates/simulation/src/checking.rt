@@ -1,6 +1,6 @@
 // The crashes of a scenario checked in order: 8, 9, 10 of each, rising by drive.
 ghost use Rattle.std.specs.Prelude.{◌≡◌, ◌≤◌};
-ghost use Rattle.drive_sets.specs.Refusals.{result, outcome_of};
+ghost use Rattle.drive_sets.specs.Refusals.{yields, outcome_of};
 ghost use Rattle.runs.specs.CrashRecords.{checked_crash};
 ghost use Rattle.drive_crashes.specs.Crashes.{crash_of_drive, crashes_in};
 ghost use Rattle.simulation.specs.Simulation.{checked_crashes};
@@ -11,7 +11,7 @@ use drive_sets::{Answer, Drive};
 // The crash of one drive, after that of the last.
 fn check_one(n: u8, core: u64, last: Drive, d: Drive, crashes: Crashes) -> Answer
     requires { (1 ≤ d.0) × (d.0 ≤ 64) }
-    ensures* { λ r. ⌜ outcome_of r (crash_of_drive crashes d.0) ≡ checked_crash n core last.0 (crash_of_drive crashes d.0) ⌝ }
+    ensures { outcome_of result (crash_of_drive crashes d.0) ≡ checked_crash n core last.0 (crash_of_drive crashes d.0) }
 {
     let rounds = crashes.rounds;
     let sends = crashes.sends;
@@ -24,7 +24,7 @@ fn check_one(n: u8, core: u64, last: Drive, d: Drive, crashes: Crashes) -> Answe
 
 // The first refusal that a crash meets.
 pub(crate) fn check_all(n: u8, core: u64, crashes: Crashes) -> Answer
-    ensures* { λ r. ⌜ outcome_of r (crashes_in crashes) ≡ checked_crashes n core 0 (crashes_in crashes) (result (crashes_in crashes)) ⌝ }
+    ensures { outcome_of result (crashes_in crashes) ≡ checked_crashes n core 0 (crashes_in crashes) (yields (crashes_in crashes)) }
 {
     let mut rest = crashes.crashed;
     let mut last = Drive(0);

@@ -1,7 +1,7 @@
 // The simulated exchange as a call. The crashes are handed over by drive, as the run file reader gives them: at most
 // one to a drive, rising.
 ghost use Rattle.std.specs.Prelude.{◌≡◌, take};
-ghost use Rattle.drive_sets.specs.Refusals.{result, Alone};
+ghost use Rattle.drive_sets.specs.Refusals.{yields, Alone};
 ghost use Rattle.survivor_tables.specs.Tables.{chosen_core};
 ghost use Rattle.runs.specs.Scenario.{Scenario};
 ghost use Rattle.runs.specs.CrashRecords.{crashed};
@@ -21,7 +21,7 @@ use tables::calls::Chosen;
 
 // How the drives end, where the call is accepted: a drive with a CR is stopped, and the first decisions of the others;
 // the core, and f.
-#[derive(Drop)]
+#[derive(Clone, Copy)]
 pub struct Simulated {
     pub answer: Answer,
     pub crashed: u64,
@@ -31,7 +31,7 @@ pub struct Simulated {
 }
 
 fn refused(r: Refusal) -> Simulated
-    ensures* { λ t. ⌜ t ≡ refused_simulated r ⌝ }
+    ensures { result ≡ refused_simulated r }
 {
     Simulated {
         answer: Answer::Refused(r),
@@ -44,8 +44,8 @@ fn refused(r: Refusal) -> Simulated
 
 // The simulated exchange of an accepted table with this core, where the crashes pass.
 fn result_on(n: u8, core: u64, numbers: [Pattern; 64], crashes: Crashes) -> Simulated
-    ensures* fact { λ r. ⌜ ((s : Scenario) → Told n core numbers crashes s → simulated_outcome n r ≡ result (simulated_of s)) ⌝ }
-    ensures* taken { λ r. ⌜ r.answer ≡ Answer.Accepted ⌝ }
+    ensures ends { (s : Scenario) → Told n core numbers crashes s → simulated_outcome n result ≡ yields (simulated_of s) }
+    ensures taken { result.answer ≡ Answer.Accepted }
 {
     let found = running::first_decisions(n, core, numbers, crashes);
     let crashed = crashes.crashed;
@@ -67,9 +67,9 @@ fn where_untouched(
     numbers: [Pattern; 64],
     crashes: Crashes,
 ) -> Simulated
-    requires { (chosen_core n sets.now ≡ result core) × (checked_crashes n core 0 (crashes_in crashes) (result (crashes_in crashes)) ≡ result (crashes_in crashes)) }
-    ensures* t_value { λ t. ⌜ simulated_outcome n t ≡ unless_touched n sets.now (take n (values numbers)) (crashes_in crashes) ⌝ }
-    ensures* alone { λ t. ⌜ Alone (λ (u : Simulated). u.answer) refused_simulated t ⌝ }
+    requires { (chosen_core n sets.now ≡ yields core) × (checked_crashes n core 0 (crashes_in crashes) (yields (crashes_in crashes)) ≡ yields (crashes_in crashes)) }
+    ensures value { simulated_outcome n result ≡ unless_touched n sets.now (take n (values numbers)) (crashes_in crashes) }
+    ensures alone { Alone (λ (u : Simulated). u.answer) refused_simulated result }
 {
     let untouched = first_missed(sets, crashes.crashed);
     match untouched {
@@ -86,9 +86,9 @@ fn where_checked(
     numbers: [Pattern; 64],
     crashes: Crashes,
 ) -> Simulated
-    requires { chosen_core n sets.now ≡ result core }
-    ensures* t_value { λ t. ⌜ simulated_outcome n t ≡ checked_crashes n core 0 (crashes_in crashes) (unless_touched n sets.now (take n (values numbers)) (crashes_in crashes)) ⌝ }
-    ensures* alone { λ t. ⌜ Alone (λ (u : Simulated). u.answer) refused_simulated t ⌝ }
+    requires { chosen_core n sets.now ≡ yields core }
+    ensures value { simulated_outcome n result ≡ checked_crashes n core 0 (crashes_in crashes) (unless_touched n sets.now (take n (values numbers)) (crashes_in crashes)) }
+    ensures alone { Alone (λ (u : Simulated). u.answer) refused_simulated result }
 {
     let checked = checking::check_all(n, core, crashes);
     match checked {
@@ -100,8 +100,8 @@ fn where_checked(
 // The simulated exchange: from n and sets, the pattern numbers, drive 1 first, with any for a listener, and the
 // crashes. The table's refusals, then those of each crash, then 11. Beside a refusal nothing is told.
 pub fn simulate(n: u8, sets: &[u64], numbers: [Pattern; 64], crashes: Crashes) -> Simulated
-    ensures* t_value { λ t. ⌜ simulated_outcome n t ≡ simulated n sets.now (take n (values numbers)) (crashes_in crashes) ⌝ }
-    ensures* alone { λ t. ⌜ Alone (λ (u : Simulated). u.answer) refused_simulated t ⌝ }
+    ensures value { simulated_outcome n result ≡ simulated n sets.now (take n (values numbers)) (crashes_in crashes) }
+    ensures alone { Alone (λ (u : Simulated). u.answer) refused_simulated result }
 {
     let chosen = tables::calls::chosen_core(n, sets);
     match chosen {

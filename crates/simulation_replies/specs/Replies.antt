@@ -2,7 +2,7 @@
 -- result with refusal 0, and beside a refusal zeros.
 use Rattle.std.specs.Prelude.{List, map, ◌++◌, length, drop, replicate}
 use Rattle.drive_sets.specs.Limits.{max_drives}
-use Rattle.drive_sets.specs.Refusals.{Outcome, refused, result}
+use Rattle.drive_sets.specs.Refusals.{Outcome, refused, yields}
 use Rattle.drive_states.specs.State.{pattern}
 use Rattle.agreement.specs.RoundEndings.{Ending, decides, undecided, stopped}
 use Rattle.simulation.specs.Simulation.{Simulated}
@@ -28,4 +28,4 @@ in_drives l = map drive_ending l ++ drop (length (map drive_ending l)) (replicat
 
 abbrev pub simulation_reply : Outcome Simulated → SimulationReply
 simulation_reply (refused r) = record { drives = replicate max_drives no_ending; core = 0; stops = 0; refusal = r }
-simulation_reply (result s) = record { drives = in_drives s.endings; core = s.core; stops = s.stops; refusal = 0 }
+simulation_reply (yields s) = record { drives = in_drives s.endings; core = s.core; stops = s.stops; refusal = 0 }

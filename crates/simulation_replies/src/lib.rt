@@ -1,4 +1,6 @@
 // The reply of the simulated exchange to C: how a drive ends as a struct of numbers, and a refusal beside zeros.
+#![tactic(auto)]
+
 ghost use Rattle.std.specs.Prelude.{◌≡◌};
 ghost use Rattle.drive_sets.specs.Refusals.{refused, number};
 ghost use Rattle.simulated_decisions.specs.Endings.{ending_for};
@@ -9,7 +11,7 @@ use drive_sets::{Pattern, Refusal, Round};
 // How a drive ends: the number on which it decides and the round, 0 in both where it does not; `stopped` is 1 for a
 // drive that stops, even if it decided before.
 #[repr(C)]
-#[derive(Drop)]
+#[derive(Clone, Copy)]
 pub struct DriveEnding {
     pub number: Pattern,
     pub round: Round,
@@ -18,7 +20,7 @@ pub struct DriveEnding {
 
 // How the drives end, drive 1 first, with zeros behind drive n; the chosen core, and how many of its drives stop.
 #[repr(C)]
-#[derive(Drop)]
+#[derive(Clone, Copy)]
 pub struct SimulationReply {
     pub drives: [DriveEnding; 64],
     pub core: u64,

@@ -1,4 +1,6 @@
 // Splits of a frame into blocks: the moves that leave no block empty.
+#![tactic(auto)]
+
 ghost use Rattle.std.specs.Prelude.{◌≡◌, ◌<◌, length};
 ghost use Rattle.splits.specs.Splits.{first_empty, first_large, with_move, moved, fill_empty};
 

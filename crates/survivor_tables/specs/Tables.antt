@@ -6,7 +6,7 @@ use Rattle.drive_sets.specs.declared.Position.{Position}
 use Rattle.drive_sets.specs.declared.Refusal.TheVariants.{WrongMark, FrameSize, BadSet, TooManySets, TooManyCores, AllDrives}
 use Rattle.drive_sets.specs.Lists.{all, elem}
 use Rattle.drive_sets.specs.Masks.{full, subset}
-use Rattle.drive_sets.specs.Refusals.{Outcome, result, refuse_if, and_then}
+use Rattle.drive_sets.specs.Refusals.{Outcome, yields, refuse_if, and_then}
 use Rattle.survivor_tables.specs.declared.frames.MaskKind.{MaskKind}
 use Rattle.survivor_tables.specs.declared.frames.MaskKind.TheVariants.{SurvivorSet, FaultGroup}
 use Rattle.survivor_tables.specs.Hitting.{first_missed, minimals}
@@ -44,15 +44,15 @@ dual groups = sort by_mask (minimals groups)
 
 -- the normal table, where it has at most 1024 cores
 unfoldable pub within_core_limit : List ℕ → Outcome (List ℕ)
-within_core_limit sets = refuse_if (ltb max_cores (length (cores (normal sets)))) TooManyCores (result (normal sets))
+within_core_limit sets = refuse_if (ltb max_cores (length (cores (normal sets)))) TooManyCores (yields (normal sets))
 
 -- ---- a list of masks: survivor sets, or fault groups, each a set of drives that can fail together
 
 -- what one mask meets, and else the mask: a survivor set that is empty or has a bit above n meets 4; a fault group may
 -- be empty, one with a bit above n meets 4, and one of all n drives 34
 unfoldable pub checked_mask : MaskKind → ℕ → ℕ → Outcome ℕ
-checked_mask SurvivorSet n m = refuse_if (not (is_set n m)) BadSet (result m)
-checked_mask FaultGroup n m = refuse_if (not (subset m (full n))) BadSet (refuse_if (eqb m (full n)) AllDrives (result m))
+checked_mask SurvivorSet n m = refuse_if (not (is_set n m)) BadSet (yields m)
+checked_mask FaultGroup n m = refuse_if (not (subset m (full n))) BadSet (refuse_if (eqb m (full n)) AllDrives (yields m))
 
 -- the first refusal that one of the masks meets, mask by mask, and else what comes next
 module _ {A : Type 0} where
@@ -66,7 +66,7 @@ checked_masks kind n masks =
     refuse_if (not (is_frame n)) FrameSize
     (refuse_if (is_empty masks) WrongMark
     (refuse_if (ltb max_sets (length masks)) TooManySets
-    (each_mask kind n masks (result masks))))
+    (each_mask kind n masks (yields masks))))
 
 -- ---- the calls given n and sets: 3, 2, 5, then 4 set by set, then 13
 
@@ -88,16 +88,16 @@ pub record Accepted (n : ℕ) (sets : List ℕ) : Type 0 where
   pub few_cores : length (cores (normal sets)) ≤ max_cores
 
 unfoldable pub core_list : ℕ → List ℕ → Outcome (List ℕ)
-core_list n sets = and_then (normal_table n sets) (λ table. result (cores table))
+core_list n sets = and_then (normal_table n sets) (λ table. yields (cores table))
 
 unfoldable pub chosen_core : ℕ → List ℕ → Outcome ℕ
-chosen_core n sets = and_then (normal_table n sets) (λ table. result (chosen table))
+chosen_core n sets = and_then (normal_table n sets) (λ table. yields (chosen table))
 
 -- the first set of the normal table that these drives miss, by its position, and none exactly where they meet them all.
 -- A group that is no set of the frame meets 4, after the table's own refusals
 unfoldable pub missed_set : ℕ → List ℕ → ℕ → Outcome Position
 missed_set n sets group =
-    and_then (normal_table n sets) (λ table. refuse_if (not (is_set n group)) BadSet (result (first_missed table group)))
+    and_then (normal_table n sets) (λ table. refuse_if (not (is_set n group)) BadSet (yields (first_missed table group)))
 
 -- Back: 3, 13 for no groups or more than 1024, 4, then 5 for more than 128 found
 unfoldable pub survivor_sets : ℕ → List ℕ → Outcome (List ℕ)
@@ -107,4 +107,4 @@ survivor_sets n groups =
     (refuse_if (ltb max_cores (length groups)) TooManyCores
     (refuse_if (not (all (is_set n) groups)) BadSet
     (refuse_if (ltb max_sets (length (dual groups))) TooManySets
-    (result (dual groups))))))
+    (yields (dual groups))))))

@@ -7,14 +7,14 @@ use crate::MAX_SETS;
 use drive_sets::{Answer, Refusal};
 
 // What the masks of a list are: survivor sets, as in a table, or groups of drives that can fail together.
-#[derive(Drop)]
+#[derive(Clone, Copy)]
 pub enum MaskKind {
     SurvivorSet,
     FaultGroup,
 }
 
 // A table: n drives, and its sets, the first `count` of the array.
-#[derive(Drop)]
+#[derive(Clone, Copy)]
 pub struct Table {
     pub n: u8,
     pub count: usize,

@@ -1,5 +1,7 @@
 // Survivor tables: what they, their normal form, their cores and the way back are, with their laws, in specs/. The code
 // is the limits, the tests of n and of one set or fault group, and the first set that some drives miss.
+#![tactic(auto)]
+
 pub mod frames;
 pub mod missed;
 

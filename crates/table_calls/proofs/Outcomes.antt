@@ -6,7 +6,7 @@ use lib.ListN.{take}
 use Rattle.drive_sets.specs.declared.Answer.{Answer}
 use Rattle.drive_sets.specs.declared.Answer.TheVariants.{Accepted, Refused}
 use Rattle.drive_sets.specs.declared.Refusal.{Refusal}
-use Rattle.drive_sets.specs.Refusals.{Outcome, refused, result, number, outcome_of}
+use Rattle.drive_sets.specs.Refusals.{Outcome, refused, yields, number, outcome_of}
 use Rattle.complete_tables.specs.declared.TableWithCores.{TableWithCores}
 use Rattle.complete_tables.specs.Complete.{complete_table, complete_outcome}
 use Rattle.survivor_tables.specs.Tables.{cores, core_list}
@@ -30,13 +30,13 @@ module _ {A : Type 0} where
 module _ (n : ℕ) (sets : List ℕ) (t : TableWithCores) (e : complete_outcome t ≡ complete_table n sets) where
   pub cores_refused : (q : Refusal) → t.answer ≡ Refused q → refused (number q) ≡ core_list n sets
   unfolding core_list
-  cores_refused q f = asks_refused n sets t e (λ table. result (cores table)) q f
+  cores_refused q f = asks_refused n sets t e (λ table. yields (cores table)) q f
 
-  pub cores_listed : t.answer ≡ Accepted → result (take t.found t.cores) ≡ core_list n sets
+  pub cores_listed : t.answer ≡ Accepted → yields (take t.found t.cores) ≡ core_list n sets
   unfolding core_list
   cores_listed f =
       let u = accept_taken n sets t e f in
-      ap (λ (l : List ℕ). result l) u.list ∙ asks_taken n sets t e (λ table. result (cores table)) u
+      ap (λ (l : List ℕ). yields l) u.list ∙ asks_taken n sets t e (λ table. yields (cores table)) u
 
 -- ---- verdicts
 

@@ -2,7 +2,7 @@
 -- of a result with refusal 0, and beside a refusal zeros.
 use Rattle.drive_sets.specs.declared.Position.{Position}
 use Rattle.drive_sets.specs.Positions.{position_number}
-use Rattle.drive_sets.specs.Refusals.{Outcome, refused, result}
+use Rattle.drive_sets.specs.Refusals.{Outcome, refused, yields}
 use Rattle.verdict_search.specs.Verdicts.{Verdict}
 use Rattle.verdicts.specs.Held.{held_in}
 use Rattle.c_replies.specs.Replies.{refusal_of, flag_of}
@@ -14,7 +14,7 @@ pub mod Laws
 
 abbrev pub missed_reply : Outcome Position → MissedReply
 missed_reply (refused r) = record { position = 0; refusal = r }
-missed_reply (result p) = record { position = position_number p; refusal = 0 }
+missed_reply (yields p) = record { position = position_number p; refusal = 0 }
 
 -- ---- verdicts
 

@@ -17,7 +17,7 @@ use tables::calls::MissedSet;
 
 // The position of the first set that a group misses, 0 for none.
 #[repr(C)]
-#[derive(Drop)]
+#[derive(Clone, Copy)]
 pub struct MissedReply {
     pub position: usize,
     pub refusal: u32,
@@ -25,7 +25,7 @@ pub struct MissedReply {
 
 // The verdict on k: `shared` is 1 for a yes. For a no the first k positions and blocks; all other places are 0.
 #[repr(C)]
-#[derive(Drop)]
+#[derive(Clone, Copy)]
 pub struct VerdictReply {
     pub blocks: [u64; 4],
     pub positions: [u8; 4],

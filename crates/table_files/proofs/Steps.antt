@@ -10,7 +10,7 @@ use lib.Seq.{take-suc-set, length-take-le}
 use borrow.Author.Tests.{leb-false}
 use Rattle.drive_sets.specs.declared.Refusal.{Refusal}
 use Rattle.drive_sets.specs.declared.Refusal.TheVariants.{TooManySets}
-use Rattle.drive_sets.specs.Refusals.{Outcome, refused, result, and_then, number}
+use Rattle.drive_sets.specs.Refusals.{Outcome, refused, yields, and_then, number}
 use Rattle.drive_sets.specs.Refusals.Laws.{passed}
 use Rattle.records.specs.declared.Due.TheVariants.{AtRecord, AtRecordOrEnd}
 use Rattle.records.specs.declared.Kind.{Kind}
@@ -48,7 +48,7 @@ abbrev pub list_behind : MaskKind → ℕ → List ℕ → Outcome (ReadList (Li
 list_behind kind n s = read_list (mask_list kind n) [] (drop 3 s)
 
 abbrev read_to : MaskKind → ℕ → List ℕ → Outcome ReadTable
-read_to kind n s = and_then (list_behind kind n s) (λ t. result (listed_table n t))
+read_to kind n s = and_then (list_behind kind n s) (λ t. yields (listed_table n t))
 
 -- `count` masks are in the array, and reading on from `at` gives what the bytes after FR give
 pub record Listing (kind : MaskKind) (s : List ℕ) (n : ℕ) (sets : List ℕ) (count at : ℕ) : Type 0 where
@@ -67,16 +67,16 @@ module _ {kind : MaskKind} {s : List ℕ} {n : ℕ} {sets : List ℕ} {count at 
 
   pub listing_stop : {q : Refusal} → step ≡ Stop q → refused (number q) ≡ read_to kind n s
   listing_stop {q} e =
-      ap (λ (o : Outcome (ReadList (List ℕ))). and_then o (λ t. result (listed_table n t)))
+      ap (λ (o : Outcome (ReadList (List ℕ))). and_then o (λ t. yields (listed_table n t)))
       (reading_stop (mask_list kind n) (list_behind kind n s) s (take count sets) at l.reading refl (number q) (said (Stop q) e))
 
   module _ (e : step ≡ End) where
     pub listed_within : at + 3 ≤ length s
     listed_within = end_within (mask_list kind n) (list_behind kind n s) s (take count sets) at l.reading refl (said End e)
 
-    pub listing_end : result (record { n = n; sets = take count sets; rest = drop (at + 3) s }) ≡ read_to kind n s
+    pub listing_end : yields (record { n = n; sets = take count sets; rest = drop (at + 3) s }) ≡ read_to kind n s
     listing_end =
-        ap (λ (o : Outcome (ReadList (List ℕ))). and_then o (λ t. result (listed_table n t)))
+        ap (λ (o : Outcome (ReadList (List ℕ))). and_then o (λ t. yields (listed_table n t)))
         (reading_end (mask_list kind n) (list_behind kind n s) s (take count sets) at l.reading refl (said End e))
 
   module _ {m : ℕ} (e : step ≡ Mask m) where

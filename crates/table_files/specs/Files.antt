@@ -2,7 +2,7 @@
 -- and FL in a fault list. Reading finds the refusals from left to right; writing writes the normal form.
 use Rattle.std.specs.Prelude.{false, not, List, [], ◌∷◌, ◌++◌, ℕ, zero, suc, leb, length, drop}
 use Rattle.drive_sets.specs.declared.Refusal.TheVariants.{FrameSize, TooManySets, TrailingBytes}
-use Rattle.drive_sets.specs.Refusals.{Outcome, result, refuse_if, and_then}
+use Rattle.drive_sets.specs.Refusals.{Outcome, yields, refuse_if, and_then}
 use Rattle.records.specs.declared.Kind.{Kind}
 use Rattle.records.specs.declared.Kind.TheVariants.{Frame, Survivor, Fault, End}
 use Rattle.records.specs.declared.Due.{Due}
@@ -38,7 +38,7 @@ due_after kind (suc count) = AtRecordOrEnd (record_of kind)
 unfoldable pub taken_mask : MaskKind → ℕ → List ℕ → List ℕ → Outcome (List ℕ)
 taken_mask kind n listed s =
     refuse_if (leb max_sets (length listed)) TooManySets
-    (and_then (checked_mask kind n (field_at 2 8 s)) (λ m. result (listed ++ (m ∷ []))))
+    (and_then (checked_mask kind n (field_at 2 8 s)) (λ m. yields (listed ++ (m ∷ []))))
 
 -- the records after FR, with the masks listed so far
 abbrev pub mask_list : MaskKind → ℕ → ListFormat (List ℕ)
@@ -51,7 +51,7 @@ listed_table n l = record { n = n; sets = l.list; rest = l.rest }
 unfoldable pub read_listed : MaskKind → List ℕ → Outcome ReadTable
 read_listed kind s =
     let n = field_at 2 1 s in
-    let masks = and_then (read_list (mask_list kind n) [] (drop 3 s)) (λ l. result (listed_table n l)) in
+    let masks = and_then (read_list (mask_list kind n) [] (drop 3 s)) (λ l. yields (listed_table n l)) in
     at_record (head_of (AtRecord Frame) s) (λ frame. refuse_if (not (is_frame n)) FrameSize masks)
 
 -- a list and nothing more, and what is made of it: bytes after the end meet 7
@@ -62,7 +62,7 @@ read_all kind finish s = and_then (read_listed kind s) (λ t. refuse_if (not (is
 
 -- the normal table, 13 coming last
 unfoldable pub accepted : ReadTable → Outcome ReadTable
-accepted t = and_then (within_core_limit t.sets) (λ table. result (record { n = t.n; sets = table; rest = t.rest }))
+accepted t = and_then (within_core_limit t.sets) (λ table. yields (record { n = t.n; sets = table; rest = t.rest }))
 
 -- a table with more behind it, which is handed back
 unfoldable pub read_table : List ℕ → Outcome ReadTable

@@ -3,7 +3,7 @@ use Rattle.std.specs.Prelude.{List, [], ◌∷◌, ◌++◌, ℕ, ◌≤◌, len
 use Rattle.std.proofs.Math.Option.{Option, none, some}
 use Rattle.drive_sets.specs.declared.Answer.TheVariants.{Refused}
 use Rattle.drive_sets.specs.declared.Refusal.{Refusal}
-use Rattle.drive_sets.specs.Refusals.{Outcome, refused, result, number, outcome_of, Alone}
+use Rattle.drive_sets.specs.Refusals.{Outcome, refused, yields, number, outcome_of, Alone}
 use Rattle.table_files.specs.declared.reading.Step.{Step}
 use Rattle.table_files.specs.declared.reading.Step.TheVariants.{Mask, End, Stop}
 use Rattle.complete_tables.specs.Complete.{sets_of}
@@ -32,5 +32,5 @@ pub record ReadWithin (r : TableRead) (s : List ℕ) : Type 0 where
 -- what a step makes of the masks listed
 abbrev pub step_outcome : List ℕ → Step → Outcome (Option (List ℕ))
 step_outcome listed (Stop r) = refused (number r)
-step_outcome listed End = result none
-step_outcome listed (Mask m) = result (some (listed ++ (m ∷ [])))
+step_outcome listed End = yields none
+step_outcome listed (Mask m) = yields (some (listed ++ (m ∷ [])))

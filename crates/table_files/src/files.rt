@@ -17,7 +17,7 @@ use survivor_tables::frames::MaskKind;
 // What the bytes list, made complete.
 fn finish(s: &[u8], listed: TableRead) -> TableWithCores
     requires { (read_outcome listed s.now ≡ read_listed SurvivorSet s.now) × (listed.table.count ≤ max_sets) }
-    ensures result_value { complete_outcome result ≡ and_then (read_listed SurvivorSet s.now) completed }
+    ensures value { complete_outcome result ≡ and_then (read_listed SurvivorSet s.now) completed }
     ensures within { CompleteWithin result }
 {
     let answer = listed.answer;
@@ -32,7 +32,7 @@ fn finish(s: &[u8], listed: TableRead) -> TableWithCores
 
 // A table with anything behind it, which the caller's slice is set to; on a refusal the slice is left as it was.
 pub fn read_table<'a, 'b>(s: &'b [u8], rest: &'a mut &'b [u8]) -> TableWithCores
-    ensures result_value { complete_outcome result ≡ table_read (read_complete s.now) }
+    ensures value { complete_outcome result ≡ table_read (read_complete s.now) }
     ensures rest_after { rest.new.now ≡ rest_after (read_complete s.now) rest.old.now }
     ensures within { CompleteWithin result }
 {
@@ -51,7 +51,7 @@ pub fn read_table<'a, 'b>(s: &'b [u8], rest: &'a mut &'b [u8]) -> TableWithCores
 
 // A table and nothing more: bytes after the end meet 7.
 pub fn read_whole(s: &[u8]) -> TableWithCores
-    ensures result_value { complete_outcome result ≡ read_whole_complete s.now }
+    ensures value { complete_outcome result ≡ read_whole_complete s.now }
     ensures within { CompleteWithin result }
 {
     let listed = reading::read_listed(s, MaskKind::SurvivorSet);

@@ -1,7 +1,7 @@
 // The reader of lists of masks: FR with n, 1 to 128 SV or FL with a mask, EN with their count. Refusals are found from
 // left to right.
 ghost use Rattle.std.specs.Prelude.{◌≡◌, List, [], ℕ, ◌≤◌, length, drop};
-ghost use Rattle.drive_sets.specs.Refusals.{result, and_then};
+ghost use Rattle.drive_sets.specs.Refusals.{yields, and_then};
 ghost use Rattle.records.specs.RecordLists.{step_of, read_list};
 ghost use Rattle.table_files.specs.Files.{record_of, due_after, mask_list, listed_table, read_listed};
 ghost use Rattle.table_files.specs.Reading.{step_outcome, read_outcome, ReadWithin};
@@ -12,7 +12,7 @@ use survivor_tables::MAX_SETS;
 use survivor_tables::frames::{MaskKind, Table, check_mask, is_frame};
 
 // What reading gives: n with the masks and how many bytes they took, where they are accepted.
-#[derive(Drop)]
+#[derive(Clone, Copy)]
 pub struct TableRead {
     pub answer: Answer,
     pub table: Table,
@@ -20,7 +20,7 @@ pub struct TableRead {
 }
 
 // What stands where a mask or the end is due.
-#[derive(Drop)]
+#[derive(Clone, Copy)]
 enum Step {
     Mask(u64),
     End,
@@ -29,7 +29,7 @@ enum Step {
 
 // The records that the masks stand in: SV or FL.
 pub fn record_of(kind: MaskKind) -> Kind
-    ensures* { λ r. ⌜ r ≡ record_of kind ⌝ }
+    ensures { result ≡ record_of kind }
 {
     match kind {
         MaskKind::SurvivorSet => Kind::Survivor,
@@ -39,7 +39,7 @@ pub fn record_of(kind: MaskKind) -> Kind
 
 // After FR one of them is due, and after one another or the end.
 fn due_after(kind: MaskKind, count: usize) -> Due
-    ensures* { λ r. ⌜ r ≡ due_after kind count ⌝ }
+    ensures { result ≡ due_after kind count }
 {
     if count == 0 {
         Due::AtRecord(record_of(kind))
@@ -49,8 +49,8 @@ fn due_after(kind: MaskKind, count: usize) -> Due
 }
 
 fn refused(r: Refusal) -> TableRead
-    ensures* answer_value { λ t. ⌜ t.answer ≡ Answer.Refused r ⌝ }
-    ensures* within { λ t. ⌜ ((s : List ℕ) → ReadWithin t s) ⌝ }
+    ensures value { result.answer ≡ Answer.Refused r }
+    ensures within { (s : List ℕ) → ReadWithin result s }
 {
     TableRead {
         answer: Answer::Refused(r),
@@ -65,7 +65,7 @@ fn refused(r: Refusal) -> TableRead
 
 // The record at the start of the bytes, where `count` masks are listed before it.
 fn next_step(s: &[u8], kind: MaskKind, n: u8, count: usize) -> Step
-    ensures* { λ r. ⌜ ((listed : List ℕ) → length listed ≡ count → step_outcome listed r ≡ step_of (mask_list kind n) listed s.now) ⌝ }
+    ensures { (listed : List ℕ) → length listed ≡ count → step_outcome listed result ≡ step_of (mask_list kind n) listed s.now }
 {
     let next = records::next_record(s, due_after(kind, count), count);
     match next {
@@ -88,8 +88,8 @@ fn next_step(s: &[u8], kind: MaskKind, n: u8, count: usize) -> Step
 // The records after the three bytes of FR.
 fn read_masks(s: &[u8], kind: MaskKind, n: u8) -> TableRead
     requires { 3 ≤ length s.now }
-    ensures* s_value { λ r. ⌜ read_outcome r s.now ≡ and_then (read_list (mask_list kind n) [] (drop 3 s.now)) (λ l. result (listed_table n l)) ⌝ }
-    ensures* within { λ r. ⌜ ReadWithin r s.now ⌝ }
+    ensures value { read_outcome result s.now ≡ and_then (read_list (mask_list kind n) [] (drop 3 s.now)) (λ l. yields (listed_table n l)) }
+    ensures within { ReadWithin result s.now }
 {
     let mut sets = [0u64; MAX_SETS];
     let mut count = 0;
@@ -116,8 +116,8 @@ fn read_masks(s: &[u8], kind: MaskKind, n: u8) -> TableRead
 
 // The masks as they are listed.
 pub fn read_listed(s: &[u8], kind: MaskKind) -> TableRead
-    ensures* s_value { λ r. ⌜ read_outcome r s.now ≡ read_listed kind s.now ⌝ }
-    ensures* within { λ r. ⌜ ReadWithin r s.now ⌝ }
+    ensures value { read_outcome result s.now ≡ read_listed kind s.now }
+    ensures within { ReadWithin result s.now }
 {
     let head = records::read_head(s, Due::AtRecord(Kind::Frame));
     match head {

@@ -4,7 +4,7 @@ use mathlib.Core.List.{List, ◌++◌}
 use Prim.Native.Nat.{ℕ, ◌≤◌}
 use native.Mathlib.Omega.{arith}
 use lib.ListN.{length, length-append}
-use Rattle.drive_sets.specs.Refusals.{Outcome, refused, result}
+use Rattle.drive_sets.specs.Refusals.{Outcome, refused, yields}
 use Rattle.records.specs.Marks.{ascii}
 use Rattle.survivor_tables.specs.Tables.{cores, chosen, Accepted}
 use Rattle.survivor_tables.specs.Tables.Laws.{accepted_normal}
@@ -50,7 +50,7 @@ program_length s = go (read_whole s) refl
   where
     go : (o : Outcome ReadTable) → read_whole s ≡ o → length (listing_of o) ≤ max_text
     go (refused r) e = refusal_length r
-    go (result t) e =
+    go (yields t) e =
         let w = table_read_law s t (whole_table s t e).0 in
         subst (λ (l : List ℕ). length (listing t.n l) ≤ max_text) (sym w.2)
         (listing_length t.n (normal w.0) (accepted_normal t.n w.0 w.1) w.1.few_cores)

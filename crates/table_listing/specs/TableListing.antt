@@ -1,7 +1,7 @@
 -- The text of the table program: the drives, the sets of the normal table, the cores, the chosen core, and the verdicts
 -- on 2, 3 and 4. On a refusal only `refused` and its number.
 use Rattle.std.specs.Prelude.{List, ◌++◌, ℕ}
-use Rattle.drive_sets.specs.Refusals.{Outcome, refused, result}
+use Rattle.drive_sets.specs.Refusals.{Outcome, refused, yields}
 use Rattle.records.specs.Marks.{ascii}
 use Rattle.survivor_tables.specs.Tables.{cores, chosen}
 use Rattle.table_files.specs.Files.{ReadTable, read_whole}
@@ -19,7 +19,7 @@ listing n table =
 
 abbrev pub listing_of : Outcome ReadTable → List ℕ
 listing_of (refused r) = refusal_line r
-listing_of (result t) = listing t.n t.sets
+listing_of (yields t) = listing t.n t.sets
 
 -- what the table program prints for the bytes on its input
 unfoldable pub table_program : List ℕ → List ℕ

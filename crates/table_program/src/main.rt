@@ -2,6 +2,8 @@
 // else.
 //
 // Input behind the first 4096 bytes changes nothing (`table_program_prefix` in table_listing), and is left unread.
+#![tactic(auto)]
+
 use libc::{STDIN_FILENO, STDOUT_FILENO};
 use text::printing::{MAX_INPUT, MAX_TEXT};
 

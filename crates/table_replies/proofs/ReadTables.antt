@@ -13,7 +13,7 @@ use Rattle.drive_sets.specs.declared.Answer.{Answer}
 use Rattle.drive_sets.specs.declared.Answer.TheVariants.{Accepted, Refused}
 use Rattle.drive_sets.specs.declared.Refusal.{Refusal}
 use Rattle.drive_sets.specs.declared.Refusal.TheVariants.{NoRoom}
-use Rattle.drive_sets.specs.Refusals.{Outcome, refused, result, and_then, number}
+use Rattle.drive_sets.specs.Refusals.{Outcome, refused, yields, and_then, number}
 use Rattle.drive_sets.specs.Refusals.Laws.{first_result}
 use Rattle.drive_sets.specs.Lent.{fitting, buffer_after}
 use Rattle.drive_sets.specs.Lent.Laws.{has_room, no_room, written_fits, written_at_start}
@@ -38,7 +38,7 @@ rest_short s rest e = go (read_table s) refl e
   where
     go : (o : Outcome ReadTable) → read_table s ≡ o → rest ≡ rest_after (and_then o read_with_cores) s → length rest ≤ length s
     go (refused r) f g = omega (arith, ap length g)
-    go (result t) f g = let w = table_rest s f in omega (arith, ap length g, ap length w.1, length-drop w.0 s)
+    go (yields t) f g = let w = table_rest s f in omega (arith, ap length g, ap length w.1, length-drop w.0 s)
 
 drop_back : (s rest : List ℕ) (k : ℕ) → rest ≡ drop k s → drop (length s - length rest) s ≡ rest
 drop_back s rest k e =
@@ -52,12 +52,12 @@ drop_back s rest k e =
     drop_of_length-le s all ∙ sym (e ∙ drop_of_length-le s past))
 
 -- what stands behind it begins where its bytes end, as the reply counts them
-pub used_behind : (s old : List ℕ) (t : ReadTable) → fitting_table old (read_table s) ≡ result t
+pub used_behind : (s old : List ℕ) (t : ReadTable) → fitting_table old (read_table s) ≡ yields t
     → drop (table_reply s (fitting_table old (read_table s))).used s ≡ t.rest
 unfolding fitting_table
 used_behind s old t e =
-    let read = first_result (read_table s) (λ u. and_then (fitting 0 (length old) u.sets) (λ sets. result u)) e in
-    let fits = first_result (fitting 0 (length old) read.0.sets) (λ sets. result read.0) read.2 in
+    let read = first_result (read_table s) (λ u. and_then (fitting 0 (length old) u.sets) (λ sets. yields u)) e in
+    let fits = first_result (fitting 0 (length old) read.0.sets) (λ sets. yields read.0) read.2 in
     let w = table_rest s (read.1 ∙ fits.2) in
     ap (λ (o : Outcome ReadTable). drop (table_reply s o).used s) e ∙ drop_back s t.rest w.0 w.1
 
@@ -78,7 +78,7 @@ whole_held t s e = record {
   refusal = λ r h. read_refused t (read_whole s) e h;
   rest = [];
   table = λ h. let w = read_accepted t (read_whole s) e h in
-      w.1 ∙ ap₂ (λ (c : Complete) (r : List ℕ). result (record { n = c.n; sets = c.sets; rest = r })) w.2 (whole_table s _ w.1).1;
+      w.1 ∙ ap₂ (λ (c : Complete) (r : List ℕ). yields (record { n = c.n; sets = c.sets; rest = r })) w.2 (whole_table s _ w.1).1;
   took = λ h. sym (sub-zero (length s));
 }
 

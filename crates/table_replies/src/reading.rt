@@ -12,7 +12,7 @@ use survivor_tables::frames::Table;
 
 // A table that was read: how many sets it has, how many bytes it took, and its drives.
 #[repr(C)]
-#[derive(Drop)]
+#[derive(Clone, Copy)]
 pub struct TableReply {
     pub count: usize,
     pub used: usize,

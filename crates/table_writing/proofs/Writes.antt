@@ -19,7 +19,7 @@ use Rattle.records.specs.RecordLists.Written.{length_list, list_more}
 use Rattle.records.specs.Marks.Laws.{length_record}
 use Rattle.lent_bytes.proofs.Parts.{part_then}
 use Rattle.drive_sets.specs.Limits.{max_sets}
-use Rattle.drive_sets.specs.Refusals.{Outcome, result, and_then}
+use Rattle.drive_sets.specs.Refusals.{Outcome, yields, and_then}
 use Rattle.survivor_tables.specs.declared.frames.MaskKind.{MaskKind}
 use Rattle.table_files.specs.Files.{record_of, file_bytes}
 use Rattle.table_files.specs.Files.Laws.{mask_width}
@@ -112,12 +112,12 @@ module _ (kind : MaskKind) (n : ℕ) (masks : List ℕ) where
 -- ---- what is due
 
 -- at most 128 masks meet nothing
-list_written : (kind : MaskKind) (n : ℕ) (masks : List ℕ) → length masks ≤ max_sets → write_list kind n masks ≡ result (file_bytes kind n masks)
+list_written : (kind : MaskKind) (n : ℕ) (masks : List ℕ) → length masks ≤ max_sets → write_list kind n masks ≡ yields (file_bytes kind n masks)
 unfolding write_list
 list_written kind n masks few = cond_false _ _ (le-ltb max_sets (length masks) few)
 
 -- so a list that is given is written as it is
-pub list_due : (kind : MaskKind) (n : ℕ) (o : Outcome (List ℕ)) {part list : List ℕ} → part ≡ list → o ≡ result list → length list ≤ max_sets
-    → write_list kind n part ≡ and_then o (λ l. result (file_bytes kind n l))
+pub list_due : (kind : MaskKind) (n : ℕ) (o : Outcome (List ℕ)) {part list : List ℕ} → part ≡ list → o ≡ yields list → length list ≤ max_sets
+    → write_list kind n part ≡ and_then o (λ l. yields (file_bytes kind n l))
 list_due kind n o {part} {list} e given few =
-    ap (write_list kind n) e ∙ (list_written kind n list few ∙ sym (ap (λ (x : Outcome (List ℕ)). and_then x (λ l. result (file_bytes kind n l))) given))
+    ap (write_list kind n) e ∙ (list_written kind n list few ∙ sym (ap (λ (x : Outcome (List ℕ)). and_then x (λ l. yields (file_bytes kind n l))) given))

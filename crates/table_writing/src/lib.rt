@@ -1,5 +1,7 @@
 // The writer of lists of masks: FR, SV.. or FL.., EN into the part of the lent buffer from the cursor on; and of tables,
 // which writes the normal table.
+#![tactic(auto)]
+
 ghost use Rattle.std.specs.Prelude.{◌≡◌};
 ghost use Rattle.drive_sets.specs.Lent.{written};
 ghost use Rattle.table_files.specs.Files.{record_of, file_bytes};

@@ -10,7 +10,7 @@ use lib.Seq.{get_or-take}
 use borrow.Author.Tests.{lt-ltb, le-ltb}
 use Rattle.drive_sets.specs.declared.Answer.{Answer}
 use Rattle.drive_sets.specs.Limits.{max_sets}
-use Rattle.drive_sets.specs.Refusals.{Outcome, result, and_then, outcome_of}
+use Rattle.drive_sets.specs.Refusals.{Outcome, yields, and_then, outcome_of}
 use Rattle.survivor_tables.specs.Hitting.{minimals}
 use Rattle.survivor_tables.specs.Order.{by_mask}
 use Rattle.survivor_tables.specs.Order.Sort.{length_sort}
@@ -28,13 +28,13 @@ use Rattle.tables.specs.Answers.{list_outcome}
 
 module _ (n : ℕ) (sets : List ℕ) (t : TableWithCores) (e : complete_outcome t ≡ complete_table n sets) where
   -- the first core
-  pub first_core : (u : Taken n sets t e) → result (get_or t.cores 0 0) ≡ chosen_core n sets
+  pub first_core : (u : Taken n sets t e) → yields (get_or t.cores 0 0) ≡ chosen_core n sets
   unfolding chosen_core chosen
   first_core u =
       let some = some_core n (sets_of t.table) u.whole in
-      ap (λ (c : ℕ). result c)
+      ap (λ (c : ℕ). yields c)
       (sym (get_or-take t.found t.cores 0 0 (omega (arith, some, ap length u.list, length-take t.found t.cores))) ∙ ap (λ (l : List ℕ). get_or l 0 0) u.list)
-      ∙ sym (ap (λ (o : Outcome (List ℕ)). and_then o (λ table. result (chosen table))) u.table)
+      ∙ sym (ap (λ (o : Outcome (List ℕ)). and_then o (λ table. yields (chosen table))) u.table)
 
 -- ---- Back
 

@@ -4,7 +4,7 @@ use Rattle.drive_sets.specs.declared.Position.{Position}
 use Rattle.drive_sets.specs.declared.Refusal.{Refusal}
 use Rattle.drive_sets.specs.declared.Answer.TheVariants as answers
 use Rattle.drive_sets.specs.Limits.{max_sets}
-use Rattle.drive_sets.specs.Refusals.{Outcome, refused, result, number, outcome_of, Alone}
+use Rattle.drive_sets.specs.Refusals.{Outcome, refused, yields, number, outcome_of, Alone}
 use Rattle.tables.specs.declared.calls.Chosen.{Chosen}
 use Rattle.tables.specs.declared.calls.Chosen.TheVariants as chosens
 use Rattle.tables.specs.declared.calls.MissedSet.{MissedSet}
@@ -12,11 +12,11 @@ use Rattle.tables.specs.declared.calls.MissedSet.TheVariants as misses
 use Rattle.tables.specs.declared.calls.SetList.{SetList}
 
 abbrev pub chosen_outcome : Chosen → Outcome ℕ
-chosen_outcome (chosens.Core c) = result c
+chosen_outcome (chosens.Core c) = yields c
 chosen_outcome (chosens.Refused r) = refused (number r)
 
 abbrev pub missed_outcome : MissedSet → Outcome Position
-missed_outcome (misses.First p) = result p
+missed_outcome (misses.First p) = yields p
 missed_outcome (misses.Refused r) = refused (number r)
 
 unfoldable pub list_outcome : SetList → Outcome (List ℕ)

@@ -12,20 +12,20 @@ use survivor_tables::frames::{is_frame, is_set};
 use survivor_tables::missed::first_missed;
 use survivor_tables::{MAX_CORES, MAX_SETS};
 
-#[derive(Drop)]
+#[derive(Clone, Copy)]
 pub enum Chosen {
     Core(u64),
     Refused(Refusal),
 }
 
-#[derive(Drop)]
+#[derive(Clone, Copy)]
 pub enum MissedSet {
     First(Position),
     Refused(Refusal),
 }
 
 // Sets found, the first `count` of the array, where the call is accepted.
-#[derive(Drop)]
+#[derive(Clone, Copy)]
 pub struct SetList {
     pub answer: Answer,
     pub count: usize,
@@ -68,7 +68,7 @@ pub fn missed_set(n: u8, sets: &[u64], group: u64) -> MissedSet
 
 // The answer that is this refusal, and nothing else.
 pub fn no_list(r: Refusal) -> SetList
-    ensures result_value { list_outcome result ≡ refused (number r) }
+    ensures value { list_outcome result ≡ refused (number r) }
     ensures within { ListWithin result }
 {
     SetList {
@@ -94,7 +94,7 @@ fn all_sets(n: u8, sets: &[u64]) -> bool
 
 // Back: the smallest groups that meet each of the groups. 3, 13, 4, 5.
 pub fn survivor_sets(n: u8, groups: &[u64]) -> SetList
-    ensures result_value { list_outcome result ≡ survivor_sets n groups.now }
+    ensures value { list_outcome result ≡ survivor_sets n groups.now }
     ensures within { ListWithin result }
 {
     if !is_frame(n) {

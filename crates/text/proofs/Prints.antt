@@ -13,7 +13,7 @@ use borrow.Rule.Slice.PartMut.{put_mid}
 use Rattle.drive_sets.specs.Bools.Laws.{cond_true}
 use Rattle.drive_sets.specs.Filled.{Filled}
 use Rattle.drive_sets.specs.Filled.Laws.{filled_same}
-use Rattle.drive_sets.specs.Refusals.{Outcome, refused, result}
+use Rattle.drive_sets.specs.Refusals.{Outcome, refused, yields}
 use Rattle.drive_sets.specs.Refusals.Laws.{refused_no_result, same_refused, same_result}
 use Rattle.lent_bytes.specs.declared.Writing.{Writing}
 use Rattle.lent_bytes.specs.declared.Writing.TheVariants as writings
@@ -58,7 +58,7 @@ counted buf w r e = ((omega arith, omega (arith, length-take r buf)), e)
 pub answer_printed : (o : Outcome (List ℕ)) {old mid new : List ℕ} {w : Writing} {count : ℕ} → length (printed o) ≤ length old → length mid ≡ length old
     → WrittenIfRoom o 0 old mid w → AnswerPut w mid new count → Filled old new 0 count (printed o)
 answer_printed (refused r) {w = writings.Wrote size} fits long put left = absurd (refused_no_result (sym put.answer))
-answer_printed (result file) {old} {w = writings.Wrote size} {count} fits long put left =
+answer_printed (yields file) {old} {w = writings.Wrote size} {count} fits long put left =
     let room : 0 + length file ≤ length old = omega (arith, fits) in
     let roomy = has_room 0 (length old) file room in
     let many = sym (left.1 ∙ same_result (put.answer ∙ ap size_written roomy)) in record {
@@ -67,6 +67,6 @@ answer_printed (result file) {old} {w = writings.Wrote size} {count} fits long p
     }
 answer_printed (refused r) {w = writings.Refused q} fits long put line =
     filled_same (ap refusal_line (same_refused (sym put.answer))) (record { total = omega (arith, line.total, long); kept = λ k. line.kept (omega (arith, long)) })
-answer_printed (result file) {old} {w = writings.Refused q} fits long put line =
+answer_printed (yields file) {old} {w = writings.Refused q} fits long put line =
     let room : 0 + length file ≤ length old = omega (arith, fits) in
     absurd (refused_no_result (put.answer ∙ ap size_written (has_room 0 (length old) file room)))

@@ -2,7 +2,7 @@
 -- of a file.
 use Rattle.std.specs.Prelude.{◌≡◌, List, ℕ}
 use Rattle.drive_sets.specs.Filled.{Filled}
-use Rattle.drive_sets.specs.Refusals.{Outcome, refused, result, number}
+use Rattle.drive_sets.specs.Refusals.{Outcome, refused, yields, number}
 use Rattle.lent_bytes.specs.declared.Writing.{Writing}
 use Rattle.lent_bytes.specs.declared.Writing.TheVariants as writings
 use Rattle.lent_bytes.specs.LentBuffers.{WrittenIfRoom}
@@ -10,7 +10,7 @@ use Rattle.text.specs.Text.{refusal_line}
 
 -- the answer and the lent bytes: only the text's own bytes change, and on a refusal none
 abbrev pub Printed : List ℕ → ℕ → List ℕ → List ℕ → Writing → Type 0
-Printed text start old new r = WrittenIfRoom (result text) start old new r
+Printed text start old new r = WrittenIfRoom (yields text) start old new r
 
 -- how many bytes an answer says were written: none on a refusal
 abbrev pub bytes_in : Writing → ℕ
@@ -26,4 +26,4 @@ AnswerPut (writings.Refused r) old new count = Filled old new 0 count (refusal_l
 -- what a program prints that writes a file: the file, or the line of a refusal
 abbrev pub printed : Outcome (List ℕ) → List ℕ
 printed (refused r) = refusal_line r
-printed (result file) = file
+printed (yields file) = file

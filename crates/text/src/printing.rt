@@ -26,7 +26,7 @@ pub fn print(text: &[u8], out: &mut [u8], start: usize) -> Writing
 
 // How many bytes of the buffer an answer says were written.
 pub fn written(w: Writing, buf: &[u8]) -> usize
-    ensures upper_bound { (result ≤ length buf.now) × (result ≡ length (take result buf.now)) }
+    ensures bounds { (result ≤ length buf.now) × (result ≡ length (take result buf.now)) }
     ensures value { result ≡ min (bytes_in w) (length buf.now) }
 {
     match w {

@@ -3,7 +3,7 @@ use Rattle.std.specs.Prelude.{not, List, ℕ, ◌+◌, ◌-◌, ◌^◌, ◌≤�
 use Rattle.drive_sets.specs.declared.Refusal.TheVariants.{FrameSize, Threshold, TooManyGroups}
 use Rattle.drive_sets.specs.Limits.{max_sets}
 use Rattle.drive_sets.specs.Masks.{outside, size}
-use Rattle.drive_sets.specs.Refusals.{Outcome, result, refuse_if, and_then}
+use Rattle.drive_sets.specs.Refusals.{Outcome, yields, refuse_if, and_then}
 use Rattle.survivor_tables.specs.Order.{sort}
 use Rattle.survivor_tables.specs.Tables.{is_frame, core_order}
 use Rattle.complete_tables.specs.Complete.{Complete, complete_table}
@@ -31,7 +31,7 @@ threshold_table n t =
 
 -- its sets alone
 unfoldable pub threshold_list : ℕ → ℕ → Outcome (List ℕ)
-threshold_list n t = and_then (threshold_table n t) (λ table. result table.sets)
+threshold_list n t = and_then (threshold_table n t) (λ table. yields table.sets)
 
 -- its cores (`threshold_cores_law`): all groups of t + 1 drives, in the order of cores
 unfoldable pub threshold_cores : ℕ → ℕ → List ℕ

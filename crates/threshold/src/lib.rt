@@ -1,4 +1,6 @@
 // A table from n and t, for a frame of which it is known only that at most t of its n drives drop out.
+#![tactic(auto)]
+
 ghost use Rattle.std.specs.Prelude.{◌≡◌};
 ghost use Rattle.tables.specs.Answers.{list_outcome, ListWithin};
 ghost use Rattle.complete_tables.specs.Complete.{complete_outcome, CompleteWithin};
@@ -19,7 +21,7 @@ mod groups;
 // The survivor sets: all groups of n - t drives. 3, 31, 32, 13: the constant table tells the last two, so that nothing
 // is listed to refuse.
 pub fn threshold_sets(n: u8, t: u8) -> SetList
-    ensures result_value { list_outcome result ≡ threshold_list n t }
+    ensures value { list_outcome result ≡ threshold_list n t }
     ensures within { ListWithin result }
 {
     if !is_frame(n) {
@@ -45,7 +47,7 @@ pub fn threshold_sets(n: u8, t: u8) -> SetList
 
 // The table of these sets with its cores, which are all groups of t + 1 drives, in the cores' order.
 pub fn threshold_table(n: u8, t: u8) -> TableWithCores
-    ensures result_value { complete_outcome result ≡ threshold_table n t }
+    ensures value { complete_outcome result ≡ threshold_table n t }
     ensures within { CompleteWithin result }
 {
     let made = threshold_sets(n, t);

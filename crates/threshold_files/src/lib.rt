@@ -1,5 +1,7 @@
 // The threshold program as a function: from n and t on the input, one byte each, to the bytes that are printed, in a
 // lent buffer.
+#![tactic(auto)]
+
 ghost use Rattle.std.specs.Prelude.{◌≤◌, length};
 ghost use Rattle.drive_sets.specs.Filled.{Filled};
 ghost use Rattle.drive_sets.specs.Limits.{max_text};

@@ -2,6 +2,8 @@
 // of n - t drives, or the line of a refusal, and nothing else.
 //
 // A third byte is refused; what stands behind it is left unread.
+#![tactic(auto)]
+
 use libc::{STDIN_FILENO, STDOUT_FILENO};
 use text::printing::MAX_TEXT;
 

@@ -3,6 +3,8 @@
 //
 // An input is: one byte, 0 for the table program, 1 for the run program, 2 for the threshold program and 3 for the
 // convert program; its length, 2 bytes, lowest first; its bytes.
+#![tactic(auto)]
+
 ghost use Rattle.std.specs.Prelude.{◌≤◌};
 
 use lent_bytes::Writing;

@@ -4,7 +4,7 @@ use mathlib.Core.List.{List, ◌++◌}
 use Prim.Native.Nat.{ℕ, ◌≤◌}
 use native.Mathlib.Omega.{arith}
 use lib.ListN.{length, length-append}
-use Rattle.drive_sets.specs.Refusals.{Outcome, refused, result}
+use Rattle.drive_sets.specs.Refusals.{Outcome, refused, yields}
 use Rattle.records.specs.Marks.{ascii}
 use Rattle.verdict_search.specs.Verdicts.{Verdict, yes, no}
 use Rattle.verdicts.specs.Calls.{verdict_given}
@@ -45,7 +45,7 @@ line_length k n table =
   where
     part : (o : Outcome Verdict) → verdict_given k n table ≡ o → length (answer_part o) ≤ 184
     part (refused r) e = omega arith
-    part (result v) e = part_length v (λ ps blocks f. given_counts k n table (e ∙ ap (λ (x : Verdict). result x) f))
+    part (yields v) e = part_length v (λ ps blocks f. given_counts k n table (e ∙ ap (λ (x : Verdict). yields x) f))
 
 pub verdict_lines_length : (n : ℕ) (table : List ℕ) → length (verdict_lines n table) ≤ 618
 unfolding verdict_lines

@@ -2,7 +2,7 @@
 -- number and `few`, (..)". Such a frame is refused with 33, and an accepted table with nothing else (Laws: `few_line`,
 -- `more_line`).
 use Rattle.std.specs.Prelude.{List, ◌++◌, ℕ}
-use Rattle.drive_sets.specs.Refusals.{Outcome, refused, result}
+use Rattle.drive_sets.specs.Refusals.{Outcome, refused, yields}
 use Rattle.records.specs.Marks.{ascii}
 use Rattle.verdict_search.specs.Verdicts.{Verdict, yes, no}
 use Rattle.verdicts.specs.Calls.{verdict_given}
@@ -21,7 +21,7 @@ verdict_part (no positions blocks) = no_part positions blocks
 -- what a call says, to the line's end
 abbrev pub answer_part : Outcome Verdict → List ℕ
 answer_part (refused r) = ascii " few\n"
-answer_part (result v) = verdict_part v
+answer_part (yields v) = verdict_part v
 
 unfoldable pub verdict_line : ℕ → Outcome Verdict → List ℕ
 verdict_line k o = named (ascii "k") Decimal k ++ answer_part o

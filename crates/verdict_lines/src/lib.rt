@@ -1,4 +1,6 @@
 // The lines of the verdicts on 2, 3 and 4 as text: yes, no with its positions and blocks, or few.
+#![tactic(auto)]
+
 ghost use Rattle.std.specs.Prelude.{◌≡◌, ◌≤◌};
 ghost use Rattle.drive_sets.specs.Filled.{Filled};
 ghost use Rattle.verdict_search.specs.Held.{verdict_of};

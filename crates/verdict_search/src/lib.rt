@@ -1,5 +1,7 @@
 // The verdict on k: whether any k sets of a normal table, repeats allowed, share a drive (k-Intersection), and for a no
 // the first positions whose sets share none, with the blocks of a split of which none is empty or holds a core.
+#![tactic(auto)]
+
 ghost use Rattle.std.specs.Prelude.{◌≡◌, true, ◌&&◌, ℕ, suc, ◌≤◌, leb, length, take, drop};
 ghost use Rattle.std.proofs.Math.Option.{none};
 ghost use Rattle.drive_sets.specs.Lists.{elem};
@@ -36,7 +38,7 @@ pub fn is_block_count(k: u8) -> bool
 
 // Yes: `shared`, and zeros. No: the first k positions of sets that share no drive, and the k blocks, with zeros behind
 // them.
-#[derive(Drop)]
+#[derive(Clone, Copy)]
 pub struct Verdict {
     pub shared: bool,
     pub positions: [u8; 4],
@@ -55,7 +57,7 @@ pub fn no_verdict() -> Verdict
 }
 
 // Positions of sets that have no drive in common, where there are some.
-#[derive(Drop)]
+#[derive(Clone, Copy)]
 struct Named {
     any: bool,
     positions: [u8; 4],

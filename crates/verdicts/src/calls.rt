@@ -11,7 +11,7 @@ use survivor_tables::frames::MaskKind;
 use verdict_search::{Verdict, find_verdict, is_block_count, no_verdict};
 
 // A verdict where the call is accepted.
-#[derive(Drop)]
+#[derive(Clone, Copy)]
 pub struct Judgement {
     pub answer: Answer,
     pub verdict: Verdict,

@@ -1,2 +1,4 @@
 // The verdict on k as the answer of a call.
+#![tactic(auto)]
+
 pub mod calls;

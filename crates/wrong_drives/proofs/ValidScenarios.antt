@@ -6,7 +6,7 @@ use Prim.Native.Nat.{ℕ, zero, suc, ◌-◌, ◌≤◌, ◌<◌}
 use native.Mathlib.Omega.{arith}
 use Rattle.drive_sets.specs.Lists.{elem}
 use Rattle.drive_sets.specs.Masks.{has, size}
-use Rattle.drive_sets.specs.Refusals.{result}
+use Rattle.drive_sets.specs.Refusals.{yields}
 use Rattle.survivor_tables.specs.Order.{normal}
 use Rattle.survivor_tables.specs.Tables.{chosen, normal_table}
 use Rattle.drive_sets.specs.Counts.{is_drive}
@@ -52,7 +52,7 @@ first_stays sends (suc zero) h = refl
 first_stays sends (suc (suc zero)) h = absurd (false≢true h)
 first_stays sends (suc (suc (suc d))) h = refl
 
-module _ (n sends : ℕ) (accepted : normal_table n (1 ∷ 2 ∷ []) ≡ result (normal (1 ∷ 2 ∷ []))) (drive : is_drive n 2 ≡ true) (few : sends ≤ n - 1) where
+module _ (n sends : ℕ) (accepted : normal_table n (1 ∷ 2 ∷ []) ≡ yields (normal (1 ∷ 2 ∷ []))) (drive : is_drive n 2 ≡ true) (few : sends ≤ n - 1) where
   abbrev gone : Scenario
   gone = two_sets n (second_gone sends)
 

@@ -3,7 +3,7 @@ use Rattle.std.specs.Prelude.{Bool, true, not, ◌&&◌, cond, List, ◌++◌, �
 use Rattle.drive_sets.specs.declared.Refusal.TheVariants.{BrokenState, NoRoom}
 use Rattle.drive_sets.specs.Lists.{filter}
 use Rattle.drive_sets.specs.Masks.{has}
-use Rattle.drive_sets.specs.Refusals.{Outcome, refused, result, and_then, number}
+use Rattle.drive_sets.specs.Refusals.{Outcome, refused, yields, and_then, number}
 use Rattle.drive_states.specs.declared.Exchange.{Exchange}
 use Rattle.drive_states.specs.declared.Decision.{Decision}
 use Rattle.drive_states.specs.declared.Decision.TheVariants.{Decided}
@@ -32,7 +32,7 @@ with x decision halted round = record {
 
 -- (a) at every close it decides its own number, whatever it was told
 unfoldable pub decide_own : Exchange → Outcome Exchange
-decide_own x = and_then (closing x) (λ y. result (with y (Decided (record { 0 = number_of x x.own.0 })) y.halted y.round.0))
+decide_own x = and_then (closing x) (λ y. yields (with y (Decided (record { 0 = number_of x x.own.0 })) y.halted y.round.0))
 
 abbrev pub own_number : Protocol
 own_number = record { opening = opening; sending = sending; receiving = receiving; closing = decide_own; reach = reach }
@@ -42,14 +42,14 @@ abbrev pub own_at_once : Protocol
 own_at_once = record {
   opening = opening;
   sending = sending;
-  receiving = λ x bytes. result x;
-  closing = λ x. result (with x (Decided (record { 0 = number_of x x.own.0 })) true 1);
+  receiving = λ x bytes. yields x;
+  closing = λ x. yields (with x (Decided (record { 0 = number_of x x.own.0 })) true 1);
   reach = reach;
 }
 
 -- (b) it has halted when it is opened
 unfoldable pub open_halted : ℕ → List ℕ → ℕ → ℕ → Outcome Exchange
-open_halted n sets own number = and_then (opening n sets own number) (λ x. result (with x x.decision true x.round.0))
+open_halted n sets own number = and_then (opening n sets own number) (λ x. yields (with x x.decision true x.round.0))
 
 abbrev pub halts_at_once : Protocol
 halts_at_once = record { opening = open_halted; sending = sending; receiving = receiving; closing = closing; reach = reach }
@@ -69,7 +69,7 @@ core_last = record {
 
 -- (d) it accepts every message and hands its state back
 abbrev pub hears_nothing : Protocol
-hears_nothing = record { opening = opening; sending = sending; receiving = λ x bytes. result x; closing = closing; reach = reach }
+hears_nothing = record { opening = opening; sending = sending; receiving = λ x bytes. yields x; closing = closing; reach = reach }
 
 -- (e) it refuses every call
 abbrev pub refuses_all : Protocol
@@ -83,21 +83,21 @@ refuses_all = record {
 
 -- (f) it closes round 1 as it should, and then only counts the rounds
 unfoldable pub close_first : Exchange → Outcome Exchange
-close_first x = cond (eqb x.round.0 1) (closing x) (result (with x x.decision x.halted (x.round.0 + 1)))
+close_first x = cond (eqb x.round.0 1) (closing x) (yields (with x x.decision x.halted (x.round.0 + 1)))
 
 abbrev pub first_round_only : Protocol
 first_round_only = record { opening = opening; sending = sending; receiving = receiving; closing = close_first; reach = reach }
 
 -- (g) after a close it reports a round further than the one that it closed
 unfoldable pub close_two : Exchange → Outcome Exchange
-close_two x = and_then (closing x) (λ y. result (with y y.decision y.halted (y.round.0 + 1)))
+close_two x = and_then (closing x) (λ y. yields (with y y.decision y.halted (y.round.0 + 1)))
 
 abbrev pub skips_rounds : Protocol
 skips_rounds = record { opening = opening; sending = sending; receiving = receiving; closing = close_two; reach = reach }
 
 -- (h) a close hands its state back
 abbrev pub never_closes : Protocol
-never_closes = record { opening = opening; sending = sending; receiving = receiving; closing = λ x. result x; reach = reach }
+never_closes = record { opening = opening; sending = sending; receiving = receiving; closing = λ x. yields x; reach = reach }
 
 -- it opens, never has room for a send, and takes nothing in
 abbrev pub never_room : Protocol

@@ -14,7 +14,7 @@ use Rattle.drive_sets.specs.Bools.Laws.{clash, by_test, false_of, and_intro, and
 use Rattle.drive_sets.specs.Lists.{elem}
 use Rattle.drive_sets.specs.Lists.Laws.{all_elem}
 use Rattle.drive_sets.specs.Masks.{has, size}
-use Rattle.drive_sets.specs.Refusals.{result}
+use Rattle.drive_sets.specs.Refusals.{yields}
 use Rattle.drive_states.specs.declared.Exchange.{Exchange}
 use Rattle.agreement.specs.Calls.{receiving, next, closing}
 use Rattle.agreement.specs.Sends.{reach}
@@ -68,7 +68,7 @@ module _ {s : Scenario} (ok : Valid s) {k : ℕ} (round : k < size (core_of s)) 
     not_closed_yet =
         false_of (b.closed d) (λ h. clash ((g.closed d h).own_sent by_sender.in_core_law) (search (and_left, and_right, not-true)))
 
-    gave : sending_of (w d) room start ≡ result (message_of (instance_of s) k d)
+    gave : sending_of (w d) room start ≡ yields (message_of (instance_of s) k d)
     unfolding anyRuns.due anyRuns.sending_of lacks_room
     gave =
         let message = message_of (instance_of s) k d in

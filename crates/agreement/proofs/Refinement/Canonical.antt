@@ -13,7 +13,7 @@ use Rattle.drive_sets.specs.Lists.{any, elem, distinct}
 use Rattle.drive_sets.specs.Lists.Laws.{elem_head, elem_tail, elem_none, all_intro}
 use Rattle.drive_sets.specs.Lists.Distinct.{distinct_head, distinct_tail}
 use Rattle.drive_sets.specs.Masks.{size}
-use Rattle.drive_sets.specs.Refusals.{result}
+use Rattle.drive_sets.specs.Refusals.{yields}
 use Rattle.drive_sets.specs.Counts.Laws.{is_drive_range}
 use Rattle.sync_crash.specs.Rounds.Steps.{sender_active}
 use Rattle.runs.specs.World.{Call, opens, drive_of, World, nothing_open}
@@ -68,7 +68,7 @@ module _ {s : Scenario} (ok : Valid s) where
 
 module _ {s : Scenario} (ok : Valid s) where
   writes_message : {k : ℕ} {w : World} → k < size (core_of s) → Begins s k w → (d : ℕ) → sender s (suc k) w d ≡ true
-      → sending_of (w d) room 0 ≡ result (message_of (instance_of s) k d)
+      → sending_of (w d) room 0 ≡ yields (message_of (instance_of s) k d)
   unfolding anyRuns.sending_of
   writes_message {k} {w} round begins d t =
       let by = true_sender ok round begins d t in

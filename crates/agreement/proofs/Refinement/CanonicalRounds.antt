@@ -14,7 +14,7 @@ use Rattle.drive_sets.specs.Lists.{filter, all, any, elem, ordered, distinct}
 use Rattle.drive_sets.specs.Lists.Laws.{elem_head, elem_tail, elem_cases, elem_filter, elem_none, all_elem, all_intro, any_intro, ordered_filter}
 use Rattle.drive_sets.specs.Lists.Takes.{first_kept_least}
 use Rattle.drive_sets.specs.Lists.Distinct.{distinct_head, distinct_tail}
-use Rattle.drive_sets.specs.Refusals.{result}
+use Rattle.drive_sets.specs.Refusals.{yields}
 use Rattle.runs.specs.World.{Call, sends, delivers, closes, World}
 use Rattle.runs.specs.World as worlds
 use Rattle.agreement.specs.Document01.{apply, sending_of, undelivered, arrived, due, noted, round_part}
@@ -77,9 +77,9 @@ module _ (s : Scenario) (r : ℕ) (w₀ : World) where
 
     -- each sender's call writes its message
     abbrev Writes : World → Type 0
-    Writes w = (d : ℕ) → sender s r w₀ d ≡ true → sending_of (w d) room 0 ≡ result (written d)
+    Writes w = (d : ℕ) → sender s r w₀ d ≡ true → sending_of (w d) room 0 ≡ yields (written d)
 
-    sent_now : (a : ℕ) (w : World) → sending_of (w a) room 0 ≡ result (written a) → (p : ℕ → Bool) (x : ℕ)
+    sent_now : (a : ℕ) (w : World) → sending_of (w a) room 0 ≡ yields (written a) → (p : ℕ → Bool) (x : ℕ)
         → cond (eqb x a) (sent_by (sending_of (w a) room 0)) (cond (p x) (wrote (written x)) pending) ≡ cond (eqb x a || p x) (wrote (written x)) pending
     unfolding sent_by
     sent_now a w q p x = by_test (eqb x a) (λ e. rw (e, eqb-true x a e, q) refl) (λ e. rw e refl)

@@ -12,7 +12,7 @@ use Rattle.drive_sets.specs.Lists.Laws.{all_elem}
 use Rattle.drive_sets.specs.Lists.{range}
 use Rattle.drive_sets.specs.Masks.{has, single}
 use Rattle.drive_sets.specs.Masks.Tests.{set_of, set_of_none, set_of_single}
-use Rattle.drive_sets.specs.Refusals.{result}
+use Rattle.drive_sets.specs.Refusals.{yields}
 use Rattle.survivor_tables.specs.Order.{normal}
 use Rattle.drive_states.specs.declared.Decision.TheVariants.{Undecided}
 use Rattle.drive_states.specs.State.{pattern}
@@ -75,10 +75,10 @@ module _ {s : Scenario} (ok : Valid s) where
       halted = false;
     }
 
-    opening_state : opening s.n s.sets e (s.proposal e) ≡ result (state_of (instance_of s) 0 e (λ d. false))
+    opening_state : opening s.n s.sets e (s.proposal e) ≡ yields (state_of (instance_of s) 0 e (λ d. false))
     unfolding core_of
     opening_state =
-        opening_accepted s.n s.sets (normal s.sets) e (s.proposal e) ok.accepted (is_drive_range s.n e ∙ f) ∙ ap result initial_state
+        opening_accepted s.n s.sets (normal s.sets) e (s.proposal e) ok.accepted (is_drive_range s.n e ∙ f) ∙ ap yields initial_state
 
   -- ---- the part
 

@@ -16,7 +16,7 @@ use Rattle.drive_sets.specs.Lists.Smallest.{smallest_same}
 use Rattle.drive_sets.specs.Masks.{size, drives}
 use Rattle.drive_sets.specs.Masks.Sizes.{elem_drives}
 use Rattle.drive_sets.specs.Masks.Tests.{set_of, set_of_lt, set_of_none, insert_set_of, drives_set_of, set_of_some, set_of_equal}
-use Rattle.drive_sets.specs.Refusals.{result}
+use Rattle.drive_sets.specs.Refusals.{yields}
 use Rattle.drive_states.specs.declared.Exchange.{Exchange}
 use Rattle.drive_states.specs.declared.Announcement.TheVariants.{Absent}
 use Rattle.drive_states.specs.State.{number_of, is_decided}
@@ -112,7 +112,7 @@ module _ {S : Instance} (L : Lawful S) (B : Bounded S) {k e : ℕ} (round : k < 
 
   -- ---- the call
 
-  pub closing_state : closing x ≡ result (next x)
+  pub closing_state : closing x ≡ yields (next x)
   closing_state = closing_accepted x (state_unbroken L B closing_round) (state_running L B closing_round)
 
   pub next_state : halted S (suc k) e ≡ false → suc k < size (set_of core) → next x ≡ state_of S (suc k) e (λ d. false)

@@ -16,7 +16,7 @@ use Rattle.drive_sets.specs.Masks.{has, union, subset, drives}
 use Rattle.drive_sets.specs.Masks.Laws.{union_none, none_subset}
 use Rattle.drive_sets.specs.Masks.Sizes.{size_le, elem_drives}
 use Rattle.drive_sets.specs.Masks.Tests.{set_of, set_of_lt, union_set_of, insert_set_of, subset_set_of}
-use Rattle.drive_sets.specs.Refusals.{result}
+use Rattle.drive_sets.specs.Refusals.{yields}
 use Rattle.drive_states.specs.declared.Exchange.{Exchange}
 use Rattle.drive_sets.specs.Limits.{pattern_limit}
 use Rattle.drive_sets.specs.Counts.Laws.{is_drive_range}
@@ -87,7 +87,7 @@ module _ {S : Instance} (L : Lawful S) (B : Bounded S) {k e : ℕ} {from : ℕ �
     halted = false;
   }
 
-  received : {c : Content} → Tells c → receiving x (message_bytes (message d (suc k) c)) ≡ result (state_of S k e with_d)
+  received : {c : Content} → Tells c → receiving x (message_bytes (message d (suc k) c)) ≡ yields (state_of S k e with_d)
   unfolding state_of outside_core
   received {c} t =
       receiving_accepted x (state_unbroken L B i) (state_running L B i) (message_bytes (message d (suc k) c)) (message d (suc k) c)
@@ -99,7 +99,7 @@ module _ {S : Instance} (L : Lawful S) (B : Bounded S) {k e : ℕ} {from : ℕ �
         heard = has_core_set L B from i.from_core d ∙ m.new;
         same = t.same;
       })
-      ∙ ap result (accepted_is t)
+      ∙ ap yields (accepted_is t)
 
   -- ---- what is announced, at the sender and at the others
 
@@ -171,6 +171,6 @@ module _ {S : Instance} (L : Lawful S) (B : Bounded S) {k e : ℕ} {from : ℕ �
           (range 1 n) (ordered_range 1 n) sender_in_frame;
     }
 
-  pub receiving_state : receiving x (message_of S k d) ≡ result (state_of S k e with_d)
+  pub receiving_state : receiving x (message_of S k d) ≡ yields (state_of S k e with_d)
   unfolding value_of content_in
   receiving_state = by_option (decision S k d) (λ o. rw o (received (tells_known o))) (λ v o. rw o (received (tells_decided o)))

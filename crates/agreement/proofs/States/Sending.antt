@@ -8,7 +8,7 @@ use native.Mathlib.Omega.{arith}
 use lib.ListN.{length}
 use Rattle.drive_sets.specs.declared.Refusal.TheVariants.{NoRoom}
 use Rattle.drive_sets.specs.Masks.Tests.{set_of, set_of_lt}
-use Rattle.drive_sets.specs.Refusals.{refused, result, number}
+use Rattle.drive_sets.specs.Refusals.{refused, yields, number}
 use Rattle.drive_states.specs.State.{number_of}
 use Rattle.records.specs.Marks.{wide}
 use Rattle.drive_states.specs.Messages.{Content, decided, Message, known_of, message_bytes, longest_message}
@@ -47,11 +47,11 @@ module _ {S : Instance} (L : Lawful S) (B : Bounded S) {k e : ℕ} {from : ℕ �
   outgoing_is = ap (λ (c : Content). record { sender = e; round = suc k; content = c }) (outgoing_by (decision S k e))
 
   module _ (in_core_law : core e ≡ true) (room start : ℕ) where
-    pub sending_state : start + length (message_of S k e) ≤ room → sending (state_of S k e from) room start ≡ result (message_of S k e)
+    pub sending_state : start + length (message_of S k e) ≤ room → sending (state_of S k e from) room start ≡ yields (message_of S k e)
     sending_state fits =
         sending_accepted (state_of S k e from) (state_unbroken L B i) (state_running L B i) room start (state_in_core L B i ∙ in_core_law)
         (rw outgoing_is fits)
-        ∙ ap (λ (m : Message). result (message_bytes m)) outgoing_is
+        ∙ ap (λ (m : Message). yields (message_bytes m)) outgoing_is
 
     pub sending_no_room : room < start + length (message_of S k e) → sending (state_of S k e from) room start ≡ refused (number NoRoom)
     sending_no_room crowded =

@@ -4,7 +4,7 @@ use Rattle.std.specs.Prelude.{◌≡◌, refl, true, false, List, ℕ, length}
 use Rattle.std.proofs.Math.Path.{sym, ap}
 use Rattle.std.proofs.Common.{◌∙◌}
 use Rattle.drive_sets.specs.Bools.Laws.{clash}
-use Rattle.drive_sets.specs.Refusals.{Outcome, refused, result}
+use Rattle.drive_sets.specs.Refusals.{Outcome, refused, yields}
 use Rattle.drive_sets.specs.Lent.{size_written, buffer_after}
 use Rattle.drive_states.specs.declared.Exchange.{Exchange}
 use Rattle.drive_states.specs.declared.Decision.TheVariants.{Decided}
@@ -33,7 +33,7 @@ use Rattle.controller.specs.Controllers.{handed_back, refusal_to, Store, kept_fr
 
 answered_state : (x : Exchange) (o : Outcome Exchange) → (answered (state_of x) o).state ≡ state_of (state_after x o)
 answered_state x (refused r) = refl
-answered_state x (result y) = refl
+answered_state x (yields y) = refl
 
 called_state : (call : Exchange → Outcome Exchange) (x : Exchange) → (answered (state_of x) (call (exchange_of (state_of x)))).state ≡ state_of (state_after x (call x))
 called_state call x = ap (λ (y : Exchange). (answered (state_of x) (call y)).state) (there_and_back x) ∙ answered_state x (call x)
@@ -47,7 +47,7 @@ handed_back_law x (delivers d bytes) = called_state (λ y. receiving y bytes) x
 handed_back_law x (closes d) = called_state closing x
 
 -- an accepted opening hands back its result, whatever it is handed
-opened_fresh : (s : State) (d n : ℕ) (sets : List ℕ) (own number : ℕ) (y : Exchange) → opening n sets own number ≡ result y
+opened_fresh : (s : State) (d n : ℕ) (sets : List ℕ) (own number : ℕ) (y : Exchange) → opening n sets own number ≡ yields y
     → handed_back s (opens d n sets own number) ≡ state_of y
 unfolding handed_back open_reply
 opened_fresh s d n sets own number y e = ap (λ (o : Outcome Exchange). (answered s o).state) e

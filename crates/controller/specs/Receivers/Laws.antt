@@ -7,7 +7,7 @@ use Rattle.drive_sets.specs.Counts.{is_drive}
 use Rattle.drive_sets.specs.Lists.{range}
 use Rattle.drive_sets.specs.Lent.Laws.{fitting_numbered}
 use Rattle.drive_sets.specs.Masks.{has}
-use Rattle.drive_sets.specs.Refusals.{result}
+use Rattle.drive_sets.specs.Refusals.{yields}
 use Rattle.drive_sets.specs.Refusals.Laws.{same_result, passed, first_result}
 use Rattle.drive_sets.specs.Refusals.Numbered.{Numbered, if_numbered}
 use Rattle.survivor_tables.specs.Tables.{chosen, normal_table}
@@ -22,7 +22,7 @@ use Rattle.controller.specs.Receivers.{list_in, send_list}
 
 -- ---- the scenario's list
 
-pub opened_list : (s : Scenario) (own number : ℕ) {x : Exchange} → opening s.n s.sets own number ≡ result x → list_in x ≡ list_of s own
+pub opened_list : (s : Scenario) (own number : ℕ) {x : Exchange} → opening s.n s.sets own number ≡ yields x → list_in x ≡ list_of s own
 unfolding opening initial list_of frame core_of
 opened_list s own number e =
     let first = first_result (normal_table s.n s.sets) _ e in
@@ -30,7 +30,7 @@ opened_list s own number e =
     let given = same_result (passed (not (is_drive s.n own)) DriveNumber _ first.2).1 in
     sym (ap list_in given) ∙ ap (λ (t : List ℕ). receivers (range 1 s.n) (chosen t) own) table.1
 
-pub received_list : (x : Exchange) (bytes : List ℕ) {y : Exchange} → receiving x bytes ≡ result y → list_in y ≡ list_in x
+pub received_list : (x : Exchange) (bytes : List ℕ) {y : Exchange} → receiving x bytes ≡ yields y → list_in y ≡ list_in x
 unfolding receiving admitting accept
 received_list x bytes e =
     let awake = (passed x.halted Halted _ (passed (broken x) BrokenState _ e).1).1 in
@@ -42,7 +42,7 @@ received_list x bytes e =
     let fresh = (passed (has m.sender x.heard) AlreadyAccepted _ there).1 in
     sym (ap list_in (same_result (passed (any_differs x (entries_in m.content)) PatternDiffers _ fresh).1))
 
-pub closed_list : (x : Exchange) {y : Exchange} → closing x ≡ result y → list_in y ≡ list_in x
+pub closed_list : (x : Exchange) {y : Exchange} → closing x ≡ yields y → list_in y ≡ list_in x
 unfolding closing next
 closed_list x e = sym (ap list_in (same_result (passed x.halted Halted _ (passed (broken x) BrokenState _ e).1).1))
 

@@ -3,7 +3,7 @@ use Rattle.std.specs.Prelude.{◌≡◌, refl, true, not, List, ℕ, ◌≤◌, 
 use Rattle.std.proofs.Common.{arith, leb-true, ne_eqb}
 use Rattle.drive_sets.specs.Counts.{is_drive}
 use Rattle.drive_sets.specs.Masks.{has}
-use Rattle.drive_sets.specs.Refusals.{Outcome, refused, result}
+use Rattle.drive_sets.specs.Refusals.{Outcome, refused, yields}
 use Rattle.drive_sets.specs.Refusals.Numbered.{from_one, Numbered, result_numbered, if_numbered, then_numbered}
 use Rattle.records.specs.declared.Due.TheVariants.{AtMessage}
 use Rattle.drive_sets.specs.Lent.{size_written}
@@ -31,12 +31,12 @@ set_from_one r h =
 pub refusal_set : (s : State) (o : Outcome Exchange) → Numbered o → is_flagged (answered s o).refusal ≡ is_refused o
 unfolding is_refused from_one
 refusal_set s (refused r) h = set_from_one r h.from
-refusal_set s (result x) h = refl
+refusal_set s (yields x) h = refl
 
 pub size_refusal_set : (o : Outcome (List ℕ)) → Numbered o → is_flagged (size_reply (size_written o)).refusal ≡ is_refused (size_written o)
 unfolding is_refused from_one
 size_refusal_set (refused r) h = set_from_one r h.from
-size_refusal_set (result bytes) h = refl
+size_refusal_set (yields bytes) h = refl
 
 -- ---- the four calls: each test, and the number that it refuses with
 

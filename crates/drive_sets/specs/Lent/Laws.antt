@@ -8,7 +8,7 @@ use Rattle.std.proofs.Math.Seq.{take-append-add, drop-append-add}
 use Rattle.std.proofs.lemmas.Bool.{lt-leb}
 use Rattle.drive_sets.specs.Bools.Laws.{by_test, cond_true, cond_false}
 use Rattle.drive_sets.specs.declared.Refusal.TheVariants.{NoRoom}
-use Rattle.drive_sets.specs.Refusals.{Outcome, refused, result, and_then, number}
+use Rattle.drive_sets.specs.Refusals.{Outcome, refused, yields, and_then, number}
 use Rattle.drive_sets.specs.Refusals.Numbered.{Numbered, result_numbered, if_numbered, then_numbered}
 use Rattle.drive_sets.specs.Lent.{written, written_at, fitting, buffer_after}
 
@@ -71,7 +71,7 @@ written_at_then start a b old h =
 -- ---- room, and none
 
 module _ (start room : ℕ) (list : List ℕ) where
-  pub has_room : start + length list ≤ room → fitting start room list ≡ result list
+  pub has_room : start + length list ≤ room → fitting start room list ≡ yields list
   unfolding fitting
   has_room h = cond_false _ _ (ap not (le-leb (start + length list) room h))
 
@@ -89,7 +89,7 @@ put_numbered o h start room = then_numbered o (fitting start room) h (fitting_nu
 
 module _ (old list : List ℕ) where
   -- the first places of a slice with a list over them
-  pub first_places : (k : ℕ) → length list ≡ k → length list ≤ length old → take k (buffer_after (result list) 0 old) ≡ list
+  pub first_places : (k : ℕ) → length list ≡ k → length list ≤ length old → take k (buffer_after (yields list) 0 old) ≡ list
   first_places k e h = ap (take k) (written_at_start list old ∙ written_fits list old h) ∙ take_at list (drop (length list) old) k e
 
 module _ (old list : List ℕ) (room : ℕ) where

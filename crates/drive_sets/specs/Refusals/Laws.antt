@@ -5,20 +5,20 @@ use Rattle.std.proofs.Common.{sym, ap, ◌∙◌, inl, inr, arith}
 use Rattle.drive_sets.specs.declared.Answer.{Answer}
 use Rattle.drive_sets.specs.declared.Answer.TheVariants.{Accepted, Refused}
 use Rattle.drive_sets.specs.declared.Refusal.{Refusal}
-use Rattle.drive_sets.specs.Refusals.{Outcome, refused, result, refuse_if, and_then, number, Alone}
+use Rattle.drive_sets.specs.Refusals.{Outcome, refused, yields, refuse_if, and_then, number, Alone}
 
 module _ {A : Type 0} where
-  pub refused_no_result : {r : ℕ} {a : A} → refused r ≡ result a → ⊥
+  pub refused_no_result : {r : ℕ} {a : A} → refused r ≡ yields a → ⊥
   refused_no_result e = let z : ◌≡◌ {A = ℕ} 0 1 = cc in omega arith
 
   pub same_refused : {q r : ℕ} → ◌≡◌ {A = Outcome A} (refused q) (refused r) → q ≡ r
   same_refused e = cc
 
-  pub same_result : {a b : A} → ◌≡◌ {A = Outcome A} (result a) (result b) → a ≡ b
+  pub same_result : {a b : A} → ◌≡◌ {A = Outcome A} (yields a) (yields b) → a ≡ b
   same_result e = cc
 
   -- a result was not refused
-  pub passed : (b : Bool) (r : Refusal) (next : Outcome A) {a : A} → refuse_if b r next ≡ result a → (b ≡ false) × (next ≡ result a)
+  pub passed : (b : Bool) (r : Refusal) (next : Outcome A) {a : A} → refuse_if b r next ≡ yields a → (b ≡ false) × (next ≡ yields a)
   passed true r next e = absurd (refused_no_result e)
   passed false r next e = (refl, e)
 
@@ -29,17 +29,17 @@ module _ {A : Type 0} where
 
 module _ {A B : Type 0} where
   -- a result of two steps has one of the first
-  pub first_result : (o : Outcome A) (f : A → Outcome B) {b : B} → and_then o f ≡ result b → (a : A) × (o ≡ result a) × (f a ≡ result b)
+  pub first_result : (o : Outcome A) (f : A → Outcome B) {b : B} → and_then o f ≡ yields b → (a : A) × (o ≡ yields a) × (f a ≡ yields b)
   first_result (refused r) f e = absurd (refused_no_result e)
-  first_result (result a) f e = (a, refl, e)
+  first_result (yields a) f e = (a, refl, e)
 
   -- a refusal of two steps is the first's, or comes after its result
-  pub first_refused : (o : Outcome A) (f : A → Outcome B) {q : ℕ} → and_then o f ≡ refused q → (o ≡ refused q) ⊎ ((a : A) × (o ≡ result a) × (f a ≡ refused q))
+  pub first_refused : (o : Outcome A) (f : A → Outcome B) {q : ℕ} → and_then o f ≡ refused q → (o ≡ refused q) ⊎ ((a : A) × (o ≡ yields a) × (f a ≡ refused q))
   first_refused (refused r) f e = inl (ap (λ (x : ℕ). refused x) (same_refused e))
-  first_refused (result a) f e = inr (a, refl, e)
+  first_refused (yields a) f e = inr (a, refl, e)
 
   -- what comes after a refusal
-  pub then_refuse : (b : Bool) (r : Refusal) (a : A) (f : A → Outcome B) → and_then (refuse_if b r (result a)) f ≡ refuse_if b r (f a)
+  pub then_refuse : (b : Bool) (r : Refusal) (a : A) (f : A → Outcome B) → and_then (refuse_if b r (yields a)) f ≡ refuse_if b r (f a)
   then_refuse true r a f = refl
   then_refuse false r a f = refl
 
@@ -60,16 +60,16 @@ module _ {A : Type 0} (answer : A → Answer) (refusedAs : Refusal → A) (is : 
   accepted_alone e r h = absurd (accepted_not_refused (sym e ∙ h))
 
 -- two steps that make the same of a result
-pub then_same : {A B : Type 0} (o : Outcome A) {f g : A → Outcome B} → ((a : A) → o ≡ result a → f a ≡ g a) → and_then o f ≡ and_then o g
+pub then_same : {A B : Type 0} (o : Outcome A) {f g : A → Outcome B} → ((a : A) → o ≡ yields a → f a ≡ g a) → and_then o f ≡ and_then o g
 then_same (refused r) same = refl
-then_same (result a) same = same a refl
+then_same (yields a) same = same a refl
 
 -- a step and the next; and where the first only makes a value
 module _ {A B C : Type 0} where
   pub then_assoc : (o : Outcome A) (f : A → Outcome B) (g : B → Outcome C) → and_then (and_then o f) g ≡ and_then o (λ a. and_then (f a) g)
   then_assoc (refused r) f g = refl
-  then_assoc (result a) f g = refl
+  then_assoc (yields a) f g = refl
 
-  pub then_then : (o : Outcome A) (f : A → B) (g : B → Outcome C) → and_then (and_then o (λ a. result (f a))) g ≡ and_then o (λ a. g (f a))
+  pub then_then : (o : Outcome A) (f : A → B) (g : B → Outcome C) → and_then (and_then o (λ a. yields (f a))) g ≡ and_then o (λ a. g (f a))
   then_then (refused r) f g = refl
-  then_then (result a) f g = refl
+  then_then (yields a) f g = refl

@@ -4,7 +4,7 @@ use Rattle.std.proofs.Math.Path.{refl}
 use Rattle.std.proofs.Math.Bool.{true, false}
 use Rattle.drive_sets.specs.declared.Refusal.{Refusal}
 use Rattle.drive_sets.specs.declared.Refusal.TheVariants.{EndsTooSoon, WrongMark, FrameSize, BadSet, TooManySets, CountDiffers, TrailingBytes, DriveNumber, CrashRound, CrashSends, NoneUntouched, BlockCount, TooManyCores, NoRoom, KnownMask, AlreadyAccepted, OutsideCore, Halted, SenderMissing, PatternDiffers, OtherRound, ListenerSends, BrokenState, Threshold, TooManyGroups, FewDrives, AllDrives}
-use Rattle.drive_sets.specs.Refusals.{Outcome, refused, result, and_then, number}
+use Rattle.drive_sets.specs.Refusals.{Outcome, refused, yields, and_then, number}
 
 pub number_from_one : (r : Refusal) → leb 1 (number r) ≡ true
 number_from_one EndsTooSoon = refl
@@ -38,13 +38,13 @@ number_from_one AllDrives = refl
 module _ {A : Type 0} where
   unfoldable pub from_one : Outcome A → Bool
   from_one (refused r) = leb 1 r
-  from_one (result a) = true
+  from_one (yields a) = true
 
   -- an outcome that is a result, or a refusal with a number from 1
   pub record Numbered (o : Outcome A) : Type 0 where
     pub from : from_one o ≡ true
 
-  pub result_numbered : {a : A} → Numbered (result a)
+  pub result_numbered : {a : A} → Numbered (yields a)
   unfolding from_one
   result_numbered = record { from = refl }
 
@@ -61,4 +61,4 @@ module _ {A B : Type 0} where
   pub then_numbered : (o : Outcome A) (f : A → Outcome B) → Numbered o → ((a : A) → Numbered (f a)) → Numbered (and_then o f)
   unfolding from_one
   then_numbered (refused r) f h each = record { from = h.from }
-  then_numbered (result a) f h each = each a
+  then_numbered (yields a) f h each = each a

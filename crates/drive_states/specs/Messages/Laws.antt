@@ -10,7 +10,7 @@ use Rattle.drive_sets.specs.Lists.Laws.{elem_head, elem_tail}
 use Rattle.drive_sets.specs.Masks.{has, drives}
 use Rattle.drive_sets.specs.Masks.Sizes.{size_le, elem_drives, length_drives, drives_none}
 use Rattle.drive_sets.specs.declared.Refusal.TheVariants.{DriveNumber, KnownMask}
-use Rattle.drive_sets.specs.Refusals.{result, refuse_if}
+use Rattle.drive_sets.specs.Refusals.{yields, refuse_if}
 use Rattle.records.specs.declared.Due.TheVariants.{AtMessage}
 use Rattle.records.specs.declared.Kind.{Kind}
 use Rattle.records.specs.declared.Kind.TheVariants.{Known, Decide, WideKnown, WideDecide}
@@ -194,7 +194,7 @@ narrow_fits m h = record { sender_byte = h.sender_byte; round_byte = h.round_byt
 
 -- reading what was written: only whom the message is from and for can be refused
 read_written : (n : ℕ) (form : Form) (m : Message) → Written form m
-    → read_message n (bytes_in form m) ≡ refuse_if (not (is_drive n m.sender)) DriveNumber (refuse_if (wrong_mask n m.sender m.content) KnownMask (result m))
+    → read_message n (bytes_in form m) ≡ refuse_if (not (is_drive n m.sender)) DriveNumber (refuse_if (wrong_mask n m.sender m.content) KnownMask (yields m))
 unfolding read_message checked
 read_written n form m w =
     let bytes = bytes_in form m in
@@ -204,7 +204,7 @@ read_written n form m w =
 
 -- where the message is for the frame
 pub read_back : (n : ℕ) (form : Form) (m : Message) → Written form m → is_drive n m.sender ≡ true → wrong_mask n m.sender m.content ≡ false
-    → read_message n (bytes_in form m) ≡ result m
+    → read_message n (bytes_in form m) ≡ yields m
 read_back n form m w drive right = read_written n form m w ∙ rw (drive, right) refl
 
 -- a message with narrow numbers says what the one with wide numbers says

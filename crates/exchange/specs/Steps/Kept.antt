@@ -6,7 +6,7 @@ use Rattle.std.proofs.Math.Path.{refl, ap, subst}
 use Rattle.std.proofs.Common.{sym, ◌∙◌, eqb-true}
 use mathlib.Core.List.{List, [], ◌∷◌}
 use Rattle.drive_sets.specs.Bools.Laws.{clash, by_test, cond_true, cond_false}
-use Rattle.drive_sets.specs.Refusals.{result}
+use Rattle.drive_sets.specs.Refusals.{yields}
 use Rattle.drive_sets.specs.declared.Pattern.{Pattern}
 use Rattle.drive_states.specs.declared.Exchange.{Exchange}
 use Rattle.drive_states.specs.declared.Decision.TheVariants.{Decided}
@@ -29,7 +29,7 @@ leaves_at : (w : World) (c : Call) (d : ℕ) → d ≡ drive_of c → leaves (he
 leaves_at w c d is = subst (λ (e : ℕ). leaves (held (w e)) c ≡ held (apply w c e)) (sym is) (leaves_held w c)
 
 -- an accepted opening leaves its result, whatever it is handed
-opening_leaves : (x : Exchange) (d n : ℕ) (sets : List ℕ) (own number : ℕ) (y : Exchange) → opening n sets own number ≡ result y
+opening_leaves : (x : Exchange) (d n : ℕ) (sets : List ℕ) (own number : ℕ) (y : Exchange) → opening n sets own number ≡ yields y
     → leaves x (opens d n sets own number) ≡ y
 unfolding leaves
 opening_leaves x d n sets own number y e = ap (state_after x) e
@@ -67,7 +67,7 @@ module _ {S : Type 0} (left : S → Call → S) where
         nothing_open store calls first
 
     -- an accepted opening gives a state that does not depend on the one handed in
-    module _ (fresh : (s : S) (d n : ℕ) (sets : List ℕ) (own number : ℕ) (y : Exchange) → opening n sets own number ≡ result y → left s (opens d n sets own number) ≡ form y) where
+    module _ (fresh : (s : S) (d n : ℕ) (sets : List ℕ) (own number : ℕ) (y : Exchange) → opening n sets own number ≡ yields y → left s (opens d n sets own number) ≡ form y) where
       abbrev Follows : Slot → S → Type 0
       Follows slot s = (x : Exchange) → slot ≡ opened x → s ≡ form x
 

@@ -5,7 +5,7 @@ use Rattle.std.proofs.Common.{sym, ◌∙◌}
 use Rattle.std.proofs.Math.Path.{ap}
 use Rattle.std.proofs.Math.ListN.{length}
 use Rattle.drive_sets.specs.Bools.Laws.{clash}
-use Rattle.drive_sets.specs.Refusals.{Outcome, refused, result}
+use Rattle.drive_sets.specs.Refusals.{Outcome, refused, yields}
 use Rattle.lent_bytes.specs.declared.Writing.{Writing}
 use Rattle.lent_bytes.specs.LentBuffers.{Written}
 use Rattle.drive_sets.specs.Lent.{size_written}
@@ -27,7 +27,7 @@ use Rattle.exchange.specs.Steps.{held, may_name, Stepped, SentFrom, leaves}
 after_held : (slot : Slot) (o : Outcome Exchange) → state_after (held slot) o ≡ held (after_call slot o)
 unfolding held after_call
 after_held slot (refused r) = refl
-after_held slot (result x) = refl
+after_held slot (yields x) = refl
 
 on_held : (call : Exchange → Outcome Exchange) → call not_opened ≡ refused 28 → (slot : Slot) → state_after (held slot) (call (held slot)) ≡ held (on_state call slot)
 unfolding held on_state
@@ -68,7 +68,7 @@ close_refused (opened x) d h = refl
 pub size_refused : (o : Outcome (List ℕ)) → is_refused (size_written o) ≡ is_refused o
 unfolding is_refused
 size_refused (refused r) = refl
-size_refused (result bytes) = refl
+size_refused (yields bytes) = refl
 
 -- a send that is handed the state kept writes what the world has the drive send, and is refused where the world says so
 send_held : (slot : Slot) (d room start : ℕ) → may_name slot (sends d room start) ≡ true

@@ -5,7 +5,7 @@ use Prim.Native.Nat.{ℕ}
 use lib.ListN.{length}
 use borrow.Author.Rules.{rules}
 use Rattle.drive_sets.specs.Lent.{fitting}
-use Rattle.drive_sets.specs.Refusals.{Outcome, result, and_then}
+use Rattle.drive_sets.specs.Refusals.{Outcome, yields, and_then}
 use Rattle.lent_bytes.proofs.Buffers.{written_as}
 use Rattle.fault_files.specs.FaultFiles.{fault_bytes, write_faults}
 use Rattle.fault_files.proofs.write_faults.Statement.{statement}
@@ -17,4 +17,4 @@ write-faults-spec =
     tie.close
     (tie.spec
     (λ c κs. search rules) (λ c κs. c.before.fault-list.ensures.1) (λ c. search rules)
-    (λ c. let a = c.before.before.before.before.before.before.before.args in written_as (ap (λ (o : Outcome (List ℕ)). and_then (and_then o (λ list. result (fault_bytes a.n list))) (fitting a.start (length a.buf.now))) c.before.before.before.before.fault-list.ensures.0) c.before.before.write-groups.ensures))
+    (λ c. let a = c.before.before.before.before.before.before.before.args in written_as (ap (λ (o : Outcome (List ℕ)). and_then (and_then o (λ list. yields (fault_bytes a.n list))) (fitting a.start (length a.buf.now))) c.before.before.before.before.fault-list.ensures.0) c.before.before.write-groups.ensures))

@@ -4,7 +4,7 @@ use Rattle.std.specs.Prelude.{◌≡◌, not, List, [], ℕ}
 use Rattle.std.proofs.Common.{sym, ap, ◌∙◌, subst, append-nil}
 use Rattle.std.proofs.lemmas.Bool.{not-false}
 use Rattle.drive_sets.specs.declared.Refusal.TheVariants.{TrailingBytes}
-use Rattle.drive_sets.specs.Refusals.{Outcome, result, refuse_if, and_then}
+use Rattle.drive_sets.specs.Refusals.{Outcome, yields, refuse_if, and_then}
 use Rattle.drive_sets.specs.Refusals.Laws.{passed, first_result, same_result, then_then}
 use Rattle.survivor_tables.specs.declared.frames.MaskKind.TheVariants.{FaultGroup}
 use Rattle.survivor_tables.specs.Tables.{is_empty, within_core_limit}
@@ -18,20 +18,20 @@ use Rattle.fault_files.specs.FaultFiles.{accepted_faults, read_faults, fault_byt
 -- ---- what is listed meets nothing but 13, and is the fault list of n and groups
 
 abbrev pub list_read : ℕ → List ℕ → List ℕ → Outcome ReadTable
-list_read n rest list = result (record { n = n; sets = list; rest = rest })
+list_read n rest list = yields (record { n = n; sets = list; rest = rest })
 
 pub accepted_list : (n : ℕ) (groups rest : List ℕ) → Checked FaultGroup n groups
     → accepted_faults (record { n = n; sets = groups; rest = rest }) ≡ and_then (fault_list n groups) (list_read n rest)
 unfolding accepted_faults fault_list table_from_faults
 accepted_list n groups rest c =
-    sym (ap (λ (o : Outcome (List ℕ)). and_then (and_then (and_then o (λ faults. within_core_limit (rests n faults))) (λ table. result (largest groups))) (list_read n rest))
+    sym (ap (λ (o : Outcome (List ℕ)). and_then (and_then (and_then o (λ faults. within_core_limit (rests n faults))) (λ table. yields (largest groups))) (list_read n rest))
     (checked_masks_law FaultGroup n groups c)
     ∙ then_then (within_core_limit (rests n groups)) (λ table. largest groups) (list_read n rest))
 
 -- ---- read back as written
 
-pub faults_written : (n : ℕ) (groups : List ℕ) {list : List ℕ} → fault_list n groups ≡ result list
-    → read_faults (fault_bytes n list) ≡ result (record { n = n; sets = list; rest = [] })
+pub faults_written : (n : ℕ) (groups : List ℕ) {list : List ℕ} → fault_list n groups ≡ yields list
+    → read_faults (fault_bytes n list) ≡ yields (record { n = n; sets = list; rest = [] })
 unfolding read_faults is_empty
 faults_written n groups {list} e =
     let again = list_again n groups e in
@@ -41,14 +41,14 @@ faults_written n groups {list} e =
 
 -- ---- what is read is in normal form, and nothing stands behind
 
-pub faults_read : (s : List ℕ) {t : ReadTable} → read_faults s ≡ result t → (fault_list t.n t.sets ≡ result t.sets) × (t.rest ≡ [])
+pub faults_read : (s : List ℕ) {t : ReadTable} → read_faults s ≡ yields t → (fault_list t.n t.sets ≡ yields t.sets) × (t.rest ≡ [])
 unfolding read_faults
 faults_read s {t} e =
     let listed = first_result (read_listed FaultGroup s) (λ u. refuse_if (not (is_empty u.rest)) TrailingBytes (accepted_faults u)) e in
     let u = listed.0 in
     let none = passed (not (is_empty u.rest)) TrailingBytes (accepted_faults u) listed.2 in
     let list = first_result (fault_list u.n u.sets) (list_read u.n u.rest) (sym (accepted_list u.n u.sets u.rest (listed_checked FaultGroup s listed.1)) ∙ none.1) in
-    subst (λ (r : ReadTable). (fault_list r.n r.sets ≡ result r.sets) × (r.rest ≡ [])) (same_result list.2) (
+    subst (λ (r : ReadTable). (fault_list r.n r.sets ≡ yields r.sets) × (r.rest ≡ [])) (same_result list.2) (
       (list_again u.n u.sets list.1).1,
       empty_is u.rest (not-false (is_empty u.rest) none.0),
     )

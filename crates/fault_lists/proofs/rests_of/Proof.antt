@@ -4,7 +4,7 @@ use Prim.Native.Nat.{ℕ, ◌-◌}
 use native.Mathlib.Omega.{arith}
 use lib.ListN.{length, take}
 use lib.Seq.{length-take-le}
-use Rattle.drive_sets.specs.Refusals.{result}
+use Rattle.drive_sets.specs.Refusals.{yields}
 use Rattle.drive_sets.specs.Refusals.Laws.{accepted_not_refused}
 use Rattle.complete_tables.specs.Complete.{sets_of, complete_outcome}
 use Rattle.complete_tables.proofs.Completes.{first_taken}
@@ -24,7 +24,7 @@ returns-2 c =
     let long : length t.table.sets ≡ 128 = search rules in
     let part = first_taken t.table in
     let many : t.table.count ≡ length (take (t.table.count - 0) t.table.sets) = omega (arith, ap length part, length-take-le t.table.count t.table.sets (omega (arith, c.before.before.before.before.before.before.before.before.before.requires.sets))) in (
-      rw c.before.before.before.before.before.enum_told.given.1 (ap result (ap (λ (k : ℕ). take k c.before.put-rests.new.1.1.0) many ∙ (c.before.put-rests.ensures ∙ ap (rests t.table.n) part))),
+      rw c.before.before.before.before.before.enum_told.given.1 (ap yields (ap (λ (k : ℕ). take k c.before.put-rests.new.1.1.0) many ∙ (c.before.put-rests.ensures ∙ ap (rests t.table.n) part))),
       record { sets = c.before.before.before.before.before.before.before.before.before.requires.sets; alone = λ r e. absurd (accepted_not_refused e) },
     )
 

@@ -10,7 +10,7 @@ use Rattle.drive_sets.specs.Lists.{elem}
 use Rattle.drive_sets.specs.Masks.{full, outside, Below}
 use Rattle.drive_sets.specs.Masks.Laws.{full_subset, subset_full}
 use Rattle.drive_sets.specs.Masks.Outside.{outside_lt}
-use Rattle.drive_sets.specs.Refusals.{Outcome, refused, result, and_then}
+use Rattle.drive_sets.specs.Refusals.{Outcome, refused, yields, and_then}
 use Rattle.drive_sets.specs.Refusals.Laws.{first_result, same_result, then_same, then_then}
 use Rattle.drive_sets.specs.Refusals.Numbered.{Numbered, result_numbered, then_numbered}
 use Rattle.survivor_tables.specs.declared.frames.MaskKind.TheVariants.{SurvivorSet, FaultGroup}
@@ -67,7 +67,7 @@ module _ (n : ℕ) (groups : List ℕ) where
     pub accepted : Accepted n (rests n groups)
     pub is : table ≡ normal (rests n groups)
 
-  pub from_faults : {table : List ℕ} → table_from_faults n groups ≡ result table → FromFaults table
+  pub from_faults : {table : List ℕ} → table_from_faults n groups ≡ yields table → FromFaults table
   unfolding table_from_faults
   from_faults e =
       let first = first_result (checked_masks FaultGroup n groups) (λ faults. within_core_limit (rests n faults)) e in
@@ -76,7 +76,7 @@ module _ (n : ℕ) (groups : List ℕ) where
       record { checked = c.0; accepted = checked_accepted n (rests n groups) (rests_checked n groups c.0) few.0; is = few.1 }
 
 -- groups whose rests are an accepted table give its normal table
-pub faults_given : (n : ℕ) (groups : List ℕ) → Checked FaultGroup n groups → Accepted n (rests n groups) → table_from_faults n groups ≡ result (normal (rests n groups))
+pub faults_given : (n : ℕ) (groups : List ℕ) → Checked FaultGroup n groups → Accepted n (rests n groups) → table_from_faults n groups ≡ yields (normal (rests n groups))
 unfolding table_from_faults
 faults_given n groups c a = rw (checked_masks_law FaultGroup n groups c) (accepted_within_limit n (rests n groups) a)
 
@@ -91,11 +91,11 @@ module _ (n : ℕ) (sets : List ℕ) (a : Accepted n sets) where
   normal_largest = rests_largest n a.high (normal sets) normal_below ∙ ap (rests n) (normal_idempotent sets)
 
   -- whose table it is
-  pub normal_back : table_from_faults n (rests n (normal sets)) ≡ result (normal sets)
+  pub normal_back : table_from_faults n (rests n (normal sets)) ≡ yields (normal sets)
   normal_back =
       let own = rests_rests n a.high (normal sets) normal_below in
       faults_given n (rests n (normal sets)) (sets_checked n (normal sets) (accepted_normal n sets a)) (subst (Accepted n) (sym own) (accepted_normal n sets a))
-      ∙ ap result (ap normal own ∙ normal_idempotent sets)
+      ∙ ap yields (ap normal own ∙ normal_idempotent sets)
 
 pub faults_back : (n : ℕ) (groups : List ℕ) → and_then (table_from_faults n groups) (faults_from_table n) ≡ fault_list n groups
 unfolding fault_list faults_from_table
@@ -104,8 +104,8 @@ faults_back n groups =
     let w = from_faults n groups e in
     let normal_table_law = accepted_normal n (rests n groups) w.accepted in
     rw w.is
-    (ap (λ (o : Outcome (List ℕ)). and_then o (λ t. result (largest (rests n t)))) (accepted_table n (normal (rests n groups)) normal_table_law ∙ ap result (normal_idempotent (rests n groups)))
-    ∙ ap result (normal_largest n (rests n groups) w.accepted ∙ sym (largest_rests n w.accepted.high groups (groups_below n groups w.checked)))))
+    (ap (λ (o : Outcome (List ℕ)). and_then o (λ t. yields (largest (rests n t)))) (accepted_table n (normal (rests n groups)) normal_table_law ∙ ap yields (normal_idempotent (rests n groups)))
+    ∙ ap yields (normal_largest n (rests n groups) w.accepted ∙ sym (largest_rests n w.accepted.high groups (groups_below n groups w.checked)))))
 
 pub table_back : (n : ℕ) (sets : List ℕ) → and_then (faults_from_table n sets) (table_from_faults n) ≡ normal_table n sets
 unfolding faults_from_table
@@ -113,41 +113,41 @@ table_back n sets = then_then (normal_table n sets) (λ table. largest (rests n 
   where
     go : (o : Outcome (List ℕ)) → normal_table n sets ≡ o → and_then o (λ table. table_from_faults n (largest (rests n table))) ≡ o
     go (refused r) e = refl
-    go (result table) e =
+    go (yields table) e =
         let w = table_accepted n sets table e in
         rw w.1 (ap (table_from_faults n) (normal_largest n sets w.0) ∙ normal_back n sets w.0)
 
 -- the fault list of a table is in normal form, and the table is its own
-pub table_list : (n : ℕ) (sets : List ℕ) {groups : List ℕ} → faults_from_table n sets ≡ result groups
-    → (table_from_faults n groups ≡ normal_table n sets) × (fault_list n groups ≡ result groups)
+pub table_list : (n : ℕ) (sets : List ℕ) {groups : List ℕ} → faults_from_table n sets ≡ yields groups
+    → (table_from_faults n groups ≡ normal_table n sets) × (fault_list n groups ≡ yields groups)
 unfolding faults_from_table fault_list
 table_list n sets {groups} e =
-    let first = first_result (normal_table n sets) (λ table. result (largest (rests n table))) e in
+    let first = first_result (normal_table n sets) (λ table. yields (largest (rests n table))) e in
     let w = table_accepted n sets first.0 first.1 in
     let is = ap (λ (l : List ℕ). largest (rests n l)) (sym w.1) ∙ same_result first.2 in
     let own = sym (normal_largest n sets w.0) ∙ is in
-    let table = subst (λ (l : List ℕ). table_from_faults n l ≡ result (normal sets)) own (normal_back n sets w.0) in (
-      table ∙ sym (first.1 ∙ ap result w.1),
-      ap (λ (o : Outcome (List ℕ)). and_then o (λ t. result (largest groups))) table ∙ ap result (ap largest (sym own) ∙ is),
+    let table = subst (λ (l : List ℕ). table_from_faults n l ≡ yields (normal sets)) own (normal_back n sets w.0) in (
+      table ∙ sym (first.1 ∙ ap yields w.1),
+      ap (λ (o : Outcome (List ℕ)). and_then o (λ t. yields (largest groups))) table ∙ ap yields (ap largest (sym own) ∙ is),
     )
 
 -- the normal form is its own, and meets nothing
-pub list_again : (n : ℕ) (groups : List ℕ) {list : List ℕ} → fault_list n groups ≡ result list → Checked FaultGroup n list × (fault_list n list ≡ result list)
+pub list_again : (n : ℕ) (groups : List ℕ) {list : List ℕ} → fault_list n groups ≡ yields list → Checked FaultGroup n list × (fault_list n list ≡ yields list)
 unfolding fault_list
 list_again n groups e =
-    let first = first_result (table_from_faults n groups) (λ table. result (largest groups)) e in
+    let first = first_result (table_from_faults n groups) (λ table. yields (largest groups)) e in
     let w = from_faults n groups first.1 in
     let sets = rests n groups in
     let is = sym (same_result first.2) ∙ largest_rests n w.accepted.high groups (groups_below n groups w.checked) in
-    subst (λ (l : List ℕ). Checked FaultGroup n l × (and_then (table_from_faults n l) (λ table. result (largest l)) ≡ result l)) (sym is) (
+    subst (λ (l : List ℕ). Checked FaultGroup n l × (and_then (table_from_faults n l) (λ table. yields (largest l)) ≡ yields l)) (sym is) (
       sets_checked n (normal sets) (accepted_normal n sets w.accepted),
-      ap (λ (o : Outcome (List ℕ)). and_then o (λ table. result (largest (rests n (normal sets))))) (normal_back n sets w.accepted) ∙ ap result (normal_largest n sets w.accepted),
+      ap (λ (o : Outcome (List ℕ)). and_then o (λ table. yields (largest (rests n (normal sets))))) (normal_back n sets w.accepted) ∙ ap yields (normal_largest n sets w.accepted),
     )
 
 -- ---- what is given, by the table with its cores
 
 abbrev pub rests_of : Complete → Outcome (List ℕ)
-rests_of t = result (rests t.n t.sets)
+rests_of t = yields (rests t.n t.sets)
 
 -- the table of some groups is the one of their rests
 pub complete_rests : (n : ℕ) (groups : List ℕ) → and_then (checked_masks FaultGroup n groups) (λ faults. complete_table n (rests n faults)) ≡ complete_from_faults n groups
@@ -155,14 +155,14 @@ unfolding complete_from_faults table_from_faults complete_table normal_table
 complete_rests n groups =
     then_same (checked_masks FaultGroup n groups) (λ faults e.
     let c = masks_checked FaultGroup n groups e in
-    ap (λ (o : Outcome (List ℕ)). and_then (and_then o within_core_limit) (λ table. result (with_cores n table)))
+    ap (λ (o : Outcome (List ℕ)). and_then (and_then o within_core_limit) (λ table. yields (with_cores n table)))
     (checked_masks_law SurvivorSet n (rests n faults) (subst (λ (l : List ℕ). Checked SurvivorSet n (rests n l)) c.1 (rests_checked n groups c.0))))
     ∙ sym (assoc (checked_masks FaultGroup n groups))
   where
-    assoc : (o : Outcome (List ℕ)) → and_then (and_then o (λ faults. within_core_limit (rests n faults))) (λ table. result (with_cores n table))
-        ≡ and_then o (λ faults. and_then (within_core_limit (rests n faults)) (λ table. result (with_cores n table)))
+    assoc : (o : Outcome (List ℕ)) → and_then (and_then o (λ faults. within_core_limit (rests n faults))) (λ table. yields (with_cores n table))
+        ≡ and_then o (λ faults. and_then (within_core_limit (rests n faults)) (λ table. yields (with_cores n table)))
     assoc (refused r) = refl
-    assoc (result faults) = refl
+    assoc (yields faults) = refl
 
 pub list_rests : (n : ℕ) (groups : List ℕ) → and_then (complete_from_faults n groups) rests_of ≡ fault_list n groups
 unfolding complete_from_faults fault_list with_cores
@@ -170,14 +170,14 @@ list_rests n groups =
     then_then (table_from_faults n groups) (with_cores n) rests_of
     ∙ then_same (table_from_faults n groups) (λ table e.
     let w = from_faults n groups e in
-    ap result (ap (rests n) w.is ∙ sym (largest_rests n w.accepted.high groups (groups_below n groups w.checked))))
+    ap yields (ap (rests n) w.is ∙ sym (largest_rests n w.accepted.high groups (groups_below n groups w.checked))))
 
 pub table_rests : (n : ℕ) (sets : List ℕ) → and_then (complete_table n sets) rests_of ≡ faults_from_table n sets
 unfolding complete_table faults_from_table with_cores
 table_rests n sets =
     then_then (normal_table n sets) (with_cores n) rests_of
     ∙ then_same (normal_table n sets) (λ table e.
-    let w = table_accepted n sets table e in ap result (rw w.1 (sym (normal_largest n sets w.0))))
+    let w = table_accepted n sets table e in ap yields (rw w.1 (sym (normal_largest n sets w.0))))
 
 -- ---- refused with a number from 1
 

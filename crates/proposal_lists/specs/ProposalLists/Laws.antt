@@ -13,7 +13,7 @@ use Rattle.drive_sets.specs.Bools.Laws.{cond_true}
 use Rattle.drive_sets.specs.declared.Refusal.TheVariants.{DriveNumber}
 use Rattle.drive_sets.specs.Masks.{has, lowest}
 use Rattle.drive_sets.specs.Limits.{pattern_limit}
-use Rattle.drive_sets.specs.Refusals.{result}
+use Rattle.drive_sets.specs.Refusals.{yields}
 use Rattle.drive_sets.specs.Refusals.Laws.{same_result, passed, first_result}
 use Rattle.records.specs.Fields.{Bytes}
 use Rattle.records.specs.Fields.Laws.{bytes_drop}
@@ -31,7 +31,7 @@ pub record Placed (n : ℕ) (l : ProposalList) (s : List ℕ) (t : ProposalList)
   pub none_passed : drive_at s ≤ lowest l.owed
   pub is : with_proposal l (drive_at s) (number_at s) ≡ t
 
-pub was_taken : (n : ℕ) (l : ProposalList) (s : List ℕ) {t : ProposalList} → taken_proposal n l s ≡ result t → Placed n l s t
+pub was_taken : (n : ℕ) (l : ProposalList) (s : List ℕ) {t : ProposalList} → taken_proposal n l s ≡ yields t → Placed n l s t
 unfolding taken_proposal
 was_taken n l s e =
     let first = passed (not (is_next n l.last (drive_at s))) DriveNumber _ e in
@@ -71,7 +71,7 @@ pub record Numbers (n : ℕ) (s numbers : List ℕ) : Type 0 where
   pub many : length numbers ≡ n
   pub patterns : Bytes s → (i : ℕ) → get_or numbers i 0 < pattern_limit
 
-pub numbers_read_law : (n core : ℕ) (s : List ℕ) {p : ReadList (List ℕ)} → read_proposals n core s ≡ result p → Numbers n s p.list
+pub numbers_read_law : (n core : ℕ) (s : List ℕ) {p : ReadList (List ℕ)} → read_proposals n core s ≡ yields p → Numbers n s p.list
 unfolding read_proposals read_list with_proposal
 numbers_read_law n core s {p} e =
     let first = first_result (read_list (proposal_list n) (no_proposal n core) s) _ e in
@@ -96,7 +96,7 @@ numbers_read_law n core s {p} e =
     below (x ∷ l) (suc i) v h all true zero = all 0
     below (x ∷ l) (suc i) v h all true (suc j) = below l i v h (λ k. all (suc k)) true j
 
-    kept : (l : ProposalList) (b : List ℕ) (t : ProposalList) → Good l b → taken_proposal n l b ≡ result t → Good t (drop (width_at b) b)
+    kept : (l : ProposalList) (b : List ℕ) (t : ProposalList) → Good l b → taken_proposal n l b ≡ yields t → Good t (drop (width_at b) b)
     kept l b t g q =
         subst (λ (x : ProposalList). Good x (drop (width_at b) b)) (was_taken n l b q).is (
           noted_length l (drive_at b) (number_at b) ∙ g.0,

@@ -11,7 +11,7 @@ use Rattle.drive_sets.specs.Bools.Laws.{clash, by_test, or_cases, cond_true, con
 use Rattle.drive_sets.specs.Options.Laws.{none_some, same_some}
 use Rattle.drive_sets.specs.declared.Refusal.{Refusal}
 use Rattle.drive_sets.specs.declared.Refusal.TheVariants.{EndsTooSoon, WrongMark, CountDiffers}
-use Rattle.drive_sets.specs.Refusals.{Outcome, refused, result, and_then, number}
+use Rattle.drive_sets.specs.Refusals.{Outcome, refused, yields, and_then, number}
 use Rattle.drive_sets.specs.Refusals.Laws.{refused_no_result, same_result, first_result}
 use Rattle.records.specs.declared.Kind.{Kind}
 use Rattle.records.specs.declared.Kind.TheVariants as kinds
@@ -26,7 +26,7 @@ use Rattle.records.specs.Marks.Laws.{Present, head_present, kind_is}
 use Rattle.records.specs.RecordLists.{at_record, next_at, next_of, ListFormat, ReadList, step_at, step_of, following, read_from, read_list}
 
 -- what was made of a record that stood there
-pub record_there : {A : Type 0} (h : Head) (f : Kind → Outcome A) {a : A} → at_record h f ≡ result a → (k : Kind) × (h ≡ heads.Record k) × (f k ≡ result a)
+pub record_there : {A : Type 0} (h : Head) (f : Kind → Outcome A) {a : A} → at_record h f ≡ yields a → (k : Kind) × (h ≡ heads.Record k) × (f k ≡ yields a)
 record_there (heads.Refused r) f e = absurd (refused_no_result e)
 record_there (heads.Record k) f e = (k, refl, e)
 
@@ -110,35 +110,35 @@ module _ {S : Type 0} (f : ListFormat S) where
 
   -- ---- one step
 
-  pub step_end : (state : S) (s : List ℕ) → step_of f state s ≡ result none → Present (f.due state) s kinds.End
+  pub step_end : (state : S) (s : List ℕ) → step_of f state s ≡ yields none → Present (f.due state) s kinds.End
   unfolding step_of
   step_end state s e = go (next_of (f.due state) (f.count state) s) refl e
     where
-      go : (x : Next) → next_of (f.due state) (f.count state) s ≡ x → step_at x (f.taken state s) ≡ result none → Present (f.due state) s kinds.End
+      go : (x : Next) → next_of (f.due state) (f.count state) s ≡ x → step_at x (f.taken state s) ≡ yields none → Present (f.due state) s kinds.End
       go (Stop r) p e = absurd (refused_no_result e)
       go End p e = end_present (f.due state) (f.count state) s p
-      go One p e = absurd (none_some refl (sym (same_result (first_result (f.taken state s) (λ t. result (some t)) e).2)))
+      go One p e = absurd (none_some refl (sym (same_result (first_result (f.taken state s) (λ t. yields (some t)) e).2)))
 
-  pub step_more : (state : S) (s : List ℕ) {t : S} → step_of f state s ≡ result (some t)
-      → (next_of (f.due state) (f.count state) s ≡ One) × (f.taken state s ≡ result t)
+  pub step_more : (state : S) (s : List ℕ) {t : S} → step_of f state s ≡ yields (some t)
+      → (next_of (f.due state) (f.count state) s ≡ One) × (f.taken state s ≡ yields t)
   unfolding step_of
   step_more state s {t} e = go (next_of (f.due state) (f.count state) s) refl e
     where
-      go : (x : Next) → next_of (f.due state) (f.count state) s ≡ x → step_at x (f.taken state s) ≡ result (some t)
-          → (next_of (f.due state) (f.count state) s ≡ One) × (f.taken state s ≡ result t)
+      go : (x : Next) → next_of (f.due state) (f.count state) s ≡ x → step_at x (f.taken state s) ≡ yields (some t)
+          → (next_of (f.due state) (f.count state) s ≡ One) × (f.taken state s ≡ yields t)
       go (Stop r) p e = absurd (refused_no_result e)
       go End p e = absurd (none_some refl (same_result e))
       go One p e =
-          let w = first_result (f.taken state s) (λ x. result (some x)) e in
-          (p, w.1 ∙ ap (λ (x : S). result x) (same_some refl (same_result w.2)))
+          let w = first_result (f.taken state s) (λ x. yields (some x)) e in
+          (p, w.1 ∙ ap (λ (x : S). yields x) (same_some refl (same_result w.2)))
 
-  pub end_whole : (state : S) (s : List ℕ) → step_of f state s ≡ result none → 3 ≤ length s
+  pub end_whole : (state : S) (s : List ℕ) → step_of f state s ≡ yields none → 3 ≤ length s
   unfolding body_width
   end_whole state s e = (step_end state s e).long
 
   -- ---- reading goes on as the step says
 
-  pub read_complete_law : (bytes : ℕ) (state : S) (s : List ℕ) → f.complete state s ≡ true → read_from f bytes state s ≡ result (record { list = state; rest = s })
+  pub read_complete_law : (bytes : ℕ) (state : S) (s : List ℕ) → f.complete state s ≡ true → read_from f bytes state s ≡ yields (record { list = state; rest = s })
   unfolding read_from
   read_complete_law zero state s e = cond_true _ _ e
   read_complete_law (suc bytes) state s e = cond_true _ _ e
@@ -164,8 +164,8 @@ module _ {S : Type 0} (f : ListFormat S) where
     where
       go : (o : Outcome (Option S)) → step_of f state s ≡ o → and_then o (following f later state s) ≡ and_then o (following f other state s)
       go (refused r) e = refl
-      go (result none) e = refl
-      go (result (some t)) e = same t (omega (arith, one_whole (f.due state) (f.count state) s (step_more state s e).0))
+      go (yields none) e = refl
+      go (yields (some t)) e = same t (omega (arith, one_whole (f.due state) (f.count state) s (step_more state s e).0))
 
   -- as many bytes as there are suffice
   read_alike : (bytes others : ℕ) (state : S) (s : List ℕ) → length s ≤ bytes → length s ≤ others → read_from f bytes state s ≡ read_from f others state s
@@ -193,21 +193,21 @@ module _ {S : Type 0} (f : ListFormat S) where
   abbrev pub Kept : (S → List ℕ → Type 0) → ReadList S → Type 0
   Kept P r = (rest : List ℕ) × P r.list rest × ((f.complete r.list rest ≡ true) ⊎ (is_due (f.due r.list) kinds.End ≡ true))
 
-  module _ (P : S → List ℕ → Type 0) (keeps : (state : S) (s : List ℕ) (t : S) → P state s → f.complete state s ≡ false → f.taken state s ≡ result t → P t (drop (width_at s) s)) where
-    complete_kept : (bytes : ℕ) (state : S) (s : List ℕ) {r : ReadList S} → P state s → read_from f bytes state s ≡ result r → f.complete state s ≡ true → Kept P r
+  module _ (P : S → List ℕ → Type 0) (keeps : (state : S) (s : List ℕ) (t : S) → P state s → f.complete state s ≡ false → f.taken state s ≡ yields t → P t (drop (width_at s) s)) where
+    complete_kept : (bytes : ℕ) (state : S) (s : List ℕ) {r : ReadList S} → P state s → read_from f bytes state s ≡ yields r → f.complete state s ≡ true → Kept P r
     complete_kept bytes state s p e t =
         let same = ap (λ (x : ReadList S). x.list) (same_result (sym (read_complete_law bytes state s t) ∙ e)) in
         (s, subst (λ (x : S). P x s) same p, inl (ap (λ (x : S). f.complete x s) (sym same) ∙ t))
 
     step_kept : (state : S) (s : List ℕ) {r : ReadList S} (later : S → List ℕ → Outcome (ReadList S)) → P state s → f.complete state s ≡ false
-        → ((t : S) → P t (drop (width_at s) s) → later t (drop (width_at s) s) ≡ result r → Kept P r)
-        → (o : Option S) → step_of f state s ≡ result o → following f later state s o ≡ result r → Kept P r
+        → ((t : S) → P t (drop (width_at s) s) → later t (drop (width_at s) s) ≡ yields r → Kept P r)
+        → (o : Option S) → step_of f state s ≡ yields o → following f later state s o ≡ yields r → Kept P r
     step_kept state s later p going more none g e =
         let same = ap (λ (x : ReadList S). x.list) (same_result e) in
         (s, subst (λ (x : S). P x s) same p, inr (subst (λ (x : S). is_due (f.due x) kinds.End ≡ true) same (step_end state s g).is_due_law))
     step_kept state s later p going more (some t) g e = more t (keeps state s t p going (step_more state s g).1) e
 
-    pub read_keeps : (bytes : ℕ) (state : S) (s : List ℕ) {r : ReadList S} → P state s → read_from f bytes state s ≡ result r → Kept P r
+    pub read_keeps : (bytes : ℕ) (state : S) (s : List ℕ) {r : ReadList S} → P state s → read_from f bytes state s ≡ yields r → Kept P r
     unfolding read_from
     read_keeps zero state s p e =
         by_test (f.complete state s) (complete_kept zero state s p e) (λ t. absurd (refused_no_result (sym (cond_false _ _ t) ∙ e)))

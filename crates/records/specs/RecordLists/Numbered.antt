@@ -3,7 +3,7 @@ use Rattle.std.proofs.Math.Path.{refl}
 use Rattle.std.specs.Prelude.{List, length, drop}
 use Rattle.std.proofs.Math.Option.{Option, none, some}
 use Prim.Native.Nat.{ℕ, zero, suc}
-use Rattle.drive_sets.specs.Refusals.{Outcome, result}
+use Rattle.drive_sets.specs.Refusals.{Outcome, yields}
 use Rattle.drive_sets.specs.Refusals.Numbered.{number_from_one, from_one, Numbered, result_numbered, either_numbered, then_numbered}
 use Rattle.records.specs.declared.Head.{Head}
 use Rattle.records.specs.declared.Head.TheVariants as heads
@@ -24,7 +24,7 @@ module _ {S : Type 0} (f : ListFormat S) (taken_numbered : (state : S) (s : List
   unfolding from_one
   step_numbered (Stop r) h = record { from = number_from_one r }
   step_numbered End h = result_numbered
-  step_numbered One {more} h = then_numbered more (λ state. result (some state)) h (λ state. result_numbered)
+  step_numbered One {more} h = then_numbered more (λ state. yields (some state)) h (λ state. result_numbered)
 
   following_numbered : (later : S → List ℕ → Outcome (ReadList S)) → ((state : S) (s : List ℕ) → Numbered (later state s))
       → (state : S) (s : List ℕ) (o : Option S) → Numbered (following f later state s o)

@@ -8,7 +8,7 @@ use Rattle.std.proofs.Math.Option.{Option, none, some}
 use Rattle.std.proofs.Math.Seq.{take-nil}
 use Rattle.drive_sets.specs.Bools.Laws.{by_test}
 use Rattle.drive_sets.specs.declared.Refusal.TheVariants.{EndsTooSoon, WrongMark, CountDiffers}
-use Rattle.drive_sets.specs.Refusals.{Outcome, refused, result, and_then}
+use Rattle.drive_sets.specs.Refusals.{Outcome, refused, yields, and_then}
 use Rattle.records.specs.declared.Kind.{Kind}
 use Rattle.records.specs.declared.Kind.TheVariants as kinds
 use Rattle.records.specs.declared.Due.{Due}
@@ -88,7 +88,7 @@ module _ {S B : Type 0} (f : ListFormat S) (finish : ReadList S → Outcome B) (
     (blind : (list : S) (rest : List ℕ) (j : ℕ) → most ≤ j → finish (record { list = list; rest = take j rest }) ≡ finish (record { list = list; rest = rest }))
     (own : (state : S) (k : ℕ) (s : List ℕ) → widest ≤ k → f.taken state (take k s) ≡ f.taken state s)
     (ends : (state : S) (k : ℕ) (s : List ℕ) → widest ≤ k → f.complete state (take k s) ≡ f.complete state s)
-    (left : S → ℕ) (falls : (state : S) (s : List ℕ) (t : S) → f.complete state s ≡ false → f.taken state s ≡ result t → left t < left state) where
+    (left : S → ℕ) (falls : (state : S) (s : List ℕ) (t : S) → f.complete state s ≡ false → f.taken state s ≡ yields t → left t < left state) where
   step_prefix : (state : S) (k : ℕ) (s : List ℕ) → widest ≤ k → step_of f state (take k s) ≡ step_of f state s
   unfolding step_of next_of
   step_prefix state k s h =
@@ -101,20 +101,20 @@ module _ {S B : Type 0} (f : ListFormat S) (finish : ReadList S → Outcome B) (
       counted (Record kind) =
           ap (λ (n : ℕ). cond (is_kind kinds.End kind) (cond (eqb n (f.count state)) End (Stop CountDiffers)) One) (field_prefix 2 1 k s (omega arith))
 
-  ends_alike : (state : S) (rest : List ℕ) (j : ℕ) → most ≤ j → Alike finish (result (record { list = state; rest = take j rest })) (result (record { list = state; rest = rest }))
+  ends_alike : (state : S) (rest : List ℕ) (j : ℕ) → most ≤ j → Alike finish (yields (record { list = state; rest = take j rest })) (yields (record { list = state; rest = rest }))
   ends_alike state rest j h = record { same = blind state rest j h }
 
   -- one step, where what is read behind a record is alike
   module _ (bytes bytes' : ℕ) (state : S) (s : List ℕ) (k : ℕ) (all : length s ≤ bytes) (all' : length (take k s) ≤ bytes') (h : widest + most ≤ k)
-      (later : (t : S) → f.complete state s ≡ false → f.taken state s ≡ result t
+      (later : (t : S) → f.complete state s ≡ false → f.taken state s ≡ yields t
       → Alike finish (read_from f (bytes' - 1) t (take (k - width_at s) (drop (width_at s) s))) (read_from f (bytes - 1) t (drop (width_at s) s))) where
     followed : f.complete state s ≡ false → (o : Outcome (Option S)) → step_of f state s ≡ o
         → Alike finish (and_then o (following f (read_from f (bytes' - 1)) state (take k s))) (and_then o (following f (read_from f (bytes - 1)) state s))
     followed going (refused r) e = no_other
-    followed going (result none) e =
-        subst (λ (l : List ℕ). Alike finish (result (record { list = state; rest = l })) (result (record { list = state; rest = drop 3 s }))) (sym (drop_prefix 3 k s))
+    followed going (yields none) e =
+        subst (λ (l : List ℕ). Alike finish (yields (record { list = state; rest = l })) (yields (record { list = state; rest = drop 3 s }))) (sym (drop_prefix 3 k s))
         (ends_alike state (drop 3 s) (k - 3) (omega arith))
-    followed going (result (some t)) e =
+    followed going (yields (some t)) e =
         subst (λ (l : List ℕ). Alike finish (read_from f (bytes' - 1) t l) (read_from f (bytes - 1) t (drop (width_at s) s)))
         (sym (ap (λ (kind : Kind). drop (2 + body_width kind) (take k s)) (kind_prefix k s (omega arith)) ∙ drop_prefix (width_at s) k s))
         (later t going (step_more f state s e).1)
@@ -123,7 +123,7 @@ module _ {S B : Type 0} (f : ListFormat S) (finish : ReadList S → Outcome B) (
     from_prefix =
         by_test (f.complete state s)
         (λ t. subst (λ (o : Outcome (ReadList S)). Alike finish o (read_from f bytes state s)) (sym (read_complete_law f bytes' state (take k s) (ends state k s (omega arith) ∙ t)))
-        (subst (Alike finish (result (record { list = state; rest = take k s }))) (sym (read_complete_law f bytes state s t)) (ends_alike state s k (omega arith))))
+        (subst (Alike finish (yields (record { list = state; rest = take k s }))) (sym (read_complete_law f bytes state s t)) (ends_alike state s k (omega arith))))
         (λ t. subst (λ (o : Outcome (ReadList S)). Alike finish o (read_from f bytes state s))
         (sym (read_step f bytes' state (take k s) all' (ends state k s (omega arith) ∙ t) ∙ ap (λ (o : Outcome (Option S)). and_then o (following f (read_from f (bytes' - 1)) state (take k s))) (step_prefix state k s (omega arith))))
         (subst (Alike finish (and_then (step_of f state s) (following f (read_from f (bytes' - 1)) state (take k s)))) (sym (read_step f bytes state s all t)) (followed t (step_of f state s) refl)))

@@ -7,7 +7,7 @@ use Prim.Native.Nat.{ℕ, zero, suc, ◌+◌, ◌*◌, ◌<◌}
 use Rattle.std.proofs.Math.ListN.{drop, length-append}
 use Rattle.drive_sets.specs.Bools.Laws.{cond_false}
 use Rattle.drive_sets.specs.declared.Refusal.TheVariants.{CountDiffers}
-use Rattle.drive_sets.specs.Refusals.{Outcome, refused, result, and_then}
+use Rattle.drive_sets.specs.Refusals.{Outcome, refused, yields, and_then}
 use Rattle.records.specs.declared.Kind.{Kind}
 use Rattle.records.specs.declared.Kind.TheVariants as kinds
 use Rattle.records.specs.declared.Head.{Head}
@@ -58,7 +58,7 @@ module _ {S : Type 0} (f : ListFormat S) where
 
         then_some : (o : Outcome S) → and_then (step_at One o) (following f (read_from f bytes) state s) ≡ and_then o (λ t. read_from f bytes t (drop (width_at s) s))
         then_some (refused r) = refl
-        then_some (result t) = refl
+        then_some (yields t) = refl
 
         behind : drop (2 + body_width kind) s ≡ rest
         behind =
@@ -67,7 +67,7 @@ module _ {S : Type 0} (f : ListFormat S) where
 
     -- one of one field
     read_record : (kind : Kind) (bytes x : ℕ) {t : S} → is_due (f.due state) kind ≡ true → is_kind kinds.End kind ≡ false → Going state
-        → f.taken state (record_bytes (mark kind) (body_width kind) x ++ rest) ≡ result t
+        → f.taken state (record_bytes (mark kind) (body_width kind) x ++ rest) ≡ yields t
         → read_from f (suc bytes) state (record_bytes (mark kind) (body_width kind) x ++ rest) ≡ read_from f bytes t rest
     unfolding record_bytes
     read_record kind bytes x due no_end going e =
@@ -78,7 +78,7 @@ module _ {S : Type 0} (f : ListFormat S) where
 
     -- EN with the count
     read_end : (bytes : ℕ) → Going state → is_due (f.due state) kinds.End ≡ true → f.count state < 256
-        → read_from f (suc bytes) state (record_bytes (mark kinds.End) 1 (f.count state) ++ rest) ≡ result (record { list = state; rest = rest })
+        → read_from f (suc bytes) state (record_bytes (mark kinds.End) 1 (f.count state) ++ rest) ≡ yields (record { list = state; rest = rest })
     unfolding read_from step_of next_of is_kind body_width
     read_end bytes going due few =
         cond_false _ _ (going s)
@@ -86,7 +86,7 @@ module _ {S : Type 0} (f : ListFormat S) where
         ∙ (ap (λ (b : Bool). and_then (step_at (cond (eqb (mark kinds.End) (mark kinds.End)) (cond b End (Stop CountDiffers)) One) (f.taken state s)) (following f (read_from f bytes) state s))
         (eq-eqb (field_at 2 1 s) (f.count state) (record_field (mark kinds.End) 1 (f.count state) rest few))
         ∙ (ap (λ (b : Bool). and_then (step_at (cond b End One) (f.taken state s)) (following f (read_from f bytes) state s)) (eq-eqb (mark kinds.End) (mark kinds.End) refl)
-        ∙ ap (λ (l : List ℕ). result (record { list = state; rest = l })) (record_rest (mark kinds.End) 1 (f.count state) rest))))
+        ∙ ap (λ (l : List ℕ). yields (record { list = state; rest = l })) (record_rest (mark kinds.End) 1 (f.count state) rest))))
       where
         s : List ℕ
         s = record_bytes (mark kinds.End) 1 (f.count state) ++ rest
@@ -97,12 +97,12 @@ module _ {S : Type 0} (f : ListFormat S) where
     Leads state [] last = state ≡ last
     Leads state (x ∷ xs) last =
         (t : S) × Going state × (is_due (f.due state) kind ≡ true)
-        × ((rest : List ℕ) → f.taken state (record_bytes (mark kind) (body_width kind) x ++ rest) ≡ result t) × Leads t xs last
+        × ((rest : List ℕ) → f.taken state (record_bytes (mark kind) (body_width kind) x ++ rest) ≡ yields t) × Leads t xs last
 
     -- a list that was written is read back, with anything behind it
     pub list_back : is_kind kinds.End kind ≡ false → (xs : List ℕ) (bytes : ℕ) (state last : S) (rest : List ℕ) → length xs < bytes → Leads state xs last
         → Going last → is_due (f.due last) kinds.End ≡ true → f.count last < 256
-        → read_from f bytes state (list_bytes kind xs ++ (record_bytes (mark kinds.End) 1 (f.count last) ++ rest)) ≡ result (record { list = last; rest = rest })
+        → read_from f bytes state (list_bytes kind xs ++ (record_bytes (mark kinds.End) 1 (f.count last) ++ rest)) ≡ yields (record { list = last; rest = rest })
     unfolding list_bytes
     list_back no_end xs zero state last rest h w going due few = absurd (omega arith)
     list_back no_end [] (suc bytes) state last rest h w going due few =

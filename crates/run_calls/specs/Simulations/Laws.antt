@@ -3,7 +3,7 @@ use Rattle.std.specs.Prelude.{refl, not, ℕ, ltb}
 use mathlib.Core.List.{List, [], ◌∷◌}
 use Rattle.drive_sets.specs.Counts.{is_round}
 use Rattle.drive_sets.specs.Masks.{lowest}
-use Rattle.drive_sets.specs.Refusals.{Outcome, result}
+use Rattle.drive_sets.specs.Refusals.{Outcome, yields}
 use Rattle.drive_sets.specs.Refusals.Numbered.{Numbered, result_numbered, if_numbered, then_numbered}
 use Rattle.drive_sets.specs.Positions.{is_none}
 use Rattle.survivor_tables.specs.Hitting.{first_missed}
@@ -67,7 +67,7 @@ file_numbered : (n : ℕ) (sets s : List ℕ) → Numbered (read_run_file n sets
 unfolding read_run_file chosen_core read_behind whole_run untouched_left
 file_numbered n sets s =
     then_numbered (chosen_core n sets) _
-    (then_numbered (normal_table n sets) (λ table. result (chosen table)) (normal_numbered n sets) (λ table. result_numbered))
+    (then_numbered (normal_table n sets) (λ table. yields (chosen table)) (normal_numbered n sets) (λ table. result_numbered))
     (λ core. then_numbered (read_records n core s) (whole_run sets) (records_numbered n core s)
     (λ r. if_numbered (not (is_empty r.rest)) 7 refl (if_numbered (is_none (first_missed sets (crashed r.file.crashes))) 11 refl result_numbered)))
 

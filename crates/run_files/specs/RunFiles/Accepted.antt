@@ -15,7 +15,7 @@ use Rattle.drive_sets.specs.Masks.Sizes.{has_of_drives}
 use Rattle.drive_sets.specs.Options.{is_some}
 use Rattle.drive_sets.specs.Options.Laws.{none_some, same_some, none_of}
 use Rattle.drive_sets.specs.declared.Refusal.TheVariants.{TrailingBytes, NoneUntouched}
-use Rattle.drive_sets.specs.Refusals.{result}
+use Rattle.drive_sets.specs.Refusals.{yields}
 use Rattle.drive_sets.specs.Refusals.Laws.{same_result, passed, first_result}
 use Rattle.drive_sets.specs.Positions.{is_none}
 use Rattle.survivor_tables.specs.Hitting.{first_missed}
@@ -122,7 +122,7 @@ pub record Accepted (n : ℕ) (sets s : List ℕ) (f : RunFile) : Type 0 where
   pub with_crash_law : (d : ℕ) → has d (crashed f.crashes) ≡ is_some (crash_of f.crashes d)
   pub untouched : (set : ℕ) × (elem set sets ≡ true) × ((d : ℕ) → has d set ≡ true → crash_of f.crashes d ≡ none)
 
-pub not_refused : (n : ℕ) (sets s : List ℕ) (f : RunFile) → read_run_file n sets s ≡ result f → Accepted n sets s f
+pub not_refused : (n : ℕ) (sets s : List ℕ) (f : RunFile) → read_run_file n sets s ≡ yields f → Accepted n sets s f
 unfolding read_run_file read_behind read_records whole_run untouched_left
 not_refused n sets s f e =
     let found = first_result (chosen_core n sets) (λ k. read_behind n k sets s) e in

@@ -4,7 +4,7 @@ use Rattle.std.proofs.Math.Path.{refl, ap}
 use Rattle.std.proofs.Common.{◌∙◌, ⊎_elim}
 use Rattle.drive_sets.specs.Bools.Laws.{or_cases}
 use Rattle.drive_sets.specs.declared.Refusal.TheVariants.{WrongMark}
-use Rattle.drive_sets.specs.Refusals.{Outcome, refused, result, and_then, number}
+use Rattle.drive_sets.specs.Refusals.{Outcome, refused, yields, and_then, number}
 use Rattle.drive_sets.specs.Refusals.Laws.{then_same, then_assoc, then_then}
 use Rattle.records.specs.declared.Due.TheVariants.{AtProposal, AtRecordOrEnd}
 use Rattle.records.specs.declared.Kind.TheVariants.{Crash, Proposal, WideProposal}
@@ -30,8 +30,8 @@ module _ (n core : ℕ) (sets : List ℕ) where
   unfolding read_behind read_records read_proposals behind_numbers
   behind_is s =
       let read = read_list (proposal_list n) (no_proposal n core) s in
-      then_assoc (and_then read (λ p. result (numbers_read p))) (λ p. and_then (read_list (crash_list n core) no_crash p.rest) (λ c. result (said p.list c))) (whole_run sets)
-      ∙ (then_then read numbers_read (λ p. and_then (and_then (read_list (crash_list n core) no_crash p.rest) (λ c. result (said p.list c))) (whole_run sets))
+      then_assoc (and_then read (λ p. yields (numbers_read p))) (λ p. and_then (read_list (crash_list n core) no_crash p.rest) (λ c. yields (said p.list c))) (whole_run sets)
+      ∙ (then_then read numbers_read (λ p. and_then (and_then (read_list (crash_list n core) no_crash p.rest) (λ c. yields (said p.list c))) (whole_run sets))
       ∙ then_same read (λ p e. then_then (read_list (crash_list n core) no_crash p.rest) (said p.list.numbers) (whole_run sets)))
 
   -- a PR or PW behind the records

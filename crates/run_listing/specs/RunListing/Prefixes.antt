@@ -4,7 +4,7 @@ use Rattle.std.specs.Prelude.{◌≡◌, refl, Bool, not, List, [], ◌∷◌, �
 use Rattle.std.proofs.Common.{sym, ◌∙◌, arith}
 use Rattle.std.proofs.Math.Path.{ap}
 use Rattle.drive_sets.specs.declared.Refusal.TheVariants.{TrailingBytes}
-use Rattle.drive_sets.specs.Refusals.{Outcome, result, refuse_if, and_then}
+use Rattle.drive_sets.specs.Refusals.{Outcome, yields, refuse_if, and_then}
 use Rattle.drive_sets.specs.Refusals.Laws.{same_result, first_result, then_same, then_assoc, then_then}
 use Rattle.records.specs.Fields.{field_at}
 use Rattle.records.specs.declared.Kind.{Kind}
@@ -39,10 +39,10 @@ crash_prefix n core l k s h =
     let m = field_prefix 4 1 k s (omega arith) in
     rw (d, r, m)
 
-crashes_left : (n core : ℕ) (l : CrashList) (s : List ℕ) (t : CrashList) → taken_crash n core l s ≡ result t → n - t.last < n - l.last
+crashes_left : (n core : ℕ) (l : CrashList) (s : List ℕ) (t : CrashList) → taken_crash n core l s ≡ yields t → n - t.last < n - l.last
 unfolding taken_crash
 crashes_left n core l s t e =
-    let w = first_result (checked_crash n core l.last (crash_fields s)) (λ c. result (record { crashes = l.crashes ++ (c ∷ []); last = c.drive })) e in
+    let w = first_result (checked_crash n core l.last (crash_fields s)) (λ c. yields (record { crashes = l.crashes ++ (c ∷ []); last = c.drive })) e in
     let p = checked_passes n core l.last (crash_fields s) w.1 in
     let b = next_bounds n l.last (crash_fields s).drive p.1.next in
     omega (arith, b.1, b.2, ap (λ (c : CrashRecord). c.drive) p.0, ap (λ (x : CrashList). x.last) (same_result w.2))
@@ -57,7 +57,7 @@ proposals_end_law : (n : ℕ) (l : ProposalList) (k : ℕ) (s : List ℕ) → wi
 unfolding proposals_end
 proposals_end_law n l k s h = rw (kind_prefix k s (omega arith))
 
-proposals_left : (n : ℕ) (l : ProposalList) (s : List ℕ) (t : ProposalList) → taken_proposal n l s ≡ result t → n - t.last < n - l.last
+proposals_left : (n : ℕ) (l : ProposalList) (s : List ℕ) (t : ProposalList) → taken_proposal n l s ≡ yields t → n - t.last < n - l.last
 unfolding with_proposal
 proposals_left n l s t e =
     let w = was_taken n l s e in

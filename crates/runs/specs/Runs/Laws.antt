@@ -4,7 +4,7 @@ use Rattle.std.specs.Prelude.{◌≡◌, refl, Bool, true, false, ◌&&◌, ◌|
 use Rattle.std.proofs.Common.{sym, ap, ap₂, ◌∙◌, ⊎_elim, eqb-true, eq-eqb}
 use Rattle.std.proofs.lemmas.Bool.{not-true}
 use Rattle.drive_sets.specs.Bools.Laws.{clash, and_intro, and_left, and_right, and_not, or_cases, or_false_left, or_false_right}
-use Rattle.drive_sets.specs.Refusals.{Outcome, refused, result}
+use Rattle.drive_sets.specs.Refusals.{Outcome, refused, yields}
 use Rattle.drive_sets.specs.Counts.{is_drive}
 use Rattle.survivor_tables.specs.Order.{normal}
 use Rattle.survivor_tables.specs.Order.Normal.{normal_idempotent}
@@ -31,25 +31,25 @@ same_list_refl (x ∷ l) = and_intro (eq-eqb x x refl) (same_list_refl l)
 
 -- ---- openings
 
-pub table_is : (o : Outcome (List ℕ)) (table : List ℕ) → is_table o table ≡ true → o ≡ result table
+pub table_is : (o : Outcome (List ℕ)) (table : List ℕ) → is_table o table ≡ true → o ≡ yields table
 unfolding is_table
 table_is (refused r) table h = absurd (clash h refl)
-table_is (result given) table h = ap result (same_list_true given table h)
+table_is (yields given) table h = ap yields (same_list_true given table h)
 
-pub is_table_law : {o : Outcome (List ℕ)} {table : List ℕ} → o ≡ result table → is_table o table ≡ true
+pub is_table_law : {o : Outcome (List ℕ)} {table : List ℕ} → o ≡ yields table → is_table o table ≡ true
 unfolding is_table
 is_table_law {table = table} e = rw e (same_list_refl table)
 
 -- the normal table, which the reader hands back, is one of the listings of a table
-pub normal_listing : (n : ℕ) (sets : List ℕ) → normal_table n sets ≡ result (normal sets) → normal_table n (normal sets) ≡ result (normal sets)
-normal_listing n sets e = accepted_table n (normal sets) (accepted_normal n sets (table_accepted n sets (normal sets) e).0) ∙ ap result (normal_idempotent sets)
+pub normal_listing : (n : ℕ) (sets : List ℕ) → normal_table n sets ≡ yields (normal sets) → normal_table n (normal sets) ≡ yields (normal sets)
+normal_listing n sets e = accepted_table n (normal sets) (accepted_normal n sets (table_accepted n sets (normal sets) e).0) ∙ ap yields (normal_idempotent sets)
 
 -- the call opens a drive of the frame that was not opened yet, as the scenario asks for, from a listing of its table
 pub record Opens (s : Scenario) (done : ℕ → Bool) (c : Call) (d : ℕ) : Type 0 where
   pub in_frame_law : is_drive s.n d ≡ true
   pub new : done d ≡ false
   pub listing : List ℕ
-  pub table : normal_table s.n listing ≡ result (normal s.sets)
+  pub table : normal_table s.n listing ≡ yields (normal s.sets)
   pub is : c ≡ opens d s.n listing d (s.proposal d)
 
 pub due_opens : (s : Scenario) (done : ℕ → Bool) (c : Call) → due_opening s done c ≡ true → Opens s done c (drive_of c)

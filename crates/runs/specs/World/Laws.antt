@@ -6,7 +6,7 @@ use Rattle.std.proofs.Common.{◌∙◌, subst}
 use mathlib.Core.List.{List, [], ◌∷◌, ◌++◌}
 use borrow.Author.Tests.{eqb-true, eq-eqb}
 use Rattle.drive_sets.specs.Bools.Laws.{clash, by_test, cond_true, cond_false}
-use Rattle.drive_sets.specs.Refusals.{Outcome, refused, result}
+use Rattle.drive_sets.specs.Refusals.{Outcome, refused, yields}
 use Rattle.drive_states.specs.declared.Exchange.{Exchange}
 use Rattle.runs.specs.Protocol.{Protocol}
 use Rattle.runs.specs.World.{Call, opens, sends, delivers, closes, drive_of, Slot, unopened, opened, World, put, after_call, on_state, apply, apply_all, is_refused, refused_by, refused_in}
@@ -46,17 +46,17 @@ module _ (P : Protocol) where
 
 -- c, made on the world w, is not refused and gives drive d the state y
 pub data Gives (P : Protocol) (w : World) (d : ℕ) : Call → Exchange → Type 0 where
-  by_opening : {n : ℕ} {sets : List ℕ} {own number : ℕ} {y : Exchange} → P.opening n sets own number ≡ result y → Gives P w d (opens d n sets own number) y
-  by_message : {x y : Exchange} {bytes : List ℕ} → w d ≡ opened x → P.receiving x bytes ≡ result y → Gives P w d (delivers d bytes) y
-  by_close : {x y : Exchange} → w d ≡ opened x → P.closing x ≡ result y → Gives P w d (closes d) y
+  by_opening : {n : ℕ} {sets : List ℕ} {own number : ℕ} {y : Exchange} → P.opening n sets own number ≡ yields y → Gives P w d (opens d n sets own number) y
+  by_message : {x y : Exchange} {bytes : List ℕ} → w d ≡ opened x → P.receiving x bytes ≡ yields y → Gives P w d (delivers d bytes) y
+  by_close : {x y : Exchange} → w d ≡ opened x → P.closing x ≡ yields y → Gives P w d (closes d) y
 
 module _ {ℓ} (K : Slot → Type ℓ) where
-  after_call_law : (slot : Slot) (o : Outcome Exchange) → K slot → ((y : Exchange) → o ≡ result y → K (opened y)) → K (after_call slot o)
+  after_call_law : (slot : Slot) (o : Outcome Exchange) → K slot → ((y : Exchange) → o ≡ yields y → K (opened y)) → K (after_call slot o)
   unfolding after_call
   after_call_law slot (refused r) same given = same
-  after_call_law slot (result y) same given = given y refl
+  after_call_law slot (yields y) same given = given y refl
 
-  on_state_law : (call : Exchange → Outcome Exchange) (slot : Slot) → K slot → ((x y : Exchange) → slot ≡ opened x → call x ≡ result y → K (opened y))
+  on_state_law : (call : Exchange → Outcome Exchange) (slot : Slot) → K slot → ((x y : Exchange) → slot ≡ opened x → call x ≡ yields y → K (opened y))
       → K (on_state call slot)
   unfolding on_state
   on_state_law call unopened same given = same

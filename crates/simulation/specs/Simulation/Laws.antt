@@ -13,7 +13,7 @@ use Rattle.drive_sets.specs.Lists.Laws.{elem_head, elem_tail, elem_cases, elem_n
 use Rattle.drive_sets.specs.Masks.{size}
 use Rattle.drive_sets.specs.Masks.Laws.{meets_not}
 use Rattle.drive_sets.specs.Masks.Sizes.{has_of_drives}
-use Rattle.drive_sets.specs.Refusals.{Outcome, result}
+use Rattle.drive_sets.specs.Refusals.{Outcome, yields}
 use Rattle.drive_sets.specs.Refusals.Laws.{passed, first_result, same_result}
 use Rattle.drive_sets.specs.Positions.{is_none}
 use Rattle.survivor_tables.specs.Hitting.{first_missed}
@@ -44,7 +44,7 @@ AllChecked n core [] = Unit {0}
 AllChecked n core (c ∷ cs) = Checked n core c × AllChecked n core cs
 
 module _ {A : Type 0} (n core : ℕ) (next : Outcome A) {a : A} where
-  all_checked : (last : ℕ) (crs : List CrashRecord) → checked_crashes n core last crs next ≡ result a → AllChecked n core crs × (next ≡ result a)
+  all_checked : (last : ℕ) (crs : List CrashRecord) → checked_crashes n core last crs next ≡ yields a → AllChecked n core crs × (next ≡ yields a)
   unfolding checked_crashes checked_crash is_next
   all_checked last [] e = (tt, e)
   all_checked last (c ∷ cs) e =
@@ -104,7 +104,7 @@ named_bounds n core (c ∷ cs) all d h =
 -- ---- the scenario of an accepted table and records that pass
 
 module _ (n : ℕ) (sets numbers : List ℕ) (crs : List CrashRecord)
-    (accepted : normal_table n sets ≡ result (normal sets)) (patterns : (d : ℕ) → is_drive n d ≡ true → get_or numbers (d - 1) 0 < pattern_limit) where
+    (accepted : normal_table n sets ≡ yields (normal sets)) (patterns : (d : ℕ) → is_drive n d ≡ true → get_or numbers (d - 1) 0 < pattern_limit) where
   records_valid : AllChecked n (chosen (normal sets)) crs → Valid (scenario n sets numbers crs)
   unfolding scenario core_of is_round most_sends
   records_valid records = record { accepted = accepted; patterns = patterns; passes = passes }
@@ -120,17 +120,17 @@ module _ (n : ℕ) (sets numbers : List ℕ) (crs : List CrashRecord)
             of_listener = λ t. omega (arith, subst (λ (x : ℕ). sends ≤ x) (cond_false _ _ t) c.sends);
           }
 
-  pub checked_valid : checked_crashes n (chosen (normal sets)) 0 crs (result crs) ≡ result crs → Valid (scenario n sets numbers crs)
-  checked_valid e = records_valid (all_checked n (chosen (normal sets)) (result crs) 0 crs e).0
+  pub checked_valid : checked_crashes n (chosen (normal sets)) 0 crs (yields crs) ≡ yields crs → Valid (scenario n sets numbers crs)
+  checked_valid e = records_valid (all_checked n (chosen (normal sets)) (yields crs) 0 crs e).0
 
 -- ---- the call
 
-module _ (n : ℕ) (sets numbers : List ℕ) (crs : List CrashRecord) {r : Simulated} (e : simulated n sets numbers crs ≡ result r) where
+module _ (n : ℕ) (sets numbers : List ℕ) (crs : List CrashRecord) {r : Simulated} (e : simulated n sets numbers crs ≡ yields r) where
   abbrev given : Scenario
   given = scenario n sets numbers crs
 
   record Accept : Type 0 where
-    accepted : normal_table n sets ≡ result (normal sets)
+    accepted : normal_table n sets ≡ yields (normal sets)
     table : Accepted n sets
     records : AllChecked n (chosen (normal sets)) crs
     untouched : is_none (first_missed sets (crashed crs)) ≡ false
@@ -144,7 +144,7 @@ module _ (n : ℕ) (sets numbers : List ℕ) (crs : List CrashRecord) {r : Simul
       let checks = all_checked n (chosen first.0) _ 0 crs first.2 in
       let left = passed (is_none (first_missed sets (crashed crs))) NoneUntouched _ checks.1 in
       record {
-        accepted = first.1 ∙ ap result table.1;
+        accepted = first.1 ∙ ap yields table.1;
         table = table.0;
         records = subst (λ (t : List ℕ). AllChecked n (chosen t) crs) table.1 checks.0;
         untouched = left.0;

@@ -13,7 +13,7 @@ use Rattle.drive_sets.specs.Lists.Laws.{elem_some, elem_head, elem_tail, elem_no
 use Rattle.drive_sets.specs.Lists.Places.{get_or_elem}
 use Rattle.drive_sets.specs.Masks.{has, single, full, common, subset, meets, Below}
 use Rattle.drive_sets.specs.Masks.Laws.{full_lt, full_has, full_subset, has_some, has_bounds, has_meets}
-use Rattle.drive_sets.specs.Refusals.{Outcome, refused, result, refuse_if}
+use Rattle.drive_sets.specs.Refusals.{Outcome, refused, yields, refuse_if}
 use Rattle.drive_sets.specs.Refusals.Laws.{refused_no_result, passed, refused_by_law, same_result, first_result, first_refused}
 use Rattle.survivor_tables.specs.declared.frames.MaskKind.{MaskKind}
 use Rattle.survivor_tables.specs.declared.frames.MaskKind.TheVariants.{SurvivorSet, FaultGroup}
@@ -49,12 +49,12 @@ some_not_empty (x ∷ l) h = refl
 -- ---- what it is for n and masks to meet nothing before 13
 
 -- a mask that meets nothing is given as it is
-mask_same : (kind : MaskKind) (n m : ℕ) {x : ℕ} → checked_mask kind n m ≡ result x → m ≡ x
+mask_same : (kind : MaskKind) (n m : ℕ) {x : ℕ} → checked_mask kind n m ≡ yields x → m ≡ x
 unfolding checked_mask
-mask_same SurvivorSet n m e = same_result (passed (not (is_set n m)) BadSet (result m) e).1
-mask_same FaultGroup n m e = let within = passed (not (subset m (full n))) BadSet _ e in same_result (passed (eqb m (full n)) AllDrives (result m) within.1).1
+mask_same SurvivorSet n m e = same_result (passed (not (is_set n m)) BadSet (yields m) e).1
+mask_same FaultGroup n m e = let within = passed (not (subset m (full n))) BadSet _ e in same_result (passed (eqb m (full n)) AllDrives (yields m) within.1).1
 
-pub mask_result : (kind : MaskKind) (n m : ℕ) {x : ℕ} → checked_mask kind n m ≡ result x → checked_mask kind n x ≡ result x
+pub mask_result : (kind : MaskKind) (n m : ℕ) {x : ℕ} → checked_mask kind n m ≡ yields x → checked_mask kind n x ≡ yields x
 mask_result kind n m e = ap (checked_mask kind n) (sym (mask_same kind n m e)) ∙ e
 
 pub set_lt : (n s : ℕ) → is_set n s ≡ true → s < 2 ^ n
@@ -62,47 +62,47 @@ unfolding is_set
 set_lt n s e = full_subset n s (and_right (not (eqb s 0)) (subset s (full n)) e)
 
 -- a survivor set that meets nothing is a set of the frame, and the other way round
-mask_set : (n s : ℕ) {x : ℕ} → checked_mask SurvivorSet n s ≡ result x → is_set n s ≡ true
+mask_set : (n s : ℕ) {x : ℕ} → checked_mask SurvivorSet n s ≡ yields x → is_set n s ≡ true
 unfolding checked_mask
-mask_set n s e = not-false (is_set n s) (passed (not (is_set n s)) BadSet (result s) e).0
+mask_set n s e = not-false (is_set n s) (passed (not (is_set n s)) BadSet (yields s) e).0
 
-pub set_mask : (n s : ℕ) → is_set n s ≡ true → checked_mask SurvivorSet n s ≡ result s
+pub set_mask : (n s : ℕ) → is_set n s ≡ true → checked_mask SurvivorSet n s ≡ yields s
 unfolding checked_mask
 set_mask n s e = cond_false _ _ (ap not e)
 
 -- a fault group that meets nothing lies within the frame and is not all of it, and the other way round
-pub mask_group : (n g : ℕ) {x : ℕ} → checked_mask FaultGroup n g ≡ result x → (subset g (full n) ≡ true) × (g ≡ full n → ⊥)
+pub mask_group : (n g : ℕ) {x : ℕ} → checked_mask FaultGroup n g ≡ yields x → (subset g (full n) ≡ true) × (g ≡ full n → ⊥)
 unfolding checked_mask
 mask_group n g e =
     let within = passed (not (subset g (full n))) BadSet _ e in
-    (not-false (subset g (full n)) within.0, eqb-false g (full n) (passed (eqb g (full n)) AllDrives (result g) within.1).0)
+    (not-false (subset g (full n)) within.0, eqb-false g (full n) (passed (eqb g (full n)) AllDrives (yields g) within.1).0)
 
-pub group_mask : (n g : ℕ) → subset g (full n) ≡ true → (g ≡ full n → ⊥) → checked_mask FaultGroup n g ≡ result g
+pub group_mask : (n g : ℕ) → subset g (full n) ≡ true → (g ≡ full n → ⊥) → checked_mask FaultGroup n g ≡ yields g
 unfolding checked_mask
 group_mask n g e ne = cond_false _ _ (ap not e) ∙ cond_false _ _ (ne_eqb g (full n) ne)
 
 -- either lies within the frame
-pub mask_lt : (kind : MaskKind) (n m : ℕ) {x : ℕ} → checked_mask kind n m ≡ result x → m < 2 ^ n
+pub mask_lt : (kind : MaskKind) (n m : ℕ) {x : ℕ} → checked_mask kind n m ≡ yields x → m < 2 ^ n
 mask_lt SurvivorSet n m e = set_lt n m (mask_set n m e)
 mask_lt FaultGroup n m e = full_subset n m (mask_group n m e).0
 
 -- each of the masks
 module _ {A : Type 0} (kind : MaskKind) (n : ℕ) (next : Outcome A) where
   abbrev Good : List ℕ → Type 0
-  Good masks = (m : ℕ) → elem m masks ≡ true → checked_mask kind n m ≡ result m
+  Good masks = (m : ℕ) → elem m masks ≡ true → checked_mask kind n m ≡ yields m
 
   each_good : (masks : List ℕ) → Good masks → each_mask kind n masks next ≡ next
   unfolding each_mask
   each_good [] good = refl
   each_good (m ∷ masks) good = rw (good m (elem_head m masks)) (each_good masks (λ x h. good x (elem_tail x m masks h)))
 
-  each_passed : (masks : List ℕ) {a : A} → each_mask kind n masks next ≡ result a → Good masks × (next ≡ result a)
+  each_passed : (masks : List ℕ) {a : A} → each_mask kind n masks next ≡ yields a → Good masks × (next ≡ yields a)
   unfolding each_mask
   each_passed [] e = ((λ m h. absurd (clash h (elem_none m))), e)
   each_passed (m ∷ masks) e =
       let first = first_result (checked_mask kind n m) (λ good. each_mask kind n masks next) e in
       let rest = each_passed masks first.2 in
-      ((λ x h. ⊎_elim (λ same. subst (λ (y : ℕ). checked_mask kind n y ≡ result y) (sym (same ∙ mask_same kind n m first.1)) (mask_result kind n m first.1)) (rest.0 x) (elem_cases x m masks h)), rest.1)
+      ((λ x h. ⊎_elim (λ same. subst (λ (y : ℕ). checked_mask kind n y ≡ yields y) (sym (same ∙ mask_same kind n m first.1)) (mask_result kind n m first.1)) (rest.0 x) (elem_cases x m masks h)), rest.1)
 
 -- of survivor sets, that is 4 unless each is a set of the frame
 pub each_set : {A : Type 0} (n : ℕ) (sets : List ℕ) (next : Outcome A) → each_mask SurvivorSet n sets next ≡ refuse_if (not (all (is_set n) sets)) BadSet next
@@ -114,16 +114,16 @@ pub record Checked (kind : MaskKind) (n : ℕ) (masks : List ℕ) : Type 0 where
   pub frame : is_frame n ≡ true
   pub some : 1 ≤ length masks
   pub most : length masks ≤ max_sets
-  pub good : (m : ℕ) → elem m masks ≡ true → checked_mask kind n m ≡ result m
+  pub good : (m : ℕ) → elem m masks ≡ true → checked_mask kind n m ≡ yields m
 
 module _ (kind : MaskKind) (n : ℕ) (masks : List ℕ) where
-  pub masks_checked : {l : List ℕ} → checked_masks kind n masks ≡ result l → Checked kind n masks × (masks ≡ l)
+  pub masks_checked : {l : List ℕ} → checked_masks kind n masks ≡ yields l → Checked kind n masks × (masks ≡ l)
   unfolding checked_masks
   masks_checked e =
       let frame = passed (not (is_frame n)) FrameSize _ e in
       let some = passed (is_empty masks) WrongMark _ frame.1 in
       let most = passed (ltb max_sets (length masks)) TooManySets _ some.1 in
-      let good = each_passed kind n (result masks) masks most.1 in (
+      let good = each_passed kind n (yields masks) masks most.1 in (
         record {
           frame = not-false (is_frame n) frame.0;
           some = not_empty masks some.0;
@@ -133,10 +133,10 @@ module _ (kind : MaskKind) (n : ℕ) (masks : List ℕ) where
         same_result good.1,
       )
 
-  pub checked_masks_law : Checked kind n masks → checked_masks kind n masks ≡ result masks
+  pub checked_masks_law : Checked kind n masks → checked_masks kind n masks ≡ yields masks
   unfolding checked_masks
   checked_masks_law c =
-      rw (c.frame, some_not_empty masks c.some, le-ltb max_sets (length masks) c.most) (each_good kind n (result masks) masks c.good)
+      rw (c.frame, some_not_empty masks c.some, le-ltb max_sets (length masks) c.most) (each_good kind n (yields masks) masks c.good)
 
 -- ---- what it is for n and sets to meet no refusal
 
@@ -156,13 +156,13 @@ checked_accepted n sets c few = record {
 }
 
 -- where the normal table is given, it is that of the sets, and they have few cores
-pub within_limit : (sets : List ℕ) {table : List ℕ} → within_core_limit sets ≡ result table → (length (cores (normal sets)) ≤ max_cores) × (table ≡ normal sets)
+pub within_limit : (sets : List ℕ) {table : List ℕ} → within_core_limit sets ≡ yields table → (length (cores (normal sets)) ≤ max_cores) × (table ≡ normal sets)
 unfolding within_core_limit
 within_limit sets e =
     let few = passed (ltb max_cores (length (cores (normal sets)))) TooManyCores _ e in
     (ltb-false max_cores (length (cores (normal sets))) few.0, sym (same_result few.1))
 
-pub table_accepted : (n : ℕ) (sets table : List ℕ) → normal_table n sets ≡ result table → Accepted n sets × (table ≡ normal sets)
+pub table_accepted : (n : ℕ) (sets table : List ℕ) → normal_table n sets ≡ yields table → Accepted n sets × (table ≡ normal sets)
 unfolding normal_table
 table_accepted n sets table e =
     let first = first_result (checked_sets n sets) within_core_limit e in
@@ -180,7 +180,7 @@ table_refused n sets e =
     ⊎_elim (λ x. omega arith) (λ x.
     ⊎_elim (λ y. omega arith) (λ y.
     ⊎_elim (λ z. omega arith) (λ z. absurd (refused_no_result (sym z.1)))
-    (refused_by_law (not (all (is_set n) sets)) BadSet _ (sym (each_set n sets (result sets)) ∙ y.1)))
+    (refused_by_law (not (all (is_set n) sets)) BadSet _ (sym (each_set n sets (yields sets)) ∙ y.1)))
     (refused_by_law (ltb max_sets (length sets)) TooManySets _ x.1))
     (refused_by_law (is_empty sets) WrongMark _ w.1))
     (refused_by_law (not (is_frame n)) FrameSize _ h))
@@ -188,7 +188,7 @@ table_refused n sets e =
     (refused_by_law (ltb max_cores (length (cores (normal w.0)))) TooManyCores _ w.2))
     (first_refused (checked_sets n sets) within_core_limit e)
 
-pub accepted_within_limit : (n : ℕ) (sets : List ℕ) → Accepted n sets → within_core_limit sets ≡ result (normal sets)
+pub accepted_within_limit : (n : ℕ) (sets : List ℕ) → Accepted n sets → within_core_limit sets ≡ yields (normal sets)
 unfolding within_core_limit
 accepted_within_limit n sets a = cond_false _ _ (le-ltb max_cores (length (cores (normal sets))) a.few_cores)
 
@@ -199,15 +199,15 @@ accepted_frame n sets a = and_intro (le-leb 1 n a.low) (le-leb n max_drives a.hi
 pub accepted_checked : (n : ℕ) (sets : List ℕ) → Accepted n sets → Checked SurvivorSet n sets
 accepted_checked n sets a = record { frame = accepted_frame n sets a; some = a.some; most = a.most; good = λ s h. set_mask n s (a.good s h) }
 
-pub accepted_table : (n : ℕ) (sets : List ℕ) → Accepted n sets → normal_table n sets ≡ result (normal sets)
+pub accepted_table : (n : ℕ) (sets : List ℕ) → Accepted n sets → normal_table n sets ≡ yields (normal sets)
 unfolding normal_table
 accepted_table n sets a = rw (checked_masks_law SurvivorSet n sets (accepted_checked n sets a)) (accepted_within_limit n sets a)
 
 -- a chosen core that is given is that of an accepted table
-pub core_given : (n : ℕ) (sets : List ℕ) {core : ℕ} → chosen_core n sets ≡ result core → Accepted n sets × (chosen (normal sets) ≡ core)
+pub core_given : (n : ℕ) (sets : List ℕ) {core : ℕ} → chosen_core n sets ≡ yields core → Accepted n sets × (chosen (normal sets) ≡ core)
 unfolding chosen_core
 core_given n sets e =
-    let first = first_result (normal_table n sets) (λ table. result (chosen table)) e in
+    let first = first_result (normal_table n sets) (λ table. yields (chosen table)) e in
     let table = table_accepted n sets first.0 first.1 in
     (table.0, ap chosen (sym table.1) ∙ same_result first.2)
 
@@ -292,7 +292,7 @@ module _ (groups : List ℕ) (word : Below 64 groups) where
   dual_unique = listed_unique by_mask groups word by_mask_strict
 
 -- where the call is accepted, it gives that list
-pub survivor_sets_dual : (n : ℕ) (groups sets : List ℕ) → survivor_sets n groups ≡ result sets → Below 64 groups × (sets ≡ dual groups)
+pub survivor_sets_dual : (n : ℕ) (groups sets : List ℕ) → survivor_sets n groups ≡ yields sets → Below 64 groups × (sets ≡ dual groups)
 unfolding survivor_sets is_frame
 survivor_sets_dual n groups sets e =
     let frame = passed (not (is_frame n)) FrameSize _ e in

@@ -3,7 +3,7 @@ use Rattle.std.specs.Prelude.{refl, not, List, [], ◌∷◌, ℕ, eqb, ltb, len
 use Rattle.drive_sets.specs.Limits.{max_sets, max_cores}
 use Rattle.drive_sets.specs.Lists.{all}
 use Rattle.drive_sets.specs.Masks.{full, subset}
-use Rattle.drive_sets.specs.Refusals.{Outcome, result}
+use Rattle.drive_sets.specs.Refusals.{Outcome, yields}
 use Rattle.drive_sets.specs.Refusals.Numbered.{Numbered, result_numbered, if_numbered, then_numbered}
 use Rattle.survivor_tables.specs.declared.frames.MaskKind.{MaskKind}
 use Rattle.survivor_tables.specs.declared.frames.MaskKind.TheVariants.{SurvivorSet, FaultGroup}
@@ -39,7 +39,7 @@ normal_numbered n sets = then_numbered (checked_sets n sets) within_core_limit (
 
 pub cores_numbered : (n : ℕ) (sets : List ℕ) → Numbered (core_list n sets)
 unfolding core_list
-cores_numbered n sets = then_numbered (normal_table n sets) (λ table. result (cores table)) (normal_numbered n sets) (λ table. result_numbered)
+cores_numbered n sets = then_numbered (normal_table n sets) (λ table. yields (cores table)) (normal_numbered n sets) (λ table. result_numbered)
 
 pub back_numbered : (n : ℕ) (groups : List ℕ) → Numbered (survivor_sets n groups)
 unfolding survivor_sets

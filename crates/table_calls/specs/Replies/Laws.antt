@@ -4,7 +4,7 @@ use Rattle.drive_sets.specs.declared.Position.{Position}
 use Rattle.drive_sets.specs.Lent.{fitting}
 use Rattle.drive_sets.specs.Lent.Laws.{put_numbered}
 use Rattle.drive_sets.specs.Limits.{max_sets}
-use Rattle.drive_sets.specs.Refusals.{Outcome, refused, result, and_then}
+use Rattle.drive_sets.specs.Refusals.{Outcome, refused, yields, and_then}
 use Rattle.drive_sets.specs.Refusals.Numbered.{Numbered, result_numbered, if_numbered, then_numbered}
 use Rattle.survivor_tables.specs.Tables.{is_frame, is_set, normal_table, core_list, missed_set, survivor_sets}
 use Rattle.survivor_tables.specs.Tables.Numbered.{normal_numbered, cores_numbered, back_numbered}
@@ -20,7 +20,7 @@ use Rattle.table_calls.specs.Replies.{missed_reply}
 
 pub missed_refusal : (o : Outcome Position) → (missed_reply o).refusal ≡ refusal_of o
 missed_refusal (refused r) = refl
-missed_refusal (result p) = refl
+missed_refusal (yields p) = refl
 
 -- ---- the calls given n and sets, or groups
 
@@ -46,7 +46,7 @@ pub write_numbered : (n : ℕ) (sets : List ℕ) (start room : ℕ) → Numbered
 unfolding write_table
 write_numbered n sets start room =
     put_numbered (write_table n sets)
-    (then_numbered (normal_table n sets) (λ table. result (table_bytes n table)) (normal_numbered n sets) (λ table. result_numbered))
+    (then_numbered (normal_table n sets) (λ table. yields (table_bytes n table)) (normal_numbered n sets) (λ table. result_numbered))
     start room
 
 pub missed_numbered : (n : ℕ) (sets : List ℕ) (group : ℕ) → Numbered (missed_set n sets group)

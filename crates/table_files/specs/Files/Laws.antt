@@ -8,7 +8,7 @@ use Rattle.drive_sets.specs.Bools.Laws.{clash, or_left, or_right}
 use Rattle.drive_sets.specs.Lists.{elem}
 use Rattle.drive_sets.specs.Lists.Laws.{elem_head, elem_tail, elem_none, elem_one, elem_append_cases}
 use Rattle.drive_sets.specs.declared.Refusal.TheVariants.{FrameSize, TooManySets, TrailingBytes}
-use Rattle.drive_sets.specs.Refusals.{Outcome, result, refuse_if, and_then}
+use Rattle.drive_sets.specs.Refusals.{Outcome, yields, refuse_if, and_then}
 use Rattle.drive_sets.specs.Refusals.Laws.{passed, first_result, same_result}
 use Rattle.survivor_tables.specs.Order.{normal}
 use Rattle.survivor_tables.specs.Order.Normal.{normal_idempotent}
@@ -66,8 +66,8 @@ unfolding due_after is_due
 due_listed kind zero e = absurd (clash e (no_end kind).1)
 due_listed kind (suc count) e = omega arith
 
-mask_taken : (kind : MaskKind) (n : ℕ) (listed rest : List ℕ) (x : ℕ) → length listed < max_sets → checked_mask kind n x ≡ result x → n ≤ max_drives
-    → taken_mask kind n listed (record_bytes (mark (record_of kind)) (body_width (record_of kind)) x ++ rest) ≡ result (listed ++ (x ∷ []))
+mask_taken : (kind : MaskKind) (n : ℕ) (listed rest : List ℕ) (x : ℕ) → length listed < max_sets → checked_mask kind n x ≡ yields x → n ≤ max_drives
+    → taken_mask kind n listed (record_bytes (mark (record_of kind)) (body_width (record_of kind)) x ++ rest) ≡ yields (listed ++ (x ∷ []))
 unfolding taken_mask
 mask_taken kind n listed rest x few good high =
     let field = record_field (mark (record_of kind)) 8 x rest (lt_of_lt_of_le (mask_lt kind n x good) (pow_mono {i = n} {j = 64} high)) in
@@ -75,7 +75,7 @@ mask_taken kind n listed rest x few good high =
 
 -- masks behind those listed lead to the whole
 masks_lead : (kind : MaskKind) (masks : List ℕ) (n : ℕ) (listed whole : List ℕ) → whole ≡ listed ++ masks → length whole ≤ max_sets
-    → ((m : ℕ) → elem m masks ≡ true → checked_mask kind n m ≡ result m) → n ≤ max_drives → Leads (mask_list kind n) (record_of kind) listed masks whole
+    → ((m : ℕ) → elem m masks ≡ true → checked_mask kind n m ≡ yields m) → n ≤ max_drives → Leads (mask_list kind n) (record_of kind) listed masks whole
 masks_lead kind [] n listed whole e few good high = sym (e ∙ append-nil listed)
 masks_lead kind (x ∷ masks) n listed whole e few good high = (
   listed ++ (x ∷ []),
@@ -88,20 +88,20 @@ masks_lead kind (x ∷ masks) n listed whole e few good high = (
 -- ---- the whole list
 
 frame_read : (kind : MaskKind) (n : ℕ) (rest : List ℕ) → is_frame n ≡ true → n < 256
-    → read_listed kind (record_bytes (mark Frame) 1 n ++ rest) ≡ and_then (read_list (mask_list kind n) [] rest) (λ l. result (listed_table n l))
+    → read_listed kind (record_bytes (mark Frame) 1 n ++ rest) ≡ and_then (read_list (mask_list kind n) [] rest) (λ l. yields (listed_table n l))
 unfolding read_listed body_width is_due
 frame_read kind n rest good few =
     rw (head_record (AtRecord Frame) Frame n rest (own_mark Frame), record_field (mark Frame) 1 n rest few, good, record_rest (mark Frame) 1 n rest)
 
 pub listed_read : (kind : MaskKind) (n : ℕ) (masks rest : List ℕ) → Checked kind n masks
-    → read_listed kind (file_bytes kind n masks ++ rest) ≡ result (record { n = n; sets = masks; rest = rest })
+    → read_listed kind (file_bytes kind n masks ++ rest) ≡ yields (record { n = n; sets = masks; rest = rest })
 unfolding file_bytes read_list
 listed_read kind n masks rest c =
     ap (read_listed kind)
     (append_assoc (record_bytes (mark Frame) 1 n) (records ++ record_bytes (mark End) 1 (length masks)) rest
     ∙ ap (λ (r : List ℕ). record_bytes (mark Frame) 1 n ++ r) (append_assoc records (record_bytes (mark End) 1 (length masks)) rest))
     ∙ (frame_read kind n (records ++ end) c.frame (omega (arith, high))
-    ∙ ap (λ (o : Outcome (ReadList (List ℕ))). and_then o (λ l. result (listed_table n l)))
+    ∙ ap (λ (o : Outcome (ReadList (List ℕ))). and_then o (λ l. yields (listed_table n l)))
     (list_back (mask_list kind n) (record_of kind) (no_end kind).0 masks (length (records ++ end)) [] masks rest
     (omega (arith, length-append records end, length_list (record_of kind) masks, mask_width kind, ap (λ (w : ℕ). (2 + w) * length masks) (mask_width kind), length-append (record_bytes (mark End) 1 (length masks)) rest, length_record (mark End) 1 (length masks)))
     (masks_lead kind masks n [] masks refl c.most c.good high) (λ s. refl) (end_due kind (length masks) c.some) (omega (arith, c.most))))
@@ -128,38 +128,38 @@ kind_behind kind n (m ∷ masks) some =
     one : List ℕ
     one = record_bytes (mark (record_of kind)) (body_width (record_of kind)) m
 
-accepted_read : (n : ℕ) (sets rest : List ℕ) → Accepted n sets → accepted (record { n = n; sets = sets; rest = rest }) ≡ result (record { n = n; sets = normal sets; rest = rest })
+accepted_read : (n : ℕ) (sets rest : List ℕ) → Accepted n sets → accepted (record { n = n; sets = sets; rest = rest }) ≡ yields (record { n = n; sets = normal sets; rest = rest })
 unfolding accepted
-accepted_read n sets rest a = ap (λ (o : Outcome (List ℕ)). and_then o (λ table. result (record { n = n; sets = table; rest = rest }))) (accepted_within_limit n sets a)
+accepted_read n sets rest a = ap (λ (o : Outcome (List ℕ)). and_then o (λ table. yields (record { n = n; sets = table; rest = rest }))) (accepted_within_limit n sets a)
 
 -- a table with its sets in any order, and anything behind it
-pub read_any : (n : ℕ) (sets rest : List ℕ) → Accepted n sets → read_table (table_bytes n sets ++ rest) ≡ result (record { n = n; sets = normal sets; rest = rest })
+pub read_any : (n : ℕ) (sets rest : List ℕ) → Accepted n sets → read_table (table_bytes n sets ++ rest) ≡ yields (record { n = n; sets = normal sets; rest = rest })
 unfolding read_table
 read_any n sets rest a = ap (λ (o : Outcome ReadTable). and_then o accepted) (listed_read SurvivorSet n sets rest (accepted_checked n sets a)) ∙ accepted_read n sets rest a
 
 -- reading what the writer wrote, with anything behind it, gives the normal table and what stands behind
 pub read_written : (n : ℕ) (sets rest : List ℕ) → Accepted n sets
-    → read_table (table_bytes n (normal sets) ++ rest) ≡ result (record { n = n; sets = normal sets; rest = rest })
+    → read_table (table_bytes n (normal sets) ++ rest) ≡ yields (record { n = n; sets = normal sets; rest = rest })
 read_written n sets rest a =
     read_any n (normal sets) rest (accepted_normal n sets a)
-    ∙ ap (λ (t : List ℕ). result (record { n = n; sets = t; rest = rest })) (normal_idempotent sets)
+    ∙ ap (λ (t : List ℕ). yields (record { n = n; sets = t; rest = rest })) (normal_idempotent sets)
 
 -- ---- what is read
 
 -- what reading the masks gives meets nothing, and there are 1 to 128
-masks_good : (kind : MaskKind) (n : ℕ) (s : List ℕ) {r : ReadList (List ℕ)} → is_frame n ≡ true → read_list (mask_list kind n) [] s ≡ result r → Checked kind n r.list
+masks_good : (kind : MaskKind) (n : ℕ) (s : List ℕ) {r : ReadList (List ℕ)} → is_frame n ≡ true → read_list (mask_list kind n) [] s ≡ yields r → Checked kind n r.list
 unfolding read_list taken_mask
 masks_good kind n s {r} frame e =
     let w = read_keeps (mask_list kind n) Good (λ listed b t g going p. kept listed b t g p) (length s) [] s ((λ x h. absurd (clash h (elem_none x))), omega arith) e in
     record { frame = frame; some = due_listed kind (length r.list) (⊎_elim (λ f. absurd (clash f refl)) (λ d. d) w.2); most = w.1.1; good = w.1.0 }
   where
     Good : List ℕ → List ℕ → Type 0
-    Good listed b = ((x : ℕ) → elem x listed ≡ true → checked_mask kind n x ≡ result x) × (length listed ≤ max_sets)
+    Good listed b = ((x : ℕ) → elem x listed ≡ true → checked_mask kind n x ≡ yields x) × (length listed ≤ max_sets)
 
-    kept : (listed b t : List ℕ) → Good listed b → taken_mask kind n listed b ≡ result t → Good t (drop (width_at b) b)
+    kept : (listed b t : List ℕ) → Good listed b → taken_mask kind n listed b ≡ yields t → Good t (drop (width_at b) b)
     kept listed b t g p =
         let few = passed (leb max_sets (length listed)) TooManySets _ p in
-        let mask = first_result (checked_mask kind n (field_at 2 8 b)) (λ m. result (listed ++ (m ∷ []))) few.1 in
+        let mask = first_result (checked_mask kind n (field_at 2 8 b)) (λ m. yields (listed ++ (m ∷ []))) few.1 in
         let m = mask.0 in
         subst (λ (l : List ℕ). Good l b) (same_result mask.2) (
           (λ x h. ⊎_elim (λ i. g.0 x i) (λ i. rw (elem_one x m i) (mask_result kind n (field_at 2 8 b) mask.1)) (elem_append_cases x listed (m ∷ []) h)),
@@ -167,23 +167,23 @@ masks_good kind n s {r} frame e =
         )
 
 -- what is listed meets nothing before 13
-pub listed_checked : (kind : MaskKind) (s : List ℕ) {u : ReadTable} → read_listed kind s ≡ result u → Checked kind u.n u.sets
+pub listed_checked : (kind : MaskKind) (s : List ℕ) {u : ReadTable} → read_listed kind s ≡ yields u → Checked kind u.n u.sets
 unfolding read_listed
 listed_checked kind s {u} e =
     let head = record_there (head_of (AtRecord Frame) s) _ e in
-    let frame = passed (not (is_frame n)) FrameSize (and_then (read_list (mask_list kind n) [] (drop 3 s)) (λ l. result (listed_table n l))) head.2 in
-    let list = first_result (read_list (mask_list kind n) [] (drop 3 s)) (λ l. result (listed_table n l)) frame.1 in
+    let frame = passed (not (is_frame n)) FrameSize (and_then (read_list (mask_list kind n) [] (drop 3 s)) (λ l. yields (listed_table n l))) head.2 in
+    let list = first_result (read_list (mask_list kind n) [] (drop 3 s)) (λ l. yields (listed_table n l)) frame.1 in
     subst (λ (r : ReadTable). Checked kind r.n r.sets) (same_result list.2) (masks_good kind n (drop 3 s) (not-false (is_frame n) frame.0) list.1)
   where
     n : ℕ
     n = field_at 2 1 s
 
-pub table_read_law : (s : List ℕ) (t : ReadTable) → read_table s ≡ result t → (sets : List ℕ) × Accepted t.n sets × (t.sets ≡ normal sets)
+pub table_read_law : (s : List ℕ) (t : ReadTable) → read_table s ≡ yields t → (sets : List ℕ) × Accepted t.n sets × (t.sets ≡ normal sets)
 unfolding read_table accepted
 table_read_law s t e =
     let w = first_result (read_listed SurvivorSet s) accepted e in
     let u = w.0 in
-    let v = first_result (within_core_limit u.sets) (λ table. result (record { n = u.n; sets = table; rest = u.rest })) w.2 in
+    let v = first_result (within_core_limit u.sets) (λ table. yields (record { n = u.n; sets = table; rest = u.rest })) w.2 in
     let few = within_limit u.sets v.1 in
     let is = same_result v.2 in (
       u.sets,
@@ -192,17 +192,17 @@ table_read_law s t e =
     )
 
 -- a table that was read, written and read again is the same
-pub read_again : (s : List ℕ) (t : ReadTable) → read_table s ≡ result t → read_table (table_bytes t.n t.sets ++ t.rest) ≡ result t
+pub read_again : (s : List ℕ) (t : ReadTable) → read_table s ≡ yields t → read_table (table_bytes t.n t.sets ++ t.rest) ≡ yields t
 read_again s t e =
     let w = table_read_law s t e in
-    subst (λ (l : List ℕ). read_table (table_bytes t.n l ++ t.rest) ≡ result (record { n = t.n; sets = l; rest = t.rest })) (sym w.2) (read_written t.n w.0 t.rest w.1)
+    subst (λ (l : List ℕ). read_table (table_bytes t.n l ++ t.rest) ≡ yields (record { n = t.n; sets = l; rest = t.rest })) (sym w.2) (read_written t.n w.0 t.rest w.1)
 
 -- ---- a table and nothing more
 
-rest_kept : (u t : ReadTable) → accepted u ≡ result t → t.rest ≡ u.rest
+rest_kept : (u t : ReadTable) → accepted u ≡ yields t → t.rest ≡ u.rest
 unfolding accepted
 rest_kept u t e =
-    let v = first_result (within_core_limit u.sets) (λ table. result (record { n = u.n; sets = table; rest = u.rest })) e in
+    let v = first_result (within_core_limit u.sets) (λ table. yields (record { n = u.n; sets = table; rest = u.rest })) e in
     ap (λ (r : ReadTable). r.rest) (sym (same_result v.2))
 
 pub empty_is : (l : List ℕ) → is_empty l ≡ true → l ≡ []
@@ -211,7 +211,7 @@ empty_is [] e = refl
 empty_is (x ∷ l) e = absurd (clash e refl)
 
 -- the whole reader gives what the other gives where nothing stands behind
-pub whole_table : (s : List ℕ) (t : ReadTable) → read_whole s ≡ result t → (read_table s ≡ result t) × (t.rest ≡ [])
+pub whole_table : (s : List ℕ) (t : ReadTable) → read_whole s ≡ yields t → (read_table s ≡ yields t) × (t.rest ≡ [])
 unfolding read_whole read_table
 whole_table s t e =
     let w = first_result (read_listed SurvivorSet s) (λ u. refuse_if (not (is_empty u.rest)) TrailingBytes (accepted u)) e in
@@ -220,13 +220,13 @@ whole_table s t e =
       rest_kept w.0 t p.1 ∙ empty_is w.0.rest (not-false (is_empty w.0.rest) p.0),
     )
 
-pub table_whole : (s : List ℕ) (t : ReadTable) → read_table s ≡ result t → t.rest ≡ [] → read_whole s ≡ result t
+pub table_whole : (s : List ℕ) (t : ReadTable) → read_table s ≡ yields t → t.rest ≡ [] → read_whole s ≡ yields t
 unfolding read_whole read_table is_empty
 table_whole s t e none =
     let w = first_result (read_listed SurvivorSet s) accepted e in
     rw (w.1, sym (rest_kept w.0 t w.2) ∙ none) w.2
 
 -- reading what the writer wrote
-pub whole_written : (n : ℕ) (sets : List ℕ) → Accepted n sets → read_whole (table_bytes n (normal sets)) ≡ result (record { n = n; sets = normal sets; rest = [] })
+pub whole_written : (n : ℕ) (sets : List ℕ) → Accepted n sets → read_whole (table_bytes n (normal sets)) ≡ yields (record { n = n; sets = normal sets; rest = [] })
 whole_written n sets a =
-    table_whole _ _ (subst (λ (s : List ℕ). read_table s ≡ result (record { n = n; sets = normal sets; rest = [] })) (append-nil _) (read_written n sets [] a)) refl
+    table_whole _ _ (subst (λ (s : List ℕ). read_table s ≡ yields (record { n = n; sets = normal sets; rest = [] })) (append-nil _) (read_written n sets [] a)) refl

@@ -4,7 +4,7 @@ use Rattle.std.specs.Prelude.{◌≡◌, refl, not, List, [], ◌∷◌, ◌++�
 use Rattle.std.proofs.Common.{sym, ap, ◌∙◌, subst, arith, length-append, leb-false}
 use Prim.Native.Nat.{ℕ, zero, suc, ◌+◌, ◌-◌, ◌≤◌, ◌<◌}
 use Rattle.drive_sets.specs.declared.Refusal.TheVariants.{FrameSize, TooManySets, TrailingBytes}
-use Rattle.drive_sets.specs.Refusals.{Outcome, result, refuse_if, and_then}
+use Rattle.drive_sets.specs.Refusals.{Outcome, yields, refuse_if, and_then}
 use Rattle.drive_sets.specs.Refusals.Laws.{passed, first_result, same_result, then_then}
 use Rattle.records.specs.declared.Due.TheVariants.{AtRecord}
 use Rattle.records.specs.declared.Head.{Head}
@@ -30,14 +30,14 @@ empty_prefix (suc j) (x ∷ s) h = refl
 mask_prefix : (kind : MaskKind) (n : ℕ) (listed : List ℕ) (k : ℕ) (s : List ℕ) → widest ≤ k → taken_mask kind n listed (take k s) ≡ taken_mask kind n listed s
 unfolding taken_mask
 mask_prefix kind n listed k s h =
-    ap (λ (x : ℕ). refuse_if (leb max_sets (length listed)) TooManySets (and_then (checked_mask kind n x) (λ m. result (listed ++ (m ∷ []))))) (field_prefix 2 8 k s (omega arith))
+    ap (λ (x : ℕ). refuse_if (leb max_sets (length listed)) TooManySets (and_then (checked_mask kind n x) (λ m. yields (listed ++ (m ∷ []))))) (field_prefix 2 8 k s (omega arith))
 
 -- a mask fewer can follow
-masks_left : (kind : MaskKind) (n : ℕ) (listed s t : List ℕ) → taken_mask kind n listed s ≡ result t → max_sets - length t < max_sets - length listed
+masks_left : (kind : MaskKind) (n : ℕ) (listed s t : List ℕ) → taken_mask kind n listed s ≡ yields t → max_sets - length t < max_sets - length listed
 unfolding taken_mask
 masks_left kind n listed s t e =
     let few = passed (leb max_sets (length listed)) TooManySets _ e in
-    let mask = first_result (checked_mask kind n (field_at 2 8 s)) (λ m. result (listed ++ (m ∷ []))) few.1 in
+    let mask = first_result (checked_mask kind n (field_at 2 8 s)) (λ m. yields (listed ++ (m ∷ []))) few.1 in
     omega (arith, ap length (same_result mask.2), length-append listed (mask.0 ∷ []), leb-false max_sets (length listed) few.0)
 
 -- ---- the list, and what is made of it: so many bytes behind it matter
@@ -46,7 +46,7 @@ module _ {B : Type 0} (kind : MaskKind) (finish : ReadTable → Outcome B) (most
     (blind : (n : ℕ) (sets rest : List ℕ) (j : ℕ) → most ≤ j
     → finish (record { n = n; sets = sets; rest = take j rest }) ≡ finish (record { n = n; sets = sets; rest = rest })) where
   masks_prefix : (n : ℕ) (s : List ℕ) (k : ℕ) → 1548 + most ≤ k
-      → Alike finish (and_then (read_list (mask_list kind n) [] (take k s)) (λ l. result (listed_table n l))) (and_then (read_list (mask_list kind n) [] s) (λ l. result (listed_table n l)))
+      → Alike finish (and_then (read_list (mask_list kind n) [] (take k s)) (λ l. yields (listed_table n l))) (and_then (read_list (mask_list kind n) [] s) (λ l. yields (listed_table n l)))
   masks_prefix n s k h = record {
     same = then_then (read_list (mask_list kind n) [] (take k s)) (listed_table n) finish
         ∙ (list_prefix (mask_list kind n) (λ l. finish (listed_table n l)) most (blind n) (mask_prefix kind n) (λ l j s h. refl) (λ l. max_sets - length l) (λ l b t going e. masks_left kind n l b t e) [] s k (omega arith)
@@ -64,7 +64,7 @@ module _ {B : Type 0} (kind : MaskKind) (finish : ReadTable → Outcome B) (most
       n = field_at 2 1 s
 
       sized : ℕ → List ℕ → Outcome ReadTable
-      sized x rest = refuse_if (not (is_frame x)) FrameSize (and_then (read_list (mask_list kind x) [] rest) (λ l. result (listed_table x l)))
+      sized x rest = refuse_if (not (is_frame x)) FrameSize (and_then (read_list (mask_list kind x) [] rest) (λ l. yields (listed_table x l)))
 
       all_masks : Alike finish (sized (field_at 2 1 (take k s)) (drop 3 (take k s))) (sized n (drop 3 s))
       all_masks =

@@ -3,7 +3,7 @@ use Rattle.std.specs.Prelude.{◌≡◌, refl, not, List, [], ℕ, leb, length, 
 use Rattle.drive_sets.specs.Lent.{fitting}
 use Rattle.drive_sets.specs.Lent.Laws.{fitting_numbered}
 use Rattle.drive_sets.specs.Limits.{max_sets}
-use Rattle.drive_sets.specs.Refusals.{Outcome, refused, result}
+use Rattle.drive_sets.specs.Refusals.{Outcome, refused, yields}
 use Rattle.drive_sets.specs.Refusals.Numbered.{Numbered, result_numbered, if_numbered, then_numbered}
 use Rattle.records.specs.declared.Due.TheVariants.{AtRecord}
 use Rattle.records.specs.declared.Kind.TheVariants.{Frame}
@@ -23,7 +23,7 @@ use Rattle.table_replies.specs.Replies.{fitting_table, table_reply}
 
 pub table_refusal : (s : List ℕ) (o : Outcome ReadTable) → (table_reply s o).refusal ≡ refusal_of o
 table_refusal s (refused r) = refl
-table_refusal s (result t) = refl
+table_refusal s (yields t) = refl
 
 -- ---- the readers
 
@@ -37,7 +37,7 @@ unfolding read_listed
 listed_numbered kind s =
     let n = field_at 2 1 s in
     record_numbered (head_of (AtRecord Frame) s) _ (λ frame. if_numbered (not (is_frame n)) 3 refl
-    (then_numbered (read_list (mask_list kind n) [] (drop 3 s)) (λ l. result (listed_table n l)) (list_numbered (mask_list kind n) (taken_numbered kind n) [] (drop 3 s)) (λ l. result_numbered)))
+    (then_numbered (read_list (mask_list kind n) [] (drop 3 s)) (λ l. yields (listed_table n l)) (list_numbered (mask_list kind n) (taken_numbered kind n) [] (drop 3 s)) (λ l. result_numbered)))
 
 -- a list and nothing more
 pub all_numbered : (kind : MaskKind) (finish : ReadTable → Outcome ReadTable) → ((t : ReadTable) → Numbered (finish t)) → (s : List ℕ) → Numbered (read_all kind finish s)
@@ -51,7 +51,7 @@ accepted_numbered t = then_numbered (within_core_limit t.sets) _ (limit_numbered
 pub table_numbered : (old : List ℕ) (o : Outcome ReadTable) → Numbered o → Numbered (fitting_table old o)
 unfolding fitting_table
 table_numbered old o h =
-    then_numbered o _ h (λ t. then_numbered (fitting 0 (length old) t.sets) (λ sets. result t) (fitting_numbered 0 (length old) t.sets) (λ sets. result_numbered))
+    then_numbered o _ h (λ t. then_numbered (fitting 0 (length old) t.sets) (λ sets. yields t) (fitting_numbered 0 (length old) t.sets) (λ sets. result_numbered))
 
 pub read_numbered : (s old : List ℕ) → Numbered (fitting_table old (read_table s))
 unfolding read_table

@@ -14,7 +14,7 @@ use Rattle.drive_sets.specs.Lists.Laws.{elem_some, any_elem, any_intro}
 use Rattle.drive_sets.specs.Lists.Distinct.{ordered_distinct}
 use Rattle.drive_sets.specs.Lists.Places.{get_or_elem}
 use Rattle.drive_sets.specs.declared.Refusal.TheVariants.{FrameSize, TooManyCores, Threshold, TooManyGroups}
-use Rattle.drive_sets.specs.Refusals.{result, refuse_if, and_then}
+use Rattle.drive_sets.specs.Refusals.{yields, refuse_if, and_then}
 use Rattle.drive_sets.specs.Refusals.Laws.{passed, same_result, then_refuse}
 use Rattle.drive_sets.specs.Limits.{max_drives, max_sets, max_cores}
 use Rattle.drive_sets.specs.Masks.{full, outside, meets, subset, size, Below}
@@ -175,7 +175,7 @@ module _ (n : ℕ) (frame : n ≤ 64) (t : ℕ) (below : t < n) where
 
   -- 128 sets at most: the table is accepted, where it has 1024 cores at most
   threshold_complete_law : length (threshold_sets n t) ≤ max_sets
-      → complete_table n (threshold_sets n t) ≡ refuse_if (ltb max_cores (group_count (t + 1) n)) TooManyCores (result (threshold_complete n t))
+      → complete_table n (threshold_sets n t) ≡ refuse_if (ltb max_cores (group_count (t + 1) n)) TooManyCores (yields (threshold_complete n t))
   unfolding threshold_sets threshold_cores complete_table normal_table within_core_limit is_frame threshold_complete with_cores group_count
   threshold_complete_law few =
       let checked : Checked SurvivorSet n (threshold_sets n t) = record {
@@ -185,8 +185,8 @@ module _ (n : ℕ) (frame : n ≤ 64) (t : ℕ) (below : t < n) where
         good = λ s e. set_mask n s (threshold_set s e);
       } in
       rw (checked_masks_law SurvivorSet n (threshold_sets n t) checked, threshold_normal, threshold_cores_law, length_sort)
-      (then_refuse (ltb max_cores (length (groups (t + 1) n))) TooManyCores (threshold_sets n t) (λ table. result (with_cores n table))
-      ∙ ap (λ (l : List ℕ). refuse_if (ltb max_cores (length (groups (t + 1) n))) TooManyCores (result (record { n = n; sets = threshold_sets n t; cores = l }))) threshold_cores_law)
+      (then_refuse (ltb max_cores (length (groups (t + 1) n))) TooManyCores (threshold_sets n t) (λ table. yields (with_cores n table))
+      ∙ ap (λ (l : List ℕ). refuse_if (ltb max_cores (length (groups (t + 1) n))) TooManyCores (yields (record { n = n; sets = threshold_sets n t; cores = l }))) threshold_cores_law)
 
 -- The call by the numbers of groups alone: 32 exactly where there are more than 128 groups of t out of n drives, and
 -- then 13 exactly where there are more than 1024 of t + 1.
@@ -195,7 +195,7 @@ pub threshold_by_counts : (n t : ℕ) → threshold_table n t ≡
     (refuse_if (leb n t) Threshold
     (refuse_if (ltb max_sets (group_count t n)) TooManyGroups
     (refuse_if (ltb max_cores (group_count (t + 1) n)) TooManyCores
-    (result (threshold_complete n t)))))
+    (yields (threshold_complete n t)))))
 unfolding threshold_table
 threshold_by_counts n t =
     by_test (is_frame n)
@@ -216,13 +216,13 @@ pub threshold_list_law : (n t : ℕ) → threshold_list n t ≡
     (refuse_if (leb n t) Threshold
     (refuse_if (ltb max_sets (group_count t n)) TooManyGroups
     (refuse_if (ltb max_cores (group_count (t + 1) n)) TooManyCores
-    (result (threshold_sets n t)))))
+    (yields (threshold_sets n t)))))
 unfolding threshold_list threshold_complete
 threshold_list_law n t = rw (threshold_by_counts n t) (go (not (is_frame n)) (leb n t) (ltb max_sets (group_count t n)) (ltb max_cores (group_count (t + 1) n)))
   where
     go : (a b c d : Bool)
-        → and_then (refuse_if a FrameSize (refuse_if b Threshold (refuse_if c TooManyGroups (refuse_if d TooManyCores (result (threshold_complete n t)))))) (λ table. result table.sets)
-        ≡ refuse_if a FrameSize (refuse_if b Threshold (refuse_if c TooManyGroups (refuse_if d TooManyCores (result (threshold_sets n t)))))
+        → and_then (refuse_if a FrameSize (refuse_if b Threshold (refuse_if c TooManyGroups (refuse_if d TooManyCores (yields (threshold_complete n t)))))) (λ table. yields table.sets)
+        ≡ refuse_if a FrameSize (refuse_if b Threshold (refuse_if c TooManyGroups (refuse_if d TooManyCores (yields (threshold_sets n t)))))
     go true b c d = refl
     go false true c d = refl
     go false false true d = refl
@@ -234,9 +234,9 @@ pub record Few (n t : ℕ) : Type 0 where
   pub high : n ≤ max_drives
   pub below : t < n
   pub cores : group_count (t + 1) n ≤ max_cores
-  pub table : threshold_table n t ≡ result (threshold_complete n t)
+  pub table : threshold_table n t ≡ yields (threshold_complete n t)
 
-pub list_given : (n t : ℕ) (sets : List ℕ) → threshold_list n t ≡ result sets → Few n t × (sets ≡ threshold_sets n t)
+pub list_given : (n t : ℕ) (sets : List ℕ) → threshold_list n t ≡ yields sets → Few n t × (sets ≡ threshold_sets n t)
 list_given n t sets e =
     let frame = passed (not (is_frame n)) FrameSize _ (sym (threshold_list_law n t) ∙ e) in
     let less = passed (leb n t) Threshold _ frame.1 in

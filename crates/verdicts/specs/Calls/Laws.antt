@@ -4,7 +4,7 @@ use Rattle.std.specs.Prelude.{◌≡◌, not, ◌&&◌, List, ℕ, ◌≤◌, �
 use Rattle.std.proofs.Common.{sym, ap, ◌∙◌, arith}
 use borrow.Author.Tests.{leb-false, le-leb, lt-leb}
 use Rattle.drive_sets.specs.declared.Refusal.TheVariants.{BlockCount, FewDrives}
-use Rattle.drive_sets.specs.Refusals.{refused, result}
+use Rattle.drive_sets.specs.Refusals.{refused, yields}
 use Rattle.drive_sets.specs.Refusals.Laws.{passed, first_result, same_result}
 use Rattle.survivor_tables.specs.Order.{normal}
 use Rattle.survivor_tables.specs.Tables.{checked_sets, normal_table, Accepted}
@@ -22,7 +22,7 @@ pub record Answered (k n : ℕ) (sets : List ℕ) (v : Verdict) : Type 0 where
   pub more : k < n
   pub is : v ≡ verdict_on k n (normal sets)
 
-pub verdict_answered : (k n : ℕ) (sets : List ℕ) (v : Verdict) → verdict k n sets ≡ result v → Answered k n sets v
+pub verdict_answered : (k n : ℕ) (sets : List ℕ) (v : Verdict) → verdict k n sets ≡ yields v → Answered k n sets v
 unfolding verdict judged
 verdict_answered k n sets v e =
     let count = passed (not (leb 2 k && leb k 4)) BlockCount _ e in
@@ -51,12 +51,12 @@ module _ (k n : ℕ) (table : List ℕ) (low : 2 ≤ k) (high : k ≤ 4) (accept
   given_few few = rw (le-leb 2 k low, le-leb k 4 high, checked_masks_law SurvivorSet n table (accepted_checked n table accepted), le-leb n k few)
 
   -- and the verdict for every other
-  pub given_more : k < n → verdict_given k n table ≡ result (verdict_on k n table)
+  pub given_more : k < n → verdict_given k n table ≡ yields (verdict_on k n table)
   unfolding verdict_given judged
   given_more more = rw (le-leb 2 k low, le-leb k 4 high, checked_masks_law SurvivorSet n table (accepted_checked n table accepted), lt-leb n k more)
 
 -- a no has k positions and k blocks, and no more than four
-pub given_counts : (k n : ℕ) (table : List ℕ) {ps blocks : List ℕ} → verdict_given k n table ≡ result (no ps blocks) → (length ps ≤ 4) × (length blocks ≤ 4)
+pub given_counts : (k n : ℕ) (table : List ℕ) {ps blocks : List ℕ} → verdict_given k n table ≡ yields (no ps blocks) → (length ps ≤ 4) × (length blocks ≤ 4)
 unfolding verdict_given judged
 given_counts k n table {ps = ps} {blocks = blocks} e =
     let count = passed (not (leb 2 k && leb k 4)) BlockCount _ e in
