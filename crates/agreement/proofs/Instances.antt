@@ -46,17 +46,17 @@ module _ (n : ℕ) (sets : List ℕ) (a : Accepted n sets) where
 -- ---- a scenario whose table is accepted
 
 module _ (s : Scenario) (a : Accepted s.n s.sets) where
-  in_frame_law : (d : ℕ) → has d (core_of s) ≡ true → elem d (frame s) ≡ true
+  core_in_frame : (d : ℕ) → has d (core_of s) ≡ true → elem d (frame s) ≡ true
   unfolding frame core_of
-  in_frame_law d h = has_range s.n (core_of s) (chosen_core_law s.n s.sets a).within d h
+  core_in_frame d h = has_range s.n (core_of s) (chosen_core_law s.n s.sets a).within d h
 
   pub accepted_lawful : Lawful (instance_of s)
   unfolding reach frame
   accepted_lawful = record {
-    in_frame_law = λ {d} h. in_frame_law d h;
+    in_frame = λ {d} h. core_in_frame d h;
     no_return = λ {k} {d} h. ap not (gone_later (s.crash d) k (not-true _ h));
     full_reach = λ {k} {d} {e} c h f ne. ap (elem e) (cut_up (s.crash d) (suc k) (list_of s d) (not-true _ h)) ∙ in_list_of s d e f ne;
-    core_first = λ {k} {d} {e} {c} h l i ne. reach_core s d (suc k) e c (in_frame_law c i) h l i ne;
+    core_first = λ {k} {d} {e} {c} h l i ne. reach_core s d (suc k) e c (core_in_frame c i) h l i ne;
   }
 
 -- ---- a valid scenario
@@ -70,7 +70,7 @@ module _ {s : Scenario} (ok : Valid s) where
   valid_core = chosen_core_law s.n s.sets valid_accepted
 
   pub core_frame : (d : ℕ) → has d (core_of s) ≡ true → elem d (frame s) ≡ true
-  core_frame = in_frame_law s valid_accepted
+  core_frame = core_in_frame s valid_accepted
 
   pub lawful : Lawful (instance_of s)
   lawful = accepted_lawful s valid_accepted
@@ -88,7 +88,7 @@ module _ {s : Scenario} (ok : Valid s) where
         low = valid_accepted.low;
         high = valid_accepted.high;
         core_drive = d.0;
-        in_core_law = d.1;
+        in_core = d.1;
         patterns = λ d f. ok.patterns d (is_drive_range s.n d ∙ f);
       }
 

@@ -88,11 +88,11 @@ pub record Bounded (S : Instance) : Type 0 where
   pub low : 1 ≤ S.n
   pub high : S.n ≤ 64
   pub core_drive : ℕ
-  pub in_core_law : S.core core_drive ≡ true
+  pub in_core : S.core core_drive ≡ true
   pub patterns : (d : ℕ) → InFrame S d → S.proposal d < pattern_limit
 
 -- e is in round k + 1, one of the rounds 1 to the core's size, and has accepted the messages of some core drives
 pub record InRound (S : Instance) (k e : ℕ) (from : ℕ → Bool) : Type 0 where
-  pub in_frame_law : InFrame S e
+  pub in_frame : InFrame S e
   pub round : k < size (set_of S.core)
   pub from_core : from ⊆ S.core

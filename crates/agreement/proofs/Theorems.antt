@@ -40,20 +40,20 @@ same_result s ok calls calls' run run' = record { decides = decides; final = λ 
 -- ---- agreement
 
 -- where p, a core drive, stays up
-module _ {s : Scenario} (ok : Valid s) (p : ℕ) (in_core_law : has p (core_of s) ≡ true) (stay : s.crash p ≡ stays) where
+module _ {s : Scenario} (ok : Valid s) (p : ℕ) (in_core : has p (core_of s) ≡ true) (stay : s.crash p ≡ stays) where
   rounds_agree : rounds.Agreement (instance_of s) (correct s)
-  rounds_agree = rounds.agreement (lawful ok) (correct s) (correct_stays_up s) p in_core_law (stay_correct s p stay)
+  rounds_agree = rounds.agreement (lawful ok) (correct s) (correct_stays_up s) p in_core (stay_correct s p stay)
 
   -- round f + 1 comes
   crashes_below : core_crashes s < size (core_of s)
   crashes_below =
-      omega (arith, crashes_failures ok, core_size ok, failures_below_core (lawful ok) (correct s) (correct_stays_up s) p in_core_law (stay_correct s p stay))
+      omega (arith, crashes_failures ok, core_size ok, failures_below_core (lawful ok) (correct s) (correct_stays_up s) p in_core (stay_correct s p stay))
 
   agreed : {calls : List Call} (run : Run s calls) → Agreed run
   unfolding decision_on
   agreed run = record {
     value = rounds_agree.value;
-    proposed = record { by = rounds_agree.proposed.by; in_core = rounds_agree.proposed.in_core_law; is = rounds_agree.proposed.is };
+    proposed = record { by = rounds_agree.proposed.by; in_core = rounds_agree.proposed.in_core; is = rounds_agree.proposed.is };
     all = λ d u.
         let r = rounds_agree.all d (up_in_frame s u) (up_correct s u) in
         record {

@@ -154,7 +154,7 @@ module _ (n : ℕ) (sets : List ℕ) (accepted : normal_table n sets ≡ yields 
   unfolding core_of gone_by reach cut
   lost k h = record {
     drive = d;
-    in_core_law = crashing_core d (get_or_elem crashing k within);
+    in_core = crashing_core d (get_or_elem crashing k within);
     up = ap (λ (c : Crash). not (gone_by c k)) at ∙ ap not (lt-leb (suc k) k (le_refl (suc k)));
     gone = ap (λ (c : Crash). not (gone_by c (suc k))) at ∙ ap not (le-leb (suc k) (suc k) (le_refl (suc k)));
     unheard = λ e. ap (λ (c : Crash). elem e (cut c (suc k) (list_of losing d))) at ∙ rw (eq-eqb (suc k) (suc k) refl) (elem_none e);

@@ -117,9 +117,9 @@ unbroken_list x h =
     let four = two || own || not drive in
     let to-four = or_false_left four (not rounds) (or_false_left (four || not rounds) (not sets) h) in
     let to-two = or_false_left two own (or_false_left (two || own) (not drive) to-four) in
-    let in_frame_law = not-false frame (or_false_left (not frame) (not core) to-two) in
+    let in_frame = not-false frame (or_false_left (not frame) (not core) to-two) in
     receivers_masks x.n x.core x.own.0
-    (leb-true x.n 64 (and_right (leb 1 x.n) (leb x.n 64) in_frame_law))
+    (leb-true x.n 64 (and_right (leb 1 x.n) (leb x.n 64) in_frame))
     (set_lt x.n x.core (not-false core (or_false_right (not frame) (not core) to-two)))
     (not-false drive (or_false_right (two || own) (not drive) to-four))
 

@@ -77,7 +77,7 @@ module _ {Φ : Type 0} (n : ℕ) (sets : List ℕ) (a : Accepted n sets) (correc
         record {
           drives = refl;
           cores = λ c. (listed_core c, core_listed c);
-          by_size_law = order;
+          in_order = order;
           once = ordered_distinct by_size (strict_irr by_size_strict) (cores (normal sets)) order;
           only = λ l exactly o.
               ordered_unique by_size by_size_strict.asym l (cores (normal sets)) o order

@@ -62,7 +62,7 @@ module _ (s : Scenario) where
     core = refl;
     stops = refl;
     many = endings_many;
-    with_crash_law = λ d h c. ending_at_law d h ∙ stops_there s (s.crash d) d c;
+    with_crash = λ d h c. ending_at_law d h ∙ stops_there s (s.crash d) d c;
     every_run = λ calls run d v q u.
         subst (λ (e : Ending). (e ≡ decides v q) ↔ Decides run d v q) (sym (ending_at_law d u.in_frame)) (every_run_gives s ok calls run d v q u);
     some_run = runs_exist s ok;

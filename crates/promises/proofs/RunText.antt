@@ -46,7 +46,7 @@ decision_not_stopped w e = let is = w.is in let z : ◌≡◌ {A = ℕ} 0 1 = cc
 module _ (n : ℕ) (sets numbers : List ℕ) (crs : List CrashRecord) (r : Simulated) (gives : ExchangeGives (scenario n sets numbers crs) r) where
   named_stopped : (d : ℕ) → is_drive n d ≡ true → elem d (drives_of crs) ≡ true → ending_in r.endings d ≡ stopped
   unfolding scenario
-  named_stopped d h i = gives.with_crash_law d h (crash_named crs d ∙ i)
+  named_stopped d h i = gives.with_crash d h (crash_named crs d ∙ i)
 
   others_decide : (d : ℕ) → is_drive n d ≡ true → elem d (drives_of crs) ≡ false → DecidesBy (last_round (scenario n sets numbers crs)) gives.value (ending_in r.endings d)
   unfolding scenario

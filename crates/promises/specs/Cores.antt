@@ -32,7 +32,7 @@ pub record TableSays {Φ : Type 0} (n : ℕ) (correct : Φ → ℕ) (t : Complet
   pub drives : t.n ≡ n
   -- the list of cores has exactly the cores, each once and in their order, and is the only such list
   pub cores : (c : ℕ) → (elem c t.cores ≡ true) ↔ Core n correct c
-  pub by_size_law : ordered core_order t.cores ≡ true
+  pub in_order : ordered core_order t.cores ≡ true
   pub once : distinct t.cores ≡ true
   pub only : (l : List ℕ) → ((c : ℕ) → (elem c l ≡ true) ↔ Core n correct c) → ordered core_order l ≡ true → l ≡ t.cores
   -- and its sets are exactly the survivor sets

@@ -31,7 +31,7 @@ pub record ExchangeGives (s : Scenario) (r : Simulated) : Type 0 where
   -- an ending for each drive of the frame
   pub many : length r.endings ≡ s.n
   -- a drive with a CR is stopped
-  pub with_crash_law : (d : ℕ) → is_drive s.n d ≡ true → has_crash (s.crash d) ≡ true → ending_in r.endings d ≡ stopped
+  pub with_crash : (d : ℕ) → is_drive s.n d ≡ true → has_crash (s.crash d) ≡ true → ending_in r.endings d ≡ stopped
   -- a drive that stays up decides on v in round q exactly if it does so in a run, in every run; and there is a run
   pub every_run : (calls : List Call) (run : Run s calls) (d v q : ℕ) → Up s d → (ending_in r.endings d ≡ decides v q) ↔ Decides run d v q
   pub some_run : (calls : List Call) × Run s calls

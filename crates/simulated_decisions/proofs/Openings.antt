@@ -70,16 +70,16 @@ module _ (n core : ℕ) (numbers : List Pattern) (c : Crashes) (s : Scenario) (g
   abbrev first : ℕ → Exchange
   first d = initial n core d (number_in numbers d)
 
-  in_frame_law : (d : ℕ) → is_drive n d ≡ true → is_drive s.n d ≡ true
-  in_frame_law d h = ap (λ (m : ℕ). is_drive m d) g.says.frame_is ∙ h
+  in_frame : (d : ℕ) → is_drive n d ≡ true → is_drive s.n d ≡ true
+  in_frame d h = ap (λ (m : ℕ). is_drive m d) g.says.frame_is ∙ h
 
   -- each opening is accepted
   opening_gives : (d : ℕ) → is_drive n d ≡ true → opening s.n s.sets d (s.proposal d) ≡ yields (first d)
   unfolding core_of
   opening_gives d h =
-      opening_accepted s.n s.sets (normal s.sets) d (s.proposal d) g.valid.accepted (in_frame_law d h)
+      opening_accepted s.n s.sets (normal s.sets) d (s.proposal d) g.valid.accepted (in_frame d h)
       ∙ (ap₂ (λ (m k : ℕ). yields (initial m k d (s.proposal d))) g.says.frame_is g.says.core_is
-      ∙ ap (λ (v : ℕ). yields (initial n core d v)) (g.proposal_is_law d h))
+      ∙ ap (λ (v : ℕ). yields (initial n core d v)) (g.proposal_is d h))
 
   after_openings : List ℕ → World → World
   after_openings ds w = apply_all w (map (λ d. opens d s.n s.sets d (s.proposal d)) ds)

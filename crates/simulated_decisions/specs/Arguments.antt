@@ -13,4 +13,4 @@ use Rattle.simulated_rounds.specs.Rounds.{Says}
 pub record Told (n core : ℕ) (numbers : List Pattern) (c : Crashes) (s : Scenario) : Type 0 where
   pub says : Says n core c s
   pub valid : Valid s
-  pub proposal_is_law : (d : ℕ) → is_drive n d ≡ true → s.proposal d ≡ number_in numbers d
+  pub proposal_is : (d : ℕ) → is_drive n d ≡ true → s.proposal d ≡ number_in numbers d

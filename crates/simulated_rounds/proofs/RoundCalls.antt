@@ -68,11 +68,11 @@ module _ (n core : ℕ) (c : Crashes) (s : Scenario) (few : n ≤ 64) (within : 
     unfolding message_calls joined filter messages_by
     messages_of_law [] h = refl
     messages_of_law (d ∷ ds) h =
-        let in_frame_law = h d (elem_head d ds) in
+        let in_frame = h d (elem_head d ds) in
         let rest = messages_of_law ds (λ e i. h e (elem_tail e d ds i)) in
         by_test (sends_now core states c r d)
-        (λ t. rw (same_sender d in_frame_law, t, same_messages d in_frame_law) (ap (λ (l : List Call). deliveries (sending (state_at states d) room 0) (cut (crash_at c d) r (list_for n core d)) ++ l) rest))
-        (λ t. rw (same_sender d in_frame_law, t) rest)
+        (λ t. rw (same_sender d in_frame, t, same_messages d in_frame) (ap (λ (l : List Call). deliveries (sending (state_at states d) room 0) (cut (crash_at c d) r (list_for n core d)) ++ l) rest))
+        (λ t. rw (same_sender d in_frame, t) rest)
 
     -- ---- the closers
 
@@ -81,10 +81,10 @@ module _ (n core : ℕ) (c : Crashes) (s : Scenario) (few : n ≤ 64) (within : 
     same_closers =
         ap (λ (m : ℕ). filter (closer s r world) (range 1 m)) g.frame_is
         ∙ filter_same (closer s r world) (λ d. active (opened (state_at states d)) && not (gone_by (crash_at c d) r)) (range 1 n)
-        (λ d i. let in_frame_law = is_drive_range n d ∙ i in
+        (λ d i. let in_frame = is_drive_range n d ∙ i in
         ap (λ (m : ℕ). is_drive m d && active (world d) && not (gone_by (s.crash d) r)) g.frame_is
-        ∙ (ap (λ (b : Bool). b && active (world d) && not (gone_by (s.crash d) r)) in_frame_law
-        ∙ ap₂ (λ (a : Bool) (q : Crash). a && not (gone_by q r)) (same_active d in_frame_law) (g.crash_is d)))
+        ∙ (ap (λ (b : Bool). b && active (world d) && not (gone_by (s.crash d) r)) in_frame
+        ∙ ap₂ (λ (a : Bool) (q : Crash). a && not (gone_by q r)) (same_active d in_frame) (g.crash_is d)))
 
     -- ---- the round
 

@@ -36,6 +36,6 @@ messages_of n core began c round = joined (map (messages_by n core began c round
 
 -- the frame, the core and the crashes are those of the scenario
 pub record Says (n core : ℕ) (c : Crashes) (s : Scenario) : Type 0 where
-  pub frame_is_law : s.n ≡ n
+  pub frame_is : s.n ≡ n
   pub core_is : core_of s ≡ core
   pub crash_is : (d : ℕ) → s.crash d ≡ crash_at c d

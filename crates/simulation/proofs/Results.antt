@@ -112,11 +112,11 @@ module _ (n : ℕ) (sets : List ℕ) (numbers : List Pattern) (c : Crashes) (cor
       → Told n core numbers c (scenario n sets (take n (values numbers)) (by_drive.crashes_in c))
   unfolding scenario core_of crash_at number_in by_drive.crashes_in
   told small checks = record {
-    says = record { frame_is_law = refl; core_is = given.1; crash_is = crash_is };
+    says = record { frame_is = refl; core_is = given.1; crash_is = crash_is };
     valid = checked_valid n sets (take n (values numbers)) (by_drive.crashes_in c) (accepted_table n sets given.0)
         (λ d h. subst (λ (v : ℕ). v < pattern_limit) (sym (proposed d h)) (small (d - 1)))
         (ap (λ (k : ℕ). checked_crashes n k 0 (by_drive.crashes_in c) (yields (by_drive.crashes_in c))) given.1 ∙ checks);
-    proposal_is_law = proposed;
+    proposal_is = proposed;
   }
     where
       proposed : (d : ℕ) → is_drive n d ≡ true → get_or (take n (values numbers)) (d - 1) 0 ≡ number_in numbers d

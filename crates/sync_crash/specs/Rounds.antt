@@ -35,7 +35,7 @@ InFrame S d = elem d (range 1 S.n) ≡ true
 -- What is assumed of an instance.
 pub record Lawful (S : Instance) : Type 0 where
   -- the core's drives are drives of the frame
-  pub in_frame_law : {d : ℕ} → S.core d ≡ true → InFrame S d
+  pub in_frame : {d : ℕ} → S.core d ≡ true → InFrame S d
   -- a drive that has crashed does not come back
   pub no_return : {k d : ℕ} → S.alive (suc k) d ≡ true → S.alive k d ≡ true
   -- a core drive that does not crash in a round makes all its sends of that round

@@ -51,9 +51,9 @@ module _ {s : Scenario} (ok : Valid s) {k : ℕ} (round : k < size (core_of s)) 
   -- what has been delivered to e comes from core drives
   delivered_round : {e : ℕ} → InFrame (instance_of s) e → InRound (instance_of s) k e (λ d. b.delivered d e)
   delivered_round {e} f = record {
-    in_frame_law = f;
+    in_frame = f;
     round = core_round ok round;
-    from_core = λ d h. (reaches_true (lawful ok) k d e (g.delivered d e h)).sender.in_core_law;
+    from_core = λ d h. (reaches_true (lawful ok) k d e (g.delivered d e h)).sender.in_core;
   }
 
   -- ---- a send
@@ -66,18 +66,18 @@ module _ {s : Scenario} (ok : Valid s) {k : ℕ} (round : k < size (core_of s)) 
     not_closed_yet : b.closed d ≡ false
     unfolding anyRuns.due
     not_closed_yet =
-        false_of (b.closed d) (λ h. clash ((g.closed d h).own_sent by_sender.in_core_law) (search (and_left, and_right, not-true)))
+        false_of (b.closed d) (λ h. clash ((g.closed d h).own_sent by_sender.in_core) (search (and_left, and_right, not-true)))
 
     gave : sending_of (w d) room start ≡ yields (message_of (instance_of s) k d)
     unfolding anyRuns.due anyRuns.sending_of lacks_room
     gave =
         let message = message_of (instance_of s) k d in
-        let i = delivered_round ((lawful ok).in_frame by_sender.in_core_law) in
+        let i = delivered_round ((lawful ok).in_frame by_sender.in_core) in
         let state = ap (λ slot. sending_of slot room start) (g.going d (sender_active (lawful ok) by_sender) not_closed_yet) in
         by_test (leb (start + length message) room)
-        (λ h. state ∙ sending_state (lawful ok) (bounded ok) i by_sender.in_core_law room start (leb-true (start + length message) room h))
+        (λ h. state ∙ sending_state (lawful ok) (bounded ok) i by_sender.in_core room start (leb-true (start + length message) room h))
         (λ h. absurd (clash
-        (ap lacks_room (state ∙ sending_no_room (lawful ok) (bounded ok) i by_sender.in_core_law room start (leb-false (start + length message) room h)))
+        (ap lacks_room (state ∙ sending_no_room (lawful ok) (bounded ok) i by_sender.in_core room start (leb-false (start + length message) room h)))
         (search (and_right, not-true))))
 
     abbrev sent_then : RoundProgress
@@ -133,7 +133,7 @@ module _ {s : Scenario} (ok : Valid s) {k : ℕ} (round : k < size (core_of s)) 
     d_reaches = true_reaches (lawful ok) (record { sender = message_sent.0.sender; within = on_list })
 
     other : d ≡ e → ⊥
-    other h = clash (rw (← h) at on_list) (reach_other s d (suc k) message_sent.0.sender.in_core_law)
+    other h = clash (rw (← h) at on_list) (reach_other s d (suc k) message_sent.0.sender.in_core)
 
     abbrev told_then : RoundProgress
     told_then = record { sent = b.sent; delivered = λ x y. (eqb x d && eqb y e) || b.delivered x y; closed = b.closed }
@@ -147,7 +147,7 @@ module _ {s : Scenario} (ok : Valid s) {k : ℕ} (round : k < size (core_of s)) 
         ap₂ (λ x l. on_state (λ y. receiving y l) x) (g.going e a o) (sym message_sent.1)
         ∙ (ap (after_call (opened (state_of (instance_of s) k e (λ y. b.delivered y e))))
         (receiving_state (lawful ok) (bounded ok) (delivered_round (reach_frame s d (suc k) e on_list)) (record {
-          in_core_law = message_sent.0.sender.in_core_law;
+          in_core = message_sent.0.sender.in_core;
           other = other;
           was_heard = sender_was_heard (lawful ok) k message_sent.0.sender a;
           new = not_delivered;
@@ -215,7 +215,7 @@ module _ {s : Scenario} (ok : Valid s) {k : ℕ} (round : k < size (core_of s)) 
         (λ p. absurd (clash (and_intro (sender_true ok round begins r.sender) r.within) (not-true _ p)))
         (settled_came d)
         (or_cases (not (sender s (suc k) w₀ d && elem e (reach s (suc k) d))) _
-        (all_elem (arrived s (suc k) w₀ b e) (frame s) d (search and_right) ((lawful ok).in_frame r.sender.in_core_law)))
+        (all_elem (arrived s (suc k) w₀ b e) (frame s) d (search and_right) ((lawful ok).in_frame r.sender.in_core)))
 
     pub closed_state : on_state closing (w e) ≡ opened (next (state_of (instance_of s) k e (λ d. reaches_in s k d e)))
     unfolding on_state after_call

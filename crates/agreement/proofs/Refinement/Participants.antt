@@ -33,14 +33,14 @@ module _ {s : Scenario} (ok : Valid s) {k : ℕ} (round : k < size (core_of s)) 
   pub sender_true : {d : ℕ} → Sender (instance_of s) k d → sender s (suc k) w₀ d ≡ true
   unfolding sender
   sender_true {d} h =
-      and_intro (and_intro h.in_core_law (active_true d (sender_active (lawful ok) h))) (ap not (gone_before_law (s.crash d) k) ∙ h.up)
+      and_intro (and_intro h.in_core (active_true d (sender_active (lawful ok) h))) (ap not (gone_before_law (s.crash d) k) ∙ h.up)
 
   pub true_sender : (d : ℕ) → sender s (suc k) w₀ d ≡ true → Sender (instance_of s) k d
   unfolding sender
   true_sender d h =
-      let in_core_law : has d (core_of s) ≡ true = search (and_left, and_right) in
+      let in_core : has d (core_of s) ≡ true = search (and_left, and_right) in
       let up : IsUp s k d = sym (ap not (gone_before_law (s.crash d) k)) ∙ search (and_left, and_right) in
-      record { in_core_law = in_core_law; awake = true_awake d ((lawful ok).in_frame in_core_law) up (search (and_left, and_right)); up = up }
+      record { in_core = in_core; awake = true_awake d ((lawful ok).in_frame in_core) up (search (and_left, and_right)); up = up }
 
   -- ---- closers
 
@@ -52,6 +52,6 @@ module _ {s : Scenario} (ok : Valid s) {k : ℕ} (round : k < size (core_of s)) 
   pub true_closer : (e : ℕ) → closer s (suc k) w₀ e ≡ true → Closer (instance_of s) k e
   unfolding closer
   true_closer e h =
-      let in_frame_law : InFrame (instance_of s) e = sym (is_drive_range s.n e) ∙ search (and_left, and_right) in
+      let in_frame : InFrame (instance_of s) e = sym (is_drive_range s.n e) ∙ search (and_left, and_right) in
       let up : IsUp s (suc k) e = search and_right in
-      record { in_frame_law = in_frame_law; awake = true_awake e in_frame_law ((lawful ok).no_return up) (search (and_left, and_right)); up = up }
+      record { in_frame = in_frame; awake = true_awake e in_frame ((lawful ok).no_return up) (search (and_left, and_right)); up = up }

@@ -94,7 +94,7 @@ module _ {s : Scenario} (ok : Valid s) {k : ℕ} (round : k < size (core_of s)) 
     by_halted e f u going idle =
         by_test (halted (instance_of s) k e)
         (λ h. idle h (z.follows.idle e f ((lawful ok).no_return u) h))
-        (λ h. going (record { in_frame_law = f; awake = h; up = u }))
+        (λ h. going (record { in_frame = f; awake = h; up = u }))
 
     next_begins : Begins s (suc k) w
     unfolding active decision_of

@@ -43,7 +43,7 @@ module _ {S : Instance} (L : Lawful S) (B : Bounded S) {k e : ℕ} (round : k < 
   x = state_of S k e reached_by
 
   pub closing_round : InRound S k e reached_by
-  closing_round = record { in_frame_law = c.in_frame; round = round; from_core = λ d h. (reaches_true L k d e h).sender.in_core_law }
+  closing_round = record { in_frame = c.in_frame; round = round; from_core = λ d h. (reaches_true L k d e h).sender.in_core }
 
   known_now : known_from S k e reached_by ≡ knows S (suc k) e
   known_now = known_all L k e ∙ fun_ext (λ y. sym (knows_now L c y))

@@ -36,7 +36,7 @@ use Rattle.agreement.proofs.States.Rules.{drive_64, has_core_set, core_set_full,
 
 -- d is another core drive, heard in the round before, whose message has not been accepted yet
 pub record Incoming (S : Instance) (k e : ℕ) (from : ℕ → Bool) (d : ℕ) : Type 0 where
-  pub in_core_law : S.core d ≡ true
+  pub in_core : S.core d ≡ true
   pub other : d ≡ e → ⊥
   pub was_heard : before S k e d ≡ true
   pub new : from d ≡ false
@@ -51,7 +51,7 @@ module _ {S : Instance} (L : Lawful S) (B : Bounded S) {k e : ℕ} {from : ℕ �
   with_d y = from y || eqb y d
 
   sender_in_frame : InFrame S d
-  sender_in_frame = L.in_frame m.in_core_law
+  sender_in_frame = L.in_frame m.in_core
 
   sender_byte : d < 256
   sender_byte = omega (arith, (drive_64 L B d sender_in_frame).1)
@@ -64,7 +64,7 @@ module _ {S : Instance} (L : Lawful S) (B : Bounded S) {k e : ℕ} {from : ℕ �
   record Tells (c : Content) : Type 0 where
     written : Written wide (message d (suc k) c)
     mask : wrong_mask n d c ≡ false
-    in_core_law : subset (mask_in c) (set_of core) ≡ true
+    in_core : subset (mask_in c) (set_of core) ≡ true
     same : any_differs x (entries_in c) ≡ false
     known : union (set_of (known_from S k e from)) (mask_in c) ≡ set_of (known_from S k e with_d)
     numbers : stored (numbers_of proposal (known_from S k e from)) (entries_in c) ≡ numbers_of proposal (known_from S k e with_d)
@@ -93,7 +93,7 @@ module _ {S : Instance} (L : Lawful S) (B : Bounded S) {k e : ℕ} {from : ℕ �
       receiving_accepted x (state_unbroken L B i) (state_running L B i) (message_bytes (message d (suc k) c)) (message d (suc k) c)
       (read_back n wide (message d (suc k) c) t.written (is_drive_range n d ∙ sender_in_frame) t.mask)
       (record {
-        core = or_neither (or_neither (ne_eqb d e m.other) (ap not (has_core_set L B core (λ y h. h) d ∙ m.in_core_law))) (ap not t.in_core_law);
+        core = or_neither (or_neither (ne_eqb d e m.other) (ap not (has_core_set L B core (λ y h. h) d ∙ m.in_core))) (ap not t.in_core);
         round = refl;
         before = has_core_set L B (before S k e) (before_core L k e) d ∙ m.was_heard;
         heard = has_core_set L B from i.from_core d ∙ m.new;
@@ -135,8 +135,8 @@ module _ {S : Instance} (L : Lawful S) (B : Bounded S) {k e : ℕ} {from : ℕ �
     tells_known = record {
       written = known_written wide d (suc k) sender_byte round_byte (set_of (knows S k d)) proposal (set_of_lt (knows S k d))
           (λ y h. B.patterns y (known_drive y (sym (has_known y) ∙ h)));
-      mask = ap not (and_intro (has_known d ∙ knows_own L k m.in_core_law) (core_set_full L B (knows S k d) (knows_core L k d)));
-      in_core_law = subset_set_of (knows S k d) core (knows_core L k d);
+      mask = ap not (and_intro (has_known d ∙ knows_own L k m.in_core) (core_set_full L B (knows S k d) (knows_core L k d)));
+      in_core = subset_set_of (knows S k d) core (knows_core L k d);
       same = none_differs x proposal (drives (set_of (knows S k d)))
           (λ y listed h. state_number L B i y (sym (has_core_set L B (known_from S k e from) (known_core L k e from) y) ∙ h));
       known = union_set_of (known_from S k e from) (knows S k d) ∙ ap set_of (fun_ext known_then);
@@ -153,7 +153,7 @@ module _ {S : Instance} (L : Lawful S) (B : Bounded S) {k e : ℕ} {from : ℕ �
     pattern_small : v < pattern_limit
     pattern_small =
         let p = decision_proposed L k d is in
-        subst (λ (z : ℕ). z < pattern_limit) (sym p.is) (B.patterns p.by (L.in_frame p.in_core_law))
+        subst (λ (z : ℕ). z < pattern_limit) (sym p.is) (B.patterns p.by (L.in_frame p.in_core))
 
     known_still : known_from S k e from ≡ known_from S k e with_d
     known_still = fun_ext (λ y. sym (known_with L k e from d sender_in_frame y ∙ rw is (or_false (known_from S k e from y))))
@@ -163,7 +163,7 @@ module _ {S : Instance} (L : Lawful S) (B : Bounded S) {k e : ℕ} {from : ℕ �
     tells_decided = record {
       written = decided_written wide d (suc k) sender_byte round_byte v pattern_small;
       mask = refl;
-      in_core_law = none_subset (set_of core);
+      in_core = none_subset (set_of core);
       same = refl;
       known = union_none (set_of (known_from S k e from)) ∙ ap set_of known_still;
       numbers = ap (numbers_of proposal) known_still;

@@ -48,7 +48,7 @@ module _ {S : Instance} (L : Lawful S) (B : Bounded S) where
   unfolding is_set
   core_is_set =
       and_intro
-      (set_of_some n B.high core (core_within core (λ d h. h)) ∙ any_intro core (range 1 n) B.core_drive (L.in_frame B.in_core_law) B.in_core_law)
+      (set_of_some n B.high core (core_within core (λ d h. h)) ∙ any_intro core (range 1 n) B.core_drive (L.in_frame B.in_core) B.in_core)
       (core_set_full core (λ d h. h))
 
   -- ---- the state of a drive in a round
@@ -68,10 +68,10 @@ module _ {S : Instance} (L : Lawful S) (B : Bounded S) where
     state_sound = record {
       frame = is_frame_law;
       core = core_is_set;
-      own_known = λ h. has_core_set (known_from S k e from) (known_core L k e from) e ∙ known_own L k e from (in_core_law h);
-      own_start = λ h. has_core_set (knows S k e) (knows_core L k e) e ∙ knows_own L k (in_core_law h);
+      own_known = λ h. has_core_set (known_from S k e from) (known_core L k e from) e ∙ known_own L k e from (core_of_state h);
+      own_start = λ h. has_core_set (knows S k e) (knows_core L k e) e ∙ knows_own L k (core_of_state h);
       drive = is_drive_range n e ∙ i.in_frame;
-      from_one_law = omega arith;
+      from_one = omega arith;
       to_size = i.round;
       before_core = subset_set_of (before S k e) core (before_core L k e);
       heard_core = subset_set_of from core i.from_core;
@@ -79,8 +79,8 @@ module _ {S : Instance} (L : Lawful S) (B : Bounded S) where
       start_core = subset_set_of (knows S k e) core (knows_core L k e);
     }
       where
-        in_core_law : in_core (state_of S k e from) ≡ true → core e ≡ true
-        in_core_law h = sym state_in_core ∙ h
+        core_of_state : in_core (state_of S k e from) ≡ true → core e ≡ true
+        core_of_state h = sym state_in_core ∙ h
 
     pub state_unbroken : broken (state_of S k e from) ≡ false
     state_unbroken = sound_unbroken (state_of S k e from) state_sound

@@ -46,14 +46,14 @@ module _ {S : Instance} (L : Lawful S) (B : Bounded S) {k e : ℕ} {from : ℕ �
   unfolding outgoing state_of value_of
   outgoing_is = ap (λ (c : Content). record { sender = e; round = suc k; content = c }) (outgoing_by (decision S k e))
 
-  module _ (in_core_law : core e ≡ true) (room start : ℕ) where
+  module _ (in_core : core e ≡ true) (room start : ℕ) where
     pub sending_state : start + length (message_of S k e) ≤ room → sending (state_of S k e from) room start ≡ yields (message_of S k e)
     sending_state fits =
-        sending_accepted (state_of S k e from) (state_unbroken L B i) (state_running L B i) room start (state_in_core L B i ∙ in_core_law)
+        sending_accepted (state_of S k e from) (state_unbroken L B i) (state_running L B i) room start (state_in_core L B i ∙ in_core)
         (rw outgoing_is fits)
         ∙ ap (λ (m : Message). yields (message_bytes m)) outgoing_is
 
     pub sending_no_room : room < start + length (message_of S k e) → sending (state_of S k e from) room start ≡ refused (number NoRoom)
     sending_no_room crowded =
-        sending_crowded (state_of S k e from) (state_unbroken L B i) (state_running L B i) room start (state_in_core L B i ∙ in_core_law)
+        sending_crowded (state_of S k e from) (state_unbroken L B i) (state_running L B i) room start (state_in_core L B i ∙ in_core)
         (rw outgoing_is crowded)

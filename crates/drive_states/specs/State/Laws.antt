@@ -16,7 +16,7 @@ pub record Sound (x : Exchange) : Type 0 where
   pub own_known : in_core x ≡ true → has x.own.0 x.known ≡ true
   pub own_start : in_core x ≡ true → has x.own.0 x.start ≡ true
   pub drive : is_drive x.n x.own.0 ≡ true
-  pub from_one_law : 1 ≤ x.round.0
+  pub from_one : 1 ≤ x.round.0
   pub to_size : x.round.0 ≤ size x.core
   pub before_core : subset x.before x.core ≡ true
   pub heard_core : subset x.heard x.core ≡ true

@@ -119,7 +119,7 @@ pub record Accepted (n : ℕ) (sets s : List ℕ) (f : RunFile) : Type 0 where
   pub patterns : Bytes s → (i : ℕ) → get_or f.numbers i 0 < pattern_limit
   pub passes : (d : ℕ) (c : CrashRecord) → crash_of f.crashes d ≡ some c → (c.drive ≡ d) × Allowed n (chosen (normal sets)) c
   pub drives_rise : ordered ltb (drives_of f.crashes) ≡ true
-  pub with_crash_law : (d : ℕ) → has d (crashed f.crashes) ≡ is_some (crash_of f.crashes d)
+  pub with_crash : (d : ℕ) → has d (crashed f.crashes) ≡ is_some (crash_of f.crashes d)
   pub untouched : (set : ℕ) × (elem set sets ≡ true) × ((d : ℕ) → has d set ≡ true → crash_of f.crashes d ≡ none)
 
 pub not_refused : (n : ℕ) (sets s : List ℕ) (f : RunFile) → read_run_file n sets s ≡ yields f → Accepted n sets s f
@@ -146,7 +146,7 @@ not_refused n sets s f e =
       patterns = numbers.patterns;
       passes = λ d x h. crash_allowed n core 0 c.crashes all d h;
       drives_rise = rising n core 0 c.crashes all;
-      with_crash_law = has_crashed n core high c.crashes all;
+      with_crash = has_crashed n core high c.crashes all;
       untouched =
           (set.0, set.1, λ d h. none_of (crash_of c.crashes d) (sym (has_crashed n core high c.crashes all d) ∙ meets_not d set.0 (crashed c.crashes) set.2 h));
     } in

@@ -46,7 +46,7 @@ normal_listing n sets e = accepted_table n (normal sets) (accepted_normal n sets
 
 -- the call opens a drive of the frame that was not opened yet, as the scenario asks for, from a listing of its table
 pub record Opens (s : Scenario) (done : ℕ → Bool) (c : Call) (d : ℕ) : Type 0 where
-  pub in_frame_law : is_drive s.n d ≡ true
+  pub in_frame : is_drive s.n d ≡ true
   pub new : done d ≡ false
   pub listing : List ℕ
   pub table : normal_table s.n listing ≡ yields (normal s.sets)
@@ -60,7 +60,7 @@ due_opens s done (opens d n sets own number) t =
     let own_is : own ≡ d = eqb-true own d (search (and_left, and_right)) in
     let number_is : number ≡ s.proposal d = eqb-true number (s.proposal d) (search and_right) in
     record {
-      in_frame_law = search (and_left, and_right);
+      in_frame = search (and_left, and_right);
       new = not-true (done d) (search (and_left, and_right));
       listing = sets;
       table = ap (λ (m : ℕ). normal_table m sets) (sym n-is) ∙ accepted;

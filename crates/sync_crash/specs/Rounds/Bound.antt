@@ -23,11 +23,11 @@ use Rattle.sync_crash.specs.Rounds.Invariant.{core_sends}
 
 module _ {S : Instance} (L : Lawful S) where
   open S use {n, core}
-  open L use {in_frame_law}
+  open L use {in_frame}
 
   module _ (e : ℕ) (f : InFrame S e) (up : StaysUp S e) where
     undecided_closes : (k : ℕ) → decision S k e ≡ none → Closer S k e
-    undecided_closes k o = record { in_frame_law = f; awake = undecided_awake L k e o; up = up (suc k) }
+    undecided_closes k o = record { in_frame = f; awake = undecided_awake L k e o; up = up (suc k) }
 
     module _ {q : ℕ} (i : core q ≡ true) (stays : StaysUp S q) where
       -- a core drive that stays up goes on while e is undecided: had it halted, e would have heard its announcement
@@ -36,12 +36,12 @@ module _ {S : Instance} (L : Lawful S) where
       stays_awake zero o = refl
       stays_awake (suc k) o =
           let o' = undecided_before L k e o in
-          let c : Closer S k q = record { in_frame_law = in_frame_law i; awake = stays_awake k o'; up = stays (suc k) } in
+          let c : Closer S k q = record { in_frame = in_frame i; awake = stays_awake k o'; up = stays (suc k) } in
           by_option (decision S k q) (awake_now L c i)
           (λ v m. absurd (clash (reached_decides L (undecided_closes k o') o' (closer_reaches L i c f (undecided_other L k e q o' m)) m) (is_none o)))
 
       stays_heard : (k : ℕ) → decision S k e ≡ none → heard S (after S k) k e q ≡ true
-      stays_heard k o = closer_heard L i (record { in_frame_law = in_frame_law i; awake = stays_awake k o; up = stays (suc k) }) e f
+      stays_heard k o = closer_heard L i (record { in_frame = in_frame i; awake = stays_awake k o; up = stays (suc k) }) e f
 
       -- and e has heard it in every round
       was_heard : (k : ℕ) → decision S k e ≡ none → before S k e q ≡ true
@@ -62,7 +62,7 @@ module _ {S : Instance} (L : Lawful S) where
             closer = c;
             undecided = o';
             unannounced = t;
-            same = and_intro (any_intro (heard S (after S k) k e) (range 1 n) p (in_frame_law pc) (stays_heard pc stays k o')) q;
+            same = and_intro (any_intro (heard S (after S k) k e) (range 1 n) p (in_frame pc) (stays_heard pc stays k o')) q;
           })).1))
           (λ w t. absurd (none_some o (decides_announced L c o' t)))
 
@@ -98,7 +98,7 @@ module _ {S : Instance} (L : Lawful S) where
 -- a core drive crashes in round k + 1 before it makes any send
 pub record LostUnheard (S : Instance) (k : ℕ) : Type 0 where
   pub drive : ℕ
-  pub in_core_law : S.core drive ≡ true
+  pub in_core : S.core drive ≡ true
   pub up : S.alive k drive ≡ true
   pub gone : S.alive (suc k) drive ≡ false
   pub unheard : (e : ℕ) → S.reach k drive e ≡ false
@@ -111,10 +111,10 @@ module _ {S : Instance} (L : Lawful S) (f : ℕ) (lost : (k : ℕ) → k < f →
       let rest = undecided_while_losing k (omega arith) in
       let o = rest d g (L.no_return u) in
       let x = lost k h in
-      let s = core_sends L (λ c i a. undecided_awake L k c (rest c (L.in_frame i) a)) x.in_core_law x.up in
+      let s = core_sends L (λ c i a. undecided_awake L k c (rest c (L.in_frame i) a)) x.in_core x.up in
       by_option (decision S (suc k) d) (λ q. q)
       (λ w m. absurd (⊎_elim
-      (λ t. let from = t.reached.sender in none_some (rest t.from (L.in_frame from.in_core_law) from.up) t.made)
+      (λ t. let from = t.reached.sender in none_some (rest t.from (L.in_frame from.in_core) from.up) t.made)
       (λ t. ⊎_elim
       (λ r. clash r.within (x.unheard d))
       (λ q. clash u (ap (S.alive (suc k)) (sym q.1) ∙ x.gone))

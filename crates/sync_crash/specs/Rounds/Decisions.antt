@@ -31,7 +31,7 @@ pub record StableClose (S : Instance) (k e : ℕ) : Type 0 where
 
 module _ {S : Instance} (L : Lawful S) where
   open S use {n}
-  open L use {in_frame_law}
+  open L use {in_frame}
 
   -- ---- announcements
 
@@ -39,7 +39,7 @@ module _ {S : Instance} (L : Lawful S) where
   unfolding announced announces
   announced_none {k} {d} {e} h r =
       sym (cond_true _ _ (true_reaches L r))
-      ∙ first_none (λ d. announces S (after S k) k d e) (range 1 n) d h (in_frame_law r.sender.in_core_law)
+      ∙ first_none (λ d. announces S (after S k) k d e) (range 1 n) d h (in_frame r.sender.in_core)
 
   pub announced_some : {k d e v : ℕ} → Reaches S k d e → decision S k d ≡ some v → (w : ℕ) × (announced S (after S k) k e ≡ some w)
   announced_some {k} {d} {e} r m =

@@ -28,9 +28,9 @@ module _ {S : Instance} (L : Lawful S) where
   -- F2. Whoever sends in round k + 1 was heard in round k by all that still take part.
   pub sender_was_heard : (k : ℕ) {d e : ℕ} → Sender S k d → Active S k e → before S k e d ≡ true
   unfolding after start
-  sender_was_heard zero s a = s.in_core_law
+  sender_was_heard zero s a = s.in_core
   sender_was_heard (suc k) {d} {e} s a =
-      before_now L (active_closed L a) d ∙ closer_heard s.in_core_law (active_closed L (sender_active L s)) e a.in_frame
+      before_now L (active_closed L a) d ∙ closer_heard s.in_core (active_closed L (sender_active L s)) e a.in_frame
 
   -- heard-of sets only shrink
   pub heard_was_heard : {k e : ℕ} → Closer S k e → heard S (after S k) k e ⊆ before S k e
@@ -42,7 +42,7 @@ module _ {S : Instance} (L : Lawful S) where
 
   -- and lie in the core
   pub heard_core : (k e : ℕ) → heard S (after S k) k e ⊆ core
-  heard_core k e d h = ⊎_elim (λ r. r.sender.in_core_law) (λ q. ap core q.1 ∙ q.0) (heard_cases L k e d h)
+  heard_core k e d h = ⊎_elim (λ r. r.sender.in_core) (λ q. ap core q.1 ∙ q.0) (heard_cases L k e d h)
 
   pub before_core : (k e : ℕ) → before S k e ⊆ core
   unfolding after start

@@ -39,7 +39,7 @@ pub record Invariant (S : Instance) (k v : ℕ) : Type 0 where
 -- a drive of the set that is alive after j rounds has decided after k
 pub record SomeDecided (S : Instance) (among : ℕ → Bool) (j k : ℕ) : Type 0 where
   pub drive : ℕ
-  pub in_frame_law : InFrame S drive
+  pub in_frame : InFrame S drive
   pub is_among : among drive ≡ true
   pub up : S.alive j drive ≡ true
   pub value : ℕ
@@ -47,7 +47,7 @@ pub record SomeDecided (S : Instance) (among : ℕ → Bool) (j k : ℕ) : Type 
 
 module _ {S : Instance} (L : Lawful S) where
   open S use {n, core, alive}
-  open L use {in_frame_law, no_return}
+  open L use {in_frame, no_return}
 
   -- some drive of the set has decided, or none has
   pub any_decided : (among : ℕ → Bool) (j k : ℕ)
@@ -58,7 +58,7 @@ module _ {S : Instance} (L : Lawful S) where
       let d = w.0 in
       let passed = w.2 in
       let v = some_of (decision S k d) (search (and_left, and_right)) in
-      inl (record { drive = d; in_frame_law = w.1; is_among = search and_left; up = search (and_left, and_right); value = v.0; made = v.1 }))
+      inl (record { drive = d; in_frame = w.1; is_among = search and_left; up = search (and_left, and_right); value = v.0; made = v.1 }))
       (λ t. inr (λ d f a u. none_of (decision S k d) (false_of (is_some (decision S k d)) (λ m.
       clash (and_intro a (and_intro u m)) (any_not test (range 1 n) d t f)))))
     where
@@ -72,10 +72,10 @@ module _ {S : Instance} (L : Lawful S) where
 
   module _ {k : ℕ} (awake : NoneHalted S k) where
     pub core_sends : {d : ℕ} → core d ≡ true → alive k d ≡ true → Sender S k d
-    core_sends {d} i a = record { in_core_law = i; awake = awake d i a; up = a }
+    core_sends {d} i a = record { in_core = i; awake = awake d i a; up = a }
 
     pub core_closes : {d : ℕ} → core d ≡ true → alive (suc k) d ≡ true → Closer S k d
-    core_closes {d} i a = record { in_frame_law = in_frame_law i; awake = awake d i (no_return a); up = a }
+    core_closes {d} i a = record { in_frame = in_frame i; awake = awake d i (no_return a); up = a }
 
     pub none_halted_next : ((d : ℕ) → core d ≡ true → alive (suc k) d ≡ true → decision S k d ≡ none) → NoneHalted S (suc k)
     none_halted_next undecided d i a = awake_now L (core_closes i a) i (undecided d i a)
@@ -87,7 +87,7 @@ module _ {S : Instance} (L : Lawful S) where
           same_sets
           (λ x t. ⊎_elim (λ o. o)
           (λ w. let from = w.reached.sender in
-          sym (ap (λ p. p x) (s.equal w.from d from.in_core_law from.up i (no_return a))) ∙ w.knew)
+          sym (ap (λ p. p x) (s.equal w.from d from.in_core from.up i (no_return a))) ∙ w.knew)
           (learnt L (core_closes i a) x t))
           (λ x. knows_stays L k d x)
 

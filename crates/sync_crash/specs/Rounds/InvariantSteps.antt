@@ -19,7 +19,7 @@ use Rattle.sync_crash.specs.Rounds.Invariant.{AllDecided, CoreDecided, NoneHalte
 
 module _ {S : Instance} (L : Lawful S) where
   open S use {core, alive}
-  open L use {in_frame_law, no_return}
+  open L use {in_frame, no_return}
 
   -- ---- all have decided
 
@@ -27,7 +27,7 @@ module _ {S : Instance} (L : Lawful S) where
   all_decided_next {k} I all = record {
     agree = λ d f a m. agree_stays L I d f a (some_of (decision S k d) (all d f (no_return a))).1 m;
     phase = inl (λ d f a. decided_stays L k d (all d f (no_return a)));
-    lock = λ e f l a m. inl (λ d i b. decided_stays L k d (all d (in_frame_law i) (no_return b)));
+    lock = λ e f l a m. inl (λ d i b. decided_stays L k d (all d (in_frame i) (no_return b)));
   }
 
   -- ---- who hears an announcement
@@ -37,7 +37,7 @@ module _ {S : Instance} (L : Lawful S) where
     all_reached : SomeDecided S core (suc k) k → AllDecided S (suc k)
     all_reached b e f u =
         by_option (decision S k e)
-        (λ o. reached_decides L (record { in_frame_law = f; awake = undecided_awake L k e o; up = u }) o
+        (λ o. reached_decides L (record { in_frame = f; awake = undecided_awake L k e o; up = u }) o
         (closer_reaches L b.is_among (core_closes L awake b.is_among b.up) f (undecided_other L k e b.drive o b.made)) b.made)
         (λ w q. is_some_law (decision_stays L k e q))
 
@@ -62,9 +62,9 @@ module _ {S : Instance} (L : Lawful S) where
         agree = λ d f u m. by_option (decision S k d)
             (λ o. let t = only_announced d o m in
             let s = t.reached.sender in
-            I.agree t.from (in_frame_law s.in_core_law) s.up t.made)
+            I.agree t.from (in_frame s.in_core) s.up t.made)
             (λ w q. agree_stays L I d f u q m);
-        phase = ⊎_elim (λ b. inl (all_reached awake b)) (λ none_left. inr (none_halted_next L awake (λ d i u. none_left d (in_frame_law i) i u)))
+        phase = ⊎_elim (λ b. inl (all_reached awake b)) (λ none_left. inr (none_halted_next L awake (λ d i u. none_left d (in_frame i) i u)))
             (any_decided L core (suc k) k);
         lock = λ e f l u m. by_option (decision S k e)
             (λ o. inl (core_reached awake l (only_announced e o m)))
@@ -76,7 +76,7 @@ module _ {S : Instance} (L : Lawful S) where
     module _ {p : ℕ} (pc : core p ≡ true) (stays : StaysUp S p) (core-undecided : (d : ℕ) → core d ≡ true → alive k d ≡ true → decision S k d ≡ none) where
       only_stable : (e : ℕ) {w : ℕ} → decision S k e ≡ none → decision S (suc k) e ≡ some w → StableClose S k e × (smallest_of S (knows S (suc k) e) ≡ some w)
       only_stable e o m =
-          ⊎_elim (λ t. let s = t.reached.sender in absurd (none_some (core-undecided t.from s.in_core_law s.up) t.made)) (λ t. t) (how_decided L k e o m)
+          ⊎_elim (λ t. let s = t.reached.sender in absurd (none_some (core-undecided t.from s.in_core s.up) t.made)) (λ t. t) (how_decided L k e o m)
 
       awake_next : NoneHalted S (suc k)
       awake_next = none_halted_next L awake (λ d i u. core-undecided d i (no_return u))
@@ -155,7 +155,7 @@ module _ {S : Instance} (L : Lawful S) where
         (λ all. (v, all_decided_next I all))
         (λ awake. ⊎_elim
         (λ a. (v, announced_next awake I a))
-        (λ core-undecided. stable_next awake I pc stays (λ d i u. core-undecided d (in_frame_law i) i u))
+        (λ core-undecided. stable_next awake I pc stays (λ d i u. core-undecided d (in_frame i) i u))
         (any_decided L core k k))
         I.phase
 

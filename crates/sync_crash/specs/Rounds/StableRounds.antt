@@ -17,7 +17,7 @@ use Rattle.sync_crash.specs.Rounds.HeardSets.{sender_was_heard, listener_knows_l
 
 module _ {S : Instance} (L : Lawful S) where
   open S use {n, core}
-  open L use {in_frame_law}
+  open L use {in_frame}
 
   -- a drive that finds the round stable heard somebody, so that it knows a number
   stable_knows : {k e : ℕ} → StableClose S k e → (x : ℕ) × (knows S (suc k) e x ≡ true)
@@ -26,7 +26,7 @@ module _ {S : Instance} (L : Lawful S) where
       let w = any_elem (heard S (after S k) k e) (range 1 n) (and_left (any (heard S (after S k) k e) (range 1 n)) _ q.same) in
       let d = w.0 in
       ⊎_elim
-      (λ r. (d, learns L q.closer r (announced_none L q.unannounced r) d (knows_own L k r.sender.in_core_law)))
+      (λ r. (d, learns L q.closer r (announced_none L q.unannounced r) d (knows_own L k r.sender.in_core)))
       (λ p. (e, knows_own L (suc k) p.0))
       (heard_cases L k e d w.2)
 
@@ -38,14 +38,14 @@ module _ {S : Instance} (L : Lawful S) where
 
   -- every sender is heard
   pub stable_hears : {k e d : ℕ} → stable S (after S k) k e ≡ true → Closer S k e → Sender S k d → heard S (after S k) k e d ≡ true
-  stable_hears {k} {e} {d} q c s = stable_unchanged k e d q (in_frame_law s.in_core_law) ∙ sender_was_heard L k s (closer_active L c)
+  stable_hears {k} {e} {d} q c s = stable_unchanged k e d q (in_frame s.in_core) ∙ sender_was_heard L k s (closer_active L c)
 
   module _ {k e : ℕ} (q : StableClose S k e) where
     -- so it decides
     pub stable_decides : (v : ℕ) × (decision S (suc k) e ≡ some v)
     stable_decides =
         let w = stable_knows q in
-        let v = smallest_of_some L (knows S (suc k) e) w.0 (in_frame_law (knows_core L (suc k) e w.0 w.1)) w.1 in
+        let v = smallest_of_some L (knows S (suc k) e) w.0 (in_frame (knows_core L (suc k) e w.0 w.1)) w.1 in
         (v.0, decides_stable L q ∙ v.1)
 
     -- Q1. Nobody who sends has decided.

@@ -17,13 +17,13 @@ use Rattle.sync_crash.specs.Rounds.{Instance, InFrame, Lawful, start, sends, rea
 
 -- e takes part in round k + 1
 pub record Active (S : Instance) (k e : ℕ) : Type 0 where
-  pub in_frame_law : InFrame S e
+  pub in_frame : InFrame S e
   pub awake : halted S k e ≡ false
   pub up : S.alive k e ≡ true
 
 -- d sends in round k + 1
 pub record Sender (S : Instance) (k d : ℕ) : Type 0 where
-  pub in_core_law : S.core d ≡ true
+  pub in_core : S.core d ≡ true
   pub awake : halted S k d ≡ false
   pub up : S.alive k d ≡ true
 
@@ -34,7 +34,7 @@ pub record Reaches (S : Instance) (k d e : ℕ) : Type 0 where
 
 -- e closes round k + 1
 pub record Closer (S : Instance) (k e : ℕ) : Type 0 where
-  pub in_frame_law : InFrame S e
+  pub in_frame : InFrame S e
   pub awake : halted S k e ≡ false
   pub up : S.alive (suc k) e ≡ true
 
@@ -47,17 +47,17 @@ pub record Learnt (S : Instance) (k e x : ℕ) : Type 0 where
 
 module _ {S : Instance} (L : Lawful S) where
   open S use {n, core, alive, reach}
-  open L use {in_frame_law, no_return}
+  open L use {in_frame, no_return}
 
   -- ---- the tests and the records
 
   pub sends_true : (k d : ℕ) → sends S (after S k) k d ≡ true → Sender S k d
   unfolding sends
-  sends_true k d h = record { in_core_law = search and_left; awake = search (and_left, and_right, not-true); up = search (and_left, and_right) }
+  sends_true k d h = record { in_core = search and_left; awake = search (and_left, and_right, not-true); up = search (and_left, and_right) }
 
   pub true_sends : {k d : ℕ} → Sender S k d → sends S (after S k) k d ≡ true
   unfolding sends
-  true_sends s = and_intro s.in_core_law (and_intro (ap not s.awake) s.up)
+  true_sends s = and_intro s.in_core (and_intro (ap not s.awake) s.up)
 
   pub reaches_true : (k d e : ℕ) → reaches S (after S k) k d e ≡ true → Reaches S k d e
   unfolding reaches
@@ -69,7 +69,7 @@ module _ {S : Instance} (L : Lawful S) where
 
   pub closes_true : (k e : ℕ) → closes S (after S k) k e ≡ true → Closer S k e
   unfolding closes
-  closes_true k e h = record { in_frame_law = search and_left; awake = search (and_left, and_right, not-true); up = search (and_left, and_right) }
+  closes_true k e h = record { in_frame = search and_left; awake = search (and_left, and_right, not-true); up = search (and_left, and_right) }
 
   pub true_closes : {k e : ℕ} → Closer S k e → closes S (after S k) k e ≡ true
   unfolding closes
@@ -150,16 +150,16 @@ module _ {S : Instance} (L : Lawful S) where
   -- ---- from round to round
 
   pub closer_active : {k e : ℕ} → Closer S k e → Active S k e
-  closer_active c = record { in_frame_law = c.in_frame; awake = c.awake; up = no_return c.up }
+  closer_active c = record { in_frame = c.in_frame; awake = c.awake; up = no_return c.up }
 
   pub active_closed : {k e : ℕ} → Active S (suc k) e → Closer S k e
-  active_closed {k} {e} a = record { in_frame_law = a.in_frame; awake = awake_before k e a.awake; up = a.up }
+  active_closed {k} {e} a = record { in_frame = a.in_frame; awake = awake_before k e a.awake; up = a.up }
 
   pub sender_active : {k d : ℕ} → Sender S k d → Active S k d
-  sender_active s = record { in_frame_law = in_frame_law s.in_core_law; awake = s.awake; up = s.up }
+  sender_active s = record { in_frame = in_frame s.in_core; awake = s.awake; up = s.up }
 
   pub active_sends : {k d : ℕ} → core d ≡ true → Active S k d → Sender S k d
-  active_sends i a = record { in_core_law = i; awake = a.awake; up = a.up }
+  active_sends i a = record { in_core = i; awake = a.awake; up = a.up }
 
   -- ---- who is heard
 
@@ -182,7 +182,7 @@ module _ {S : Instance} (L : Lawful S) where
   unfolding known adds
   learns {k} {e} {d} c r o x t =
       knows_now c x
-      ∙ or_right (knows S k e x) (any_intro (λ y. adds S (after S k) k y e x) (range 1 n) d (in_frame_law r.sender.in_core_law)
+      ∙ or_right (knows S k e x) (any_intro (λ y. adds S (after S k) k y e x) (range 1 n) d (in_frame r.sender.in_core)
       (and_intro (true_reaches r) (and_intro (ap not (is_none o)) t)))
 
   pub learnt : {k e : ℕ} → Closer S k e → (x : ℕ) → knows S (suc k) e x ≡ true → (knows S k e x ≡ true) ⊎ Learnt S k e x

@@ -19,7 +19,7 @@ use Rattle.sync_crash.specs.Rounds.Decisions.{how_decided}
 -- v is the proposal of a core drive
 pub record Proposed (S : Instance) (v : ℕ) : Type 0 where
   pub by : ℕ
-  pub in_core_law : S.core by ≡ true
+  pub in_core : S.core by ≡ true
   pub is : v ≡ S.proposal by
 
 module _ {S : Instance} (L : Lawful S) where
@@ -61,6 +61,6 @@ module _ {S : Instance} (L : Lawful S) where
       by_option (decision S k e)
       (λ o. ⊎_elim
       (λ t. decision_proposed k t.from t.made)
-      (λ t. let w = smallest_of_member (knows S (suc k) e) t.1 in record { by = w.0; in_core_law = knows_core (suc k) e w.0 w.1; is = w.2 })
+      (λ t. let w = smallest_of_member (knows S (suc k) e) t.1 in record { by = w.0; in_core = knows_core (suc k) e w.0 w.1; is = w.2 })
       (how_decided L k e o m))
       (λ u q. decision_proposed k e (q ∙ ap some (same_some (decision_stays L k e q) m)))
