@@ -1,7 +1,7 @@
 -- A drive is undecided exactly if its closes so far left it undecided: only a close decides, and in a run nothing
 -- undoes a decision.
 use mathlib.Core.Path.{◌≡◌, refl, sym, ap, ◌∙◌, subst}
-use mathlib.Core.Bool.{Bool, true, false, not, ◌||◌}
+use mathlib.Core.Bool.{Bool, true, false, not, ◌||◌, cond}
 use mathlib.Core.Logic.{⊎_elim}
 use mathlib.Core.List.{List, [], ◌∷◌, ◌++◌, append_assoc}
 use Prim.Native.Nat.{ℕ, zero, suc}
@@ -101,15 +101,15 @@ given_decided (by_close {x} there q) none h =
     ap (λ (z : Exchange). is_decided z.decision) (closed_next x q)
     ∙ decide_keeps x x.decision x.announced (sym (ap (λ (z : Slot). is_decided (decision_of z)) there) ∙ h)
 
-call_lasts : (w : World) (c : Call) (is_due_law : Bool) → (is_due_law || refused_in w c) ≡ true
-    → (is_due_law ≡ true → (d n : ℕ) (sets : List ℕ) (own number : ℕ) → HasDecided (w d) → c ≡ opens d n sets own number → ⊥)
+call_lasts : (w : World) (c : Call) (is_due : Bool) → (is_due || refused_in w c) ≡ true
+    → (is_due ≡ true → (d n : ℕ) (sets : List ℕ) (own number : ℕ) → HasDecided (w d) → c ≡ opens d n sets own number → ⊥)
     → (d : ℕ) → HasDecided (w d) → HasDecided (apply w c d)
 unfolding decision_of
-call_lasts w c is_due_law t none d h =
+call_lasts w c is_due t none d h =
     ⊎_elim
     (λ i. call_keeps document01 HasDecided w c d h (λ y g. given_decided g (λ n sets own number. none i d n sets own number h) h))
     (λ r. ap (λ (z : Slot). is_decided (decision_of z)) (refused_keeps document01 w c r d) ∙ h)
-    (or_cases is_due_law (refused_in w c) t)
+    (or_cases is_due (refused_in w c) t)
 
 module _ (s : Scenario) where
   round_lasts : (r : ℕ) (w₀ : World) (b : RoundProgress) (w : World) (cs : List Call) → round_part s r w₀ b w cs ≡ true → Lasting w cs
@@ -118,7 +118,7 @@ module _ (s : Scenario) where
   round_lasts r w₀ b w (c ∷ cs) t =
       let now = due s r w₀ b w c || refused_in w c in (
         call_lasts w c (due s r w₀ b w c) (and_left now _ t) (λ i d n sets own number h is. clash (sym (ap (due s r w₀ b w) is) ∙ i) refl),
-        round_lasts r w₀ _ (apply w c) cs (and_right now _ t),
+        round_lasts r w₀ (cond (due s r w₀ b w c) (anyRuns.noted document01 s r w₀ b w c) b) (apply w c) cs (and_right now _ t),
       )
 
   rounds_last : (r : ℕ) (w : World) (ps : List (List Call)) → round_parts s r w ps ≡ true → Lasting w (joined ps)

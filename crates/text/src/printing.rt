@@ -20,7 +20,8 @@ pub fn print(text: &[u8], out: &mut [u8], start: usize) -> Writing
     if !lent_bytes::fits(out.len(), start, text.len()) {
         return Writing::Refused(Refusal::NoRoom);
     }
-    bytes::copy(text, &mut out[start..]);
+    let end = start + text.len();
+    out[start..end].copy_from_slice(text);
     Writing::Wrote(text.len())
 }
 

@@ -1,0 +1,10 @@
+-- Not known, or known and compared.
+use borrow.Author.Tests.{not-true, not-false}
+use borrow.Author.Rules.{rules}
+use Rattle.accepted_messages.proofs.entries.conflicts.Goals as goal
+
+pub returns-then-not-has : goal.returns-then-not-has
+returns-then-not-has c = rw (← c.has.ensures, c.if-not-has.true)
+
+pub returns : goal.returns
+returns c = rw (← c.has.ensures, c.if-not-has.false)

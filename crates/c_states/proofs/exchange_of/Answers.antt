@@ -1,0 +1,6 @@
+-- Two parts are read by calls, the others are the fields.
+use borrow.Author.Rules.{rules}
+use Rattle.c_states.proofs.exchange_of.Goals as goal
+
+pub returns : goal.returns
+returns c = rw (c.announcement_in-announced.ensures, c.decision_in-decision.ensures)

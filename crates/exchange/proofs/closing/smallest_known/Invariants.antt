@@ -1,0 +1,17 @@
+-- The known drives from the lowest, each number against the smallest so far.
+use native.Mathlib.Omega.{arith}
+use Rattle.drive_sets.specs.Lists.{smallest}
+use Rattle.drive_sets.specs.Masks.{size}
+use Rattle.drive_sets.specs.Masks.Sizes.{drives_none}
+use Rattle.drive_sets.specs.Loops.Drives.{taken, taken_fewer, lowest_bounds}
+use Rattle.drive_states.specs.State.{number_in}
+use Rattle.agreement.specs.Calls.{decision_on}
+use Rattle.exchange.proofs.Least.{Least, least_start, least_turn, least_end}
+use borrow.Author.Rules.{rules}
+use Rattle.exchange.proofs.closing.smallest_known.Given as goal
+
+abbrev pub invariant-loop-m : goal.invariant-loop-m
+invariant-loop-m l = Least (number_in l.numbers) l.known l.best.0 l.m
+
+abbrev pub decreases-loop-m : goal.decreases-loop-m
+decreases-loop-m l = size l.m

@@ -1,0 +1,6 @@
+-- No crash beside the refusal.
+use borrow.Author.Rules.{rules}
+use Rattle.run_files.proofs.reading.refused_file.Goals as goal
+
+pub returns : goal.returns
+returns c = rw c.no_crashes.ensures

@@ -1,0 +1,17 @@
+-- The drive, how it ends, the newline.
+-- TODO 14 arguments, 12 goals, 2 invariants
+use mathlib.Core.Path.{sym, ap}
+use mathlib.Core.Bool.{Bool}
+use Rattle.records.specs.Marks.{ascii}
+use Rattle.drive_sets.specs.Filled.Laws.{filled_same}
+use Rattle.drive_crashes.specs.Crashes.{round_at}
+use Rattle.drive_states.specs.State.{number_in}
+use Rattle.text.proofs.Puts.{filled_both}
+use Rattle.run_listing.specs.RunListing.{ending_text, drive_line}
+use Rattle.simulated_decisions.specs.Endings.{ending_for, ending_at}
+use borrow.Author.Rules.{rules}
+use Rattle.run_listing.proofs.run_text.put_drive.Goals as goal
+
+pub returns : goal.returns
+unfolding drive_line ascii ending_at number_in
+returns c = let a = c.args in filled_both (search rules) c.put_named-headed.ensures (filled_both (search rules) (filled_same (ap (λ (b : Bool). ending_text (ending_for b (round_at a.t5 a.d.0) (number_in a.t6 a.d.0))) (sym c.has.ensures)) c.put_ending-ended.ensures) c.put_all.ensures)

@@ -1,0 +1,28 @@
+-- The lines of the drives, one after the other.
+use native.Mathlib.Omega.{arith}
+use Prim.Native.Nat.{◌-◌}
+use Rattle.drive_sets.specs.Lists.{range}
+use Rattle.drive_sets.specs.Lists.Places.{length_range}
+use Rattle.text.proofs.Puts.{Putting, putting_start, putting_turn, putting_end}
+use Rattle.run_listing.specs.RunListing.{drive_line}
+use Rattle.simulated_decisions.specs.Endings.{ending_at}
+use Rattle.run_listing.specs.RunParts.{drive_lines}
+use Rattle.run_listing.proofs.RunPrograms.{drive_at_law}
+use borrow.Author.Rules.{rules}
+use Rattle.run_listing.proofs.run_text.put_drives.Goals as goal
+
+pub loop-i-init : goal.loop-i-init
+unfolding drive_lines
+loop-i-init c = putting_start _ (omega arith)
+
+pub loop-i-preserved : goal.loop-i-preserved
+unfolding drive_lines
+loop-i-preserved c = putting_turn c.loop-i.invariant (omega (arith, length_range 1 c.args.n)) (drive_at_law 1 c.args.n c.loop-i.i c.loop-i-test.true) (search rules) c.put_drive-at.ensures
+
+pub shape_of-buf : goal.shape_of-buf
+unfolding drive_lines
+shape_of-buf c = c.loop-i.invariant.long
+
+pub returns : goal.returns
+unfolding drive_lines
+returns c = putting_end c.loop-i.invariant (omega (arith, length_range 1 c.args.n))

@@ -1,0 +1,6 @@
+-- The first from the front on.
+use borrow.Author.Rules.{rules}
+use Rattle.survivor_tables.proofs.missed.first_missed.Goals as goal
+
+pub returns : goal.returns
+returns c = c.next_missed.ensures

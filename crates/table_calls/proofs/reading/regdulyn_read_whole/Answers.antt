@@ -1,0 +1,7 @@
+-- The table that the bytes are.
+use Rattle.table_replies.proofs.ReadTables.{whole_held}
+use borrow.Author.Rules.{rules}
+use Rattle.table_calls.proofs.reading.regdulyn_read_whole.Goals as goal
+
+pub returns : goal.returns
+returns c = let a = c.args in let r = c.read_whole-t in let h = whole_held r.result a.s.now r.ensures.0 in c.put_table.ensures _ _ h

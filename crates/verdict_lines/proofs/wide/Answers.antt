@@ -1,0 +1,7 @@
+-- The four items of the array.
+use Rattle.verdict_lines.proofs.HeldVerdicts.{all_four}
+use borrow.Author.Rules.{rules}
+use Rattle.verdict_lines.proofs.wide.Goals as goal
+
+pub returns : goal.returns
+returns c = all_four c.args.t1 (search rules)

@@ -1,0 +1,15 @@
+-- The place of each set put in turn.
+use borrow.Author.Rules.{rules}
+use Rattle.verdict_search.proofs.Building.{lacking_turn}
+use Rattle.verdict_search.specs.Columns.{LackingTo}
+use native.Mathlib.Omega.{arith}
+use lib.ListN.{length}
+use mathlib.Core.Path.{◌≡◌}
+use Prim.Native.Nat.{◌-◌, ◌≤◌}
+use Rattle.verdict_search.proofs.columns.put_lacking.Given as goal
+
+abbrev pub invariant-loop-place : goal.invariant-loop-place
+invariant-loop-place l = (l.place ≤ length l.table) × (length l.columns ≡ length l.initial.columns) × LackingTo l.place l.table l.columns l.frame
+
+abbrev pub decreases-loop-place : goal.decreases-loop-place
+decreases-loop-place l = length l.table - l.place
