@@ -76,7 +76,7 @@ module _ {m : ℕ} {old part : List ℕ} {rest i : ℕ} (p : Placing m old part 
 
 -- a reply and a lent slice say what is due
 abbrev pub Listed : Outcome (List ℕ) → List ℕ → SizeReply → List ℕ → Type 0
-Listed due old r new = (r ≡ size_reply (size_written due)) × (new ≡ buffer_after due 0 old)
+Listed due old r new = record { value : r ≡ size_reply (size_written due); out_after : new ≡ buffer_after due 0 old }
 
 module _ (a b k l : ℕ) (old : List ℕ) (e : k ≡ size a) (f : l ≡ size b) where
   abbrev both : List ℕ
@@ -86,20 +86,20 @@ module _ (a b k l : ℕ) (old : List ℕ) (e : k ≡ size a) (f : l ≡ size b) 
   length_both = omega (arith, length-append (drives a) (drives b), length_drives a, length_drives b)
 
   pub both_full : length old < k + l → (r : SizeReply) → r ≡ size_reply (refused (number NoRoom)) → Listed (fitting 0 (length old) both) old r old
-  both_full h r g = (
-    g ∙ ap (λ (q : Outcome (List ℕ)). size_reply (size_written q)) (sym (no_room 0 (length old) both (omega (arith, length_both)))),
-    after_none old both (length old) (omega (arith, length_both)),
-  )
+  both_full h r g = record {
+    value = g ∙ ap (λ (q : Outcome (List ℕ)). size_reply (size_written q)) (sym (no_room 0 (length old) both (omega (arith, length_both))));
+    out_after = after_none old both (length old) (omega (arith, length_both));
+  }
 
   pub both_put : k + l ≤ length old → (first back : List ℕ) → first ≡ written (drives a) old
       → back ≡ written (drives b) (take (length first - k) (drop k first))
       → Listed (fitting 0 (length old) both) old (record { size = k + l; refusal = 0 }) (put_mid k (length first - k) first back)
   both_put h first back g p =
-      let fits = has_room 0 (length old) both (omega (arith, length_both)) in (
-        ap (λ (n : ℕ). record { size = n; refusal = 0 }) (sym length_both) ∙ ap (λ (q : Outcome (List ℕ)). size_reply (size_written q)) (sym fits),
-        part_then old (drives a) (drives b) first back k g (e ∙ sym (length_drives a)) (omega (arith, length_drives a, length_drives b)) p
-            ∙ (sym (written_at_start both old) ∙ ap (λ (q : Outcome (List ℕ)). buffer_after q 0 old) (sym fits)),
-      )
+      let fits = has_room 0 (length old) both (omega (arith, length_both)) in record {
+        value = ap (λ (n : ℕ). record { size = n; refusal = 0 }) (sym length_both) ∙ ap (λ (q : Outcome (List ℕ)). size_reply (size_written q)) (sym fits);
+        out_after = part_then old (drives a) (drives b) first back k g (e ∙ sym (length_drives a)) (omega (arith, length_drives a, length_drives b)) p
+            ∙ (sym (written_at_start both old) ∙ ap (λ (q : Outcome (List ℕ)). buffer_after q 0 old) (sym fits));
+      }
 
 -- ---- the list of a state that keeps the rules
 

@@ -21,7 +21,7 @@ use Rattle.survivor_tables.specs.Order.{normal}
 use Rattle.agreement.specs.Calls.{initial, opening}
 use Rattle.agreement.proofs.CallLaws.{opening_accepted}
 use Rattle.runs.specs.World.{opens, Slot, opened, World, nothing_open, put, after_call}
-use Rattle.agreement.specs.Document01.{apply, apply_all}
+use Rattle.agreement.specs.Document01.{apply_all}
 use Rattle.runs.specs.World as worlds
 use Rattle.runs.specs.World.Laws.{put_same, put_other}
 use Rattle.runs.specs.Scenario.{Scenario, frame, core_of}

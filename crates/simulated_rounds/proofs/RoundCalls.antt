@@ -13,7 +13,7 @@ use Rattle.drive_sets.specs.Counts.{is_drive}
 use Rattle.drive_sets.specs.Counts.Laws.{is_drive_range}
 use Rattle.agreement.specs.Calls.{sending}
 use Rattle.runs.specs.World.{Call, sends, closes, Slot, opened, World, active}
-use Rattle.agreement.specs.Document01.{document01, apply, apply_all, sending_of}
+use Rattle.agreement.specs.Document01.{document01, apply_all, sending_of}
 use Rattle.runs.specs.World as worlds
 use Rattle.runs.specs.World.Laws.{apply_all_append}
 use Rattle.runs.specs.Scenario.{Crash, Scenario, frame, gone_before, gone_by}

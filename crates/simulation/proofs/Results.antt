@@ -27,7 +27,7 @@ use Rattle.drive_sets.specs.Counts.{is_drive}
 use Rattle.drive_sets.specs.Limits.{pattern_limit}
 use Rattle.drive_sets.specs.Counts.Laws.{drive_bounds, is_drive_range}
 use Rattle.runs.specs.Scenario.{Crash, stays, crashes, Scenario, frame, core_of, has_crash}
-use Rattle.runs.specs.CrashRecords.{CrashRecord, crashed, crash_in, scenario}
+use Rattle.runs.specs.CrashRecords.{CrashRecord, crash_in, scenario}
 use Rattle.runs.specs.Statement.{Valid, Up, core_crashes}
 use Rattle.agreement.specs.RoundEndings.{Ending, stopped, ending_of, endings}
 use Rattle.agreement.specs.Canonical.{canonical_ending, CanonicalGives}

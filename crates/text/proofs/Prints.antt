@@ -1,56 +1,45 @@
--- A text printed into a lent buffer: the copy over the part from the starting place on, a text that was put into a
+-- A text printed into a lent buffer: the copy over its places from the starting place on, a text that was put into a
 -- buffer of its own first, and a file that was written there or refused.
-use mathlib.Core.Path.{◌≡◌, refl, sym, ap, ◌∙◌, subst}
-use mathlib.Core.Bool.{Bool, false, not}
+use mathlib.Core.Path.{◌≡◌, refl, sym, ap, ap₂, ◌∙◌, subst}
 use mathlib.Core.List.{List, ◌++◌}
-use Prim.Native.Nat.{ℕ, ◌+◌, ◌-◌, ◌≤◌, min}
+use Prim.Native.Nat.{ℕ, ◌+◌, ◌-◌, ◌≤◌}
 use native.Mathlib.Omega.{arith}
-use lib.Dec.{leb}
-use lib.ListN.{length, take, drop, length-take, length-drop}
-use lib.Seq.{take_all}
-use borrow.Author.Tests.{le-leb, leb-true, not-false}
+use lib.ListN.{length, take, drop, length-drop}
 use borrow.Rule.Slice.PartMut.{put_mid}
-use Rattle.drive_sets.specs.Bools.Laws.{cond_true}
 use Rattle.drive_sets.specs.Filled.{Filled}
 use Rattle.drive_sets.specs.Filled.Laws.{filled_same}
 use Rattle.drive_sets.specs.Refusals.{Outcome, refused, yields}
 use Rattle.drive_sets.specs.Refusals.Laws.{refused_no_result, same_refused, same_result}
 use Rattle.lent_bytes.specs.declared.Writing.{Writing}
 use Rattle.lent_bytes.specs.declared.Writing.TheVariants as writings
-use Rattle.drive_sets.specs.Lent.{written, size_written, buffer_after}
-use Rattle.drive_sets.specs.Lent.Laws.{has_room, first_places}
+use Rattle.drive_sets.specs.Lent.{written, written_at, size_written, buffer_after}
+use Rattle.drive_sets.specs.Lent.Laws.{has_room, written_fits, first_places}
 use Rattle.lent_bytes.specs.LentBuffers.{WrittenIfRoom}
-use Rattle.records.proofs.Parts.{rest_is}
-use Rattle.lent_bytes.proofs.Buffers.{written_all}
+use Rattle.lent_bytes.proofs.Buffers.{written_as}
 use Rattle.text.specs.Text.{refusal_line}
-use Rattle.text.specs.Printing.{Printed, bytes_in, AnswerPut, printed}
+use Rattle.text.specs.Printing.{Printed, AnswerPut, printed}
 use Rattle.text.proofs.Puts.{cut}
 
-pub prints_all : (text : List ℕ) (start : ℕ) (old : List ℕ) (t : Bool) (e : t ≡ leb (start + length text) (length old)) → not t ≡ false → (back : List ℕ)
-    → back ≡ take (length text) text ++ drop (length text) (take (length old - start) (drop start old))
-    → Printed text start old (put_mid start (length old - start) old back) (writings.Wrote (length text))
-unfolding written
-prints_all text start old t e h back f = written_all text start old (length text) refl t e h back (f ∙ copied)
+pub prints_all : (text : List ℕ) (start : ℕ) (old : List ℕ) → start + length text ≤ length old → (back : List ℕ) → back ≡ text
+    → Printed text start old (put_mid start (start + length text - start) old back) (writings.Wrote (length text))
+unfolding written_at
+prints_all text start old h back f =
+    written_as (sym (has_room start (length old) text h)) (record { answer = refl; buffer = ap (λ (l : List ℕ). take start old ++ l) copied })
   where
-    part : List ℕ
-    part = take (length old - start) (drop start old)
+    room : length text ≤ length (drop start old)
+    room = omega (arith, length-drop start old)
 
-    room : length text ≤ length part
-    room = omega (arith, ap length (rest_is old start), length-drop start old, leb-true (start + length text) (length old) (sym e ∙ not-false t h))
+    size : start + length text - start ≡ length text
+    size = omega arith
 
-    copied : take (length text) text ++ drop (length text) part ≡ written text part
-    copied = ap (λ (l : List ℕ). l ++ drop (length text) part) (take_all (length text) text (omega arith))
-        ∙ sym (cond_true _ _ (le-leb (length text) (length part) room))
+    copied : back ++ drop (start + length text - start) (drop start old) ≡ written text (drop start old)
+    copied = ap₂ (λ (l : List ℕ) (k : ℕ). l ++ drop k (drop start old)) f size ∙ sym (written_fits text (drop start old) room)
 
 -- a text that fits, put into a buffer from its first place on and handed over
 pub prints_put : (start : ℕ) {buf old text out back : List ℕ} {size : ℕ} {r : Writing} → Filled buf old 0 size text → length text ≤ length buf
     → Printed (take (size - 0) old) start out back r → Printed text start out back r
 prints_put start {buf} {old} {text} {out} {back} {size} {r} f h p =
     subst (λ (l : List ℕ). Printed l start out back r) (cut old size ∙ f.kept (omega (arith, f.total))) p
-
--- no more than the buffer has is counted
-pub counted : (buf : List ℕ) (w : Writing) (r : ℕ) → r ≡ min (bytes_in w) (length buf) → ((r ≤ length buf) × (r ≡ length (take r buf))) × (r ≡ min (bytes_in w) (length buf))
-counted buf w r e = ((omega arith, omega (arith, length-take r buf)), e)
 
 -- ---- what was written, or refused, where there is room
 

@@ -7,7 +7,7 @@ use Prim.Native.Nat.{ℕ, ◌≤◌}
 use native.Mathlib.Omega.{arith}
 use lib.Dec.{leb}
 use lib.ListN.{length, take}
-use borrow.Author.Tests.{le-leb, not-true}
+use borrow.Author.Tests.{le-leb}
 use Rattle.drive_sets.specs.Bools.Laws.{clash}
 use Rattle.drive_sets.specs.Lists.{elem}
 use Rattle.drive_sets.specs.Masks.{full}
@@ -31,8 +31,8 @@ pub count_bounds : (k : ℕ) {good : Bool} → good ≡ (leb 2 k && leb k 4) →
 count_bounds k is h = block_count_within k (ap not (sym is) ∙ h)
 
 -- and where it did not
-pub no_count : (k : ℕ) {good : Bool} → good ≡ (leb 2 k && leb k 4) → not good ≡ true → 2 ≤ k → k ≤ 4 → ⊥
-no_count k {good} is h low high = clash (is ∙ rw (le-leb 2 k low, le-leb k 4 high)) (not-true good h)
+pub no_count : (k : ℕ) {good : Bool} → good ≡ (leb 2 k && leb k 4) → good ≡ false → 2 ≤ k → k ≤ 4 → ⊥
+no_count k {good} is h low high = clash (is ∙ rw (le-leb 2 k low, le-leb k 4 high)) h
 
 -- ---- an answer says the verdict that it holds
 

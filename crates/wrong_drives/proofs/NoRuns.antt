@@ -50,7 +50,7 @@ unfolding opening_part apply_all frame evaluated
 opening_on_all done w [] h t = h (and_left (done 1) _ t)
 opening_on_all done w (c ∷ cs) h t =
     let now = due_opening pair done c || refused_in never_room w c in
-    opening_on_all _ (apply never_room w c) cs
+    opening_on_all (λ d. (due_opening pair done c && eqb d (drive_of c)) || done d) (apply never_room w c) cs
     (λ u. ⊎_elim
     (λ l. due_on done w c (subst (Opens pair done c) (sym (eqb-true 1 (drive_of c) (and_right (due_opening pair done c) _ l)))
     (due_opens pair done c (and_left (due_opening pair done c) _ l))))
@@ -90,7 +90,7 @@ module _ (w₀ : World) (on : On (w₀ 1)) where
   unfolding round_part
   never_done b w [] h t = never_complete b h t
   never_done b w (c ∷ cs) h t =
-      never_done _ (apply never_room w c) cs (progress_after_law b w c h) (and_right (due never_room pair 1 w₀ b w c || refused_in never_room w c) _ t)
+      never_done (cond (due never_room pair 1 w₀ b w c) (noted never_room pair 1 w₀ b w c) b) (apply never_room w c) cs (progress_after_law b w c h) (and_right (due never_room pair 1 w₀ b w c || refused_in never_room w c) _ t)
 
 no_rounds : (w₀ : World) → On (w₀ 1) → (ps : List (List Call)) → length ps ≡ 2 → round_parts never_room pair 1 w₀ ps ≡ true → ⊥
 unfolding round_parts nothing_yet is_called

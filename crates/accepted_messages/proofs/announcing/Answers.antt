@@ -1,7 +1,6 @@
 -- Numbers that are told announce nothing.
 use Rattle.drive_states.specs.Messages.{content_of}
 use Rattle.agreement.specs.Calls.{announcing}
-use borrow.Author.Rules.{rules}
 use Rattle.accepted_messages.proofs.announcing.Goals as goal
 
 pub returns-then-is_known : goal.returns-then-is_known

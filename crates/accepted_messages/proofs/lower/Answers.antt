@@ -1,7 +1,6 @@
 -- The first announcement, a lower sender, or the one before.
 use borrow.Author.Tests.{lt-ltb, le-ltb}
 use Rattle.agreement.specs.Calls.{lower}
-use borrow.Author.Rules.{rules}
 use Rattle.accepted_messages.proofs.lower.Goals as goal
 
 pub returns-then-d-e : goal.returns-then-d-e

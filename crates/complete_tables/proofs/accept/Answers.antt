@@ -1,6 +1,5 @@
 -- What is met before the cores are looked for, then the table made complete.
 use mathlib.Core.Path.{◌∙◌}
-use borrow.Author.Rules.{rules}
 use Rattle.survivor_tables.specs.declared.frames.MaskKind.TheVariants.{SurvivorSet}
 use Rattle.complete_tables.proofs.Completes.{said_most, complete_said}
 use Rattle.complete_tables.proofs.accept.Goals as goal

@@ -1,8 +1,5 @@
 -- Each mask, one after the other: the first refusal, or none.
-use borrow.Author.Rules.{rules}
-use Prim.Native.Nat.{◌-◌}
-use lib.ListN.{length}
-use Rattle.complete_tables.proofs.Checks.{Checking, checks_start, checks_stop, checks_turn, checks_end}
+use Rattle.complete_tables.proofs.Checks.{checks_start, checks_stop, checks_turn, checks_end}
 use Rattle.complete_tables.proofs.check_each.Goals as goal
 
 pub loop-i-init : goal.loop-i-init

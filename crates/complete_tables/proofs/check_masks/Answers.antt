@@ -1,6 +1,5 @@
 -- The refusals in order.
 use borrow.Author.Tests.{lt-ltb, le-ltb}
-use borrow.Author.Rules.{rules}
 use Rattle.survivor_tables.specs.Tables.{checked_masks}
 use Rattle.complete_tables.proofs.Completes.{no_elements, some_elements}
 use Rattle.complete_tables.proofs.check_masks.Goals as goal

@@ -9,7 +9,7 @@ use Rattle.complete_tables.proofs.Completes.{first_taken, too_many, completed}
 use Rattle.complete_tables.proofs.with_cores.Goals as goal
 
 pub slice_bounds-minimal_hitting_sets-end : goal.slice_bounds-minimal_hitting_sets-end
-slice_bounds-minimal_hitting_sets-end c = let long : length c.before.before.args.table.sets ≡ 128 = search rules in omega arith
+slice_bounds-minimal_hitting_sets-end c = let long : length c.args.table.sets ≡ 128 = search rules in omega arith
 
 pub returns-then-found-gt-MAX_CORES : goal.returns-then-found-gt-MAX_CORES
 returns-then-found-gt-MAX_CORES c =

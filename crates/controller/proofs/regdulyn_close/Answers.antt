@@ -1,7 +1,6 @@
 -- The close of the state that the numbers say.
 use Rattle.exchange.specs.Replies.{reply_of}
 use Rattle.controller.specs.Replies.{close_reply}
-use borrow.Author.Rules.{rules}
 use Rattle.controller.proofs.regdulyn_close.Goals as goal
 
 pub returns : goal.returns

@@ -1,7 +1,6 @@
 -- The message call of the state that the numbers say.
 use Rattle.exchange.specs.Replies.{reply_of}
 use Rattle.controller.specs.Replies.{message_reply}
-use borrow.Author.Rules.{rules}
 use Rattle.controller.proofs.regdulyn_message.Goals as goal
 
 pub returns : goal.returns

@@ -2,9 +2,8 @@
 use mathlib.Core.Path.{ap, ◌∙◌}
 use Rattle.c_replies.specs.Replies.{size_reply}
 use Rattle.controller.specs.Replies.{send_reply, send_buffer}
-use borrow.Author.Rules.{rules}
 use Rattle.controller.proofs.regdulyn_send.Goals as goal
 
 pub returns : goal.returns
 unfolding send_reply send_buffer
-returns c = let sent = c.send-w.ensures in rw (← c.exchange_of-x.ensures) (c.written_size.ensures ∙ ap size_reply sent.answer, sent.buffer)
+returns c = let sent = c.send-w.ensures in rw (← c.exchange_of-x.ensures) record { value = c.written_size.ensures ∙ ap size_reply sent.answer; buf_after = sent.buffer }

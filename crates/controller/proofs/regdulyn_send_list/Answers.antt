@@ -1,6 +1,5 @@
 -- The list of the state that the numbers say.
 use Rattle.controller.specs.Receivers.{list_reply}
-use borrow.Author.Rules.{rules}
 use Rattle.controller.proofs.regdulyn_send_list.Goals as goal
 
 pub returns : goal.returns

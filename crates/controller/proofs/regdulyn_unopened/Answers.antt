@@ -2,7 +2,6 @@
 use mathlib.Core.Path.{ap, ◌∙◌}
 use Rattle.c_states.specs.Crossing.{state_of}
 use Rattle.controller.specs.Replies.{unopened_state}
-use borrow.Author.Rules.{rules}
 use Rattle.controller.proofs.regdulyn_unopened.Goals as goal
 
 pub returns : goal.returns

@@ -2,7 +2,6 @@
 use native.Mathlib.Omega.{arith}
 use Rattle.text.proofs.Prints.{prints_put}
 use Rattle.convert_files.proofs.Prints.{program_length}
-use borrow.Author.Rules.{rules}
 use Rattle.convert_files.proofs.convert_file.Goals as goal
 
 pub slice_bounds-print-end : goal.slice_bounds-print-end

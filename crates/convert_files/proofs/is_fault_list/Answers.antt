@@ -1,5 +1,4 @@
 -- The record behind FR.
-use borrow.Author.Rules.{rules}
 use Rattle.records.specs.Marks.{is_due}
 use Rattle.convert_files.specs.ConvertFiles.{is_fault_list}
 use Rattle.convert_files.proofs.is_fault_list.Goals as goal

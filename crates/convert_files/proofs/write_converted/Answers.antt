@@ -1,5 +1,4 @@
 -- A fault list, or a table.
-use borrow.Author.Rules.{rules}
 use mathlib.Core.Path.{sym, ◌∙◌}
 use Rattle.convert_files.specs.ConvertFiles.{convert_file}
 use Rattle.convert_files.proofs.write_converted.Goals as goal

@@ -13,13 +13,13 @@ use Rattle.convert_files.proofs.Converts.{table_refused, table_given}
 use Rattle.convert_files.proofs.write_fault_file.Goals as goal
 
 pub slice_bounds-write_faults_from-end : goal.slice_bounds-write_faults_from-end
-slice_bounds-write_faults_from-end c = let r = c.read_whole-t in let long : length r.result.table.sets ≡ 128 = search rules in omega (arith, r.ensures.1.sets)
+slice_bounds-write_faults_from-end c = let r = c.read_whole-t in let long : length r.result.table.sets ≡ 128 = search rules in omega (arith, r.ensures.within.sets)
 
 pub returns-in-Refused : goal.returns-in-Refused
-returns-in-Refused c = let r = c.read_whole-t in rw (table_refused r.result _ r.ensures.0 c.in-Refused.is) (record { answer = refl; buffer = refl })
+returns-in-Refused c = let r = c.read_whole-t in rw (table_refused r.result _ r.ensures.value c.in-Refused.is) (record { answer = refl; buffer = refl })
 
 pub returns-in-Accepted : goal.returns-in-Accepted
 returns-in-Accepted c =
     let r = c.read_whole-t in
-    written_as (ap (λ (o : Outcome (List ℕ)). and_then o (fitting 0 (length c.args.buf.now))) (table_given r.result _ r.ensures.0 c.in-Accepted.is (first_taken r.result.table)))
+    written_as (ap (λ (o : Outcome (List ℕ)). and_then o (fitting 0 (length c.args.buf.now))) (table_given r.result _ r.ensures.value c.in-Accepted.is (first_taken r.result.table)))
     c.write_faults_from.ensures

@@ -13,13 +13,13 @@ use Rattle.convert_files.proofs.Converts.{faults_refused, faults_given}
 use Rattle.convert_files.proofs.write_table_file.Goals as goal
 
 pub slice_bounds-write_table_from-end : goal.slice_bounds-write_table_from-end
-slice_bounds-write_table_from-end c = let r = c.read_faults-read in let long : length r.result.list.sets ≡ 128 = search rules in omega (arith, r.ensures.1.groups)
+slice_bounds-write_table_from-end c = let r = c.read_faults-read in let long : length r.result.list.sets ≡ 128 = search rules in omega (arith, r.ensures.within.groups)
 
 pub returns-in-Refused : goal.returns-in-Refused
-returns-in-Refused c = let r = c.read_faults-read in rw (faults_refused r.result _ r.ensures.0 c.in-Refused.is) (record { answer = refl; buffer = refl })
+returns-in-Refused c = let r = c.read_faults-read in rw (faults_refused r.result _ r.ensures.value c.in-Refused.is) (record { answer = refl; buffer = refl })
 
 pub returns-in-Accepted : goal.returns-in-Accepted
 returns-in-Accepted c =
     let r = c.read_faults-read in
-    written_as (ap (λ (o : Outcome (List ℕ)). and_then o (fitting 0 (length c.args.buf.now))) (faults_given r.result _ r.ensures.0 c.in-Accepted.is (first_taken r.result.list)))
+    written_as (ap (λ (o : Outcome (List ℕ)). and_then o (fitting 0 (length c.args.buf.now))) (faults_given r.result _ r.ensures.value c.in-Accepted.is (first_taken r.result.list)))
     c.write_table_from.ensures

@@ -19,18 +19,18 @@ use Rattle.convert_files.proofs.write_table_from.Goals as goal
 
 pub slice_bounds-write_list-end : goal.slice_bounds-write_list-end
 unfolding write_table_from complete_from_faults
-slice_bounds-write_list-end c = let t = c.table_from_faults-t in let long : length t.result.table.sets ≡ 128 = search rules in omega (arith, t.ensures.1.sets)
+slice_bounds-write_list-end c = let t = c.table_from_faults-t in let long : length t.result.table.sets ≡ 128 = search rules in omega (arith, t.ensures.within.sets)
 
 pub returns-in-Refused : goal.returns-in-Refused
 unfolding write_table_from complete_from_faults
-returns-in-Refused c = let a = c.args in let t = c.table_from_faults-t in rw (due_refused a.n (table_from_faults a.n a.groups.now) t.result t.ensures.0 _ c.in-Refused.is) (record { answer = refl; buffer = refl })
+returns-in-Refused c = let a = c.args in let t = c.table_from_faults-t in rw (due_refused a.n (table_from_faults a.n a.groups.now) t.result t.ensures.value _ c.in-Refused.is) (record { answer = refl; buffer = refl })
 
 pub returns-in-Accepted : goal.returns-in-Accepted
 unfolding write_table_from complete_from_faults sets_of
 returns-in-Accepted c =
     let a = c.args in
     let t = c.table_from_faults-t in
-    let given = due_given a.n (table_from_faults a.n a.groups.now) t.result t.ensures.0 c.in-Accepted.is in
+    let given = due_given a.n (table_from_faults a.n a.groups.now) t.result t.ensures.value c.in-Accepted.is in
     written_as (ap (λ (o : Outcome (List ℕ)). and_then o (fitting 0 (length a.buf.now)))
-    (list_due SurvivorSet a.n (table_from_faults a.n a.groups.now) (first_taken t.result.table) given.0 (omega (arith, t.ensures.1.sets, length-take t.result.table.count t.result.table.sets))))
+    (list_due SurvivorSet a.n (table_from_faults a.n a.groups.now) (first_taken t.result.table) given.0 (omega (arith, t.ensures.within.sets, length-take t.result.table.count t.result.table.sets))))
     c.write_list.ensures

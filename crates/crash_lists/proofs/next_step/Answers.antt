@@ -4,7 +4,6 @@ use Rattle.records.specs.RecordLists.{step_of}
 use Rattle.crash_lists.specs.CrashLists.{taken_crash}
 use Rattle.drive_crashes.specs.Crashes.{crash_record}
 use Rattle.crash_lists.proofs.CrashList.{crash_long, crash_fields_law}
-use borrow.Author.Rules.{rules}
 use Rattle.crash_lists.proofs.next_step.Goals as goal
 
 pub bounds-s-2 : goal.bounds-s-2

@@ -1,5 +1,4 @@
 -- No crash beside the refusal, by the contract of `none`.
-use borrow.Author.Rules.{rules}
 use Rattle.crash_lists.proofs.refused.Goals as goal
 
 pub returns : goal.returns

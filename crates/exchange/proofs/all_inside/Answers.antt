@@ -2,7 +2,6 @@
 use Rattle.exchange.proofs.Rules.{four_inside}
 use mathlib.Core.Path.{◌∙◌}
 use Rattle.drive_sets.specs.Masks.{union}
-use borrow.Author.Rules.{rules}
 use Rattle.exchange.proofs.all_inside.Goals as goal
 
 pub returns : goal.returns

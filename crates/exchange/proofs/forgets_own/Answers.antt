@@ -1,7 +1,6 @@
 -- A core drive's own number, now and at the start.
 use Rattle.drive_sets.specs.Masks.{common}
 use Rattle.drive_sets.specs.Masks.Laws.{has_common}
-use borrow.Author.Rules.{rules}
 use Rattle.exchange.proofs.forgets_own.Goals as goal
 
 pub returns-then-has : goal.returns-then-has

@@ -1,6 +1,5 @@
 -- The rules, one after the other.
 use Rattle.drive_states.specs.State.{in_core, broken}
-use borrow.Author.Rules.{rules}
 use Rattle.exchange.proofs.is_broken.Goals as goal
 
 pub returns-then-not-is_frame : goal.returns-then-not-is_frame

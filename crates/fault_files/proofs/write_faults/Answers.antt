@@ -3,7 +3,6 @@ use mathlib.Core.Path.{ap}
 use mathlib.Core.List.{List}
 use Prim.Native.Nat.{ℕ}
 use lib.ListN.{length}
-use borrow.Author.Rules.{rules}
 use Rattle.drive_sets.specs.Lent.{fitting}
 use Rattle.drive_sets.specs.Refusals.{Outcome, yields, and_then}
 use Rattle.lent_bytes.proofs.Buffers.{written_as}

@@ -3,7 +3,6 @@ use mathlib.Core.Path.{ap, ◌∙◌}
 use Rattle.drive_sets.specs.Refusals.{Outcome, and_then}
 use Rattle.complete_tables.specs.Complete.{Complete}
 use Rattle.fault_lists.specs.FaultLists.Laws.{rests_of, table_rests}
-use borrow.Author.Rules.{rules}
 use Rattle.fault_lists.proofs.faults_from_table.Goals as goal
 
 pub rests_of-requires : goal.rests_of-requires

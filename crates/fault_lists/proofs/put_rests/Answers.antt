@@ -1,6 +1,5 @@
 -- The loop over the masks, from the last one down.
-use borrow.Author.Rules.{rules}
-use Rattle.fault_lists.proofs.Fills.{Resting, rests_start, rests_turn, rests_end}
+use Rattle.fault_lists.proofs.Fills.{rests_start, rests_turn, rests_end}
 use Rattle.fault_lists.proofs.put_rests.Goals as goal
 
 pub loop-left-init : goal.loop-left-init

@@ -14,7 +14,7 @@ use borrow.Author.Rules.{rules}
 use Rattle.fault_lists.proofs.rests_of.Goals as goal
 
 pub slice_bounds-put_rests-end : goal.slice_bounds-put_rests-end
-slice_bounds-put_rests-end c = let a = c.before.before.before.before.before.args in let long : length a.t.table.sets ≡ 128 = search rules in omega (arith, c.requires.sets)
+slice_bounds-put_rests-end c = let a = c.args in let long : length a.t.table.sets ≡ 128 = search rules in omega (arith, c.requires.sets)
 
 pub returns-in-Refused : goal.returns-in-Refused
 unfolding complete_outcome

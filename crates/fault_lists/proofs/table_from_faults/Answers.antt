@@ -8,7 +8,6 @@ use Rattle.survivor_tables.specs.declared.frames.MaskKind.TheVariants.{FaultGrou
 use Rattle.complete_tables.specs.Complete.{complete_table}
 use Rattle.complete_tables.proofs.Completes.{said_most}
 use Rattle.fault_lists.proofs.Conversions.{table_said}
-use borrow.Author.Rules.{rules}
 use Rattle.fault_lists.proofs.table_from_faults.Goals as goal
 
 pub put_rests-requires : goal.put_rests-requires
@@ -22,6 +21,9 @@ returns-in-Refused c = let a = c.args in record { value = c.refused.ensures.valu
 
 pub returns-in-Accepted : goal.returns-in-Accepted
 returns-in-Accepted c =
-    let a = c.args in record { value = c.accept.ensures.value
+    let a = c.args in record {
+      value = c.accept.ensures.value
           ∙ (ap (complete_table a.n) (ap (λ (k : ℕ). take k c.put_rests.new.out) (sub-zero (length a.groups.now)) ∙ c.put_rests.ensures)
-          ∙ table_said a.n a.groups.now _ c.check_masks-checked.ensures _ c.in-Accepted.is); within = c.accept.ensures.within }
+          ∙ table_said a.n a.groups.now _ c.check_masks-checked.ensures _ c.in-Accepted.is);
+      within = c.accept.ensures.within;
+    }

@@ -1,7 +1,6 @@
 -- A record is owed, drive n has had its own, or the mark that stands there tells.
 use borrow.Author.Tests.{eq-eqb, ne_eqb, le-leb, lt-leb}
 use Rattle.proposal_lists.specs.ProposalLists.{proposals_end}
-use borrow.Author.Rules.{rules}
 use Rattle.proposal_lists.proofs.ended.Goals as goal
 
 pub returns-then-owed-ne0 : goal.returns-then-owed-ne0

@@ -8,7 +8,6 @@ use Rattle.records.specs.Marks.Laws.{body_most}
 use Rattle.records.specs.RecordLists.{next_of, step_of}
 use Rattle.proposal_lists.specs.ProposalLists.{taken_proposal}
 use Rattle.proposal_lists.proofs.ProposalSteps.{one, there, proposal_long, drive_byte, no_width, same_width}
-use borrow.Author.Rules.{rules}
 use Rattle.proposal_lists.proofs.next_step.Goals as goal
 
 pub bounds-s-2 : goal.bounds-s-2

@@ -1,13 +1,7 @@
 -- The loop over the PR and PW records: what is left to read gives what the whole gives. It ends, since the drives rise
 -- and are at most n.
-use mathlib.Core.Path.{refl}
-use native.Mathlib.Omega.{arith}
 use Prim.Native.Nat.{◌-◌}
-use borrow.Author.Tests.{lt-ltb, le-ltb}
-use Rattle.proposal_lists.specs.Reading.{proposals_outcome}
-use Rattle.proposal_lists.proofs.ProposalSteps.{Proposing, proposing_start, proposing_end, proposing_stop, proposal_bounds, proposing_turn}
-use Rattle.proposal_lists.proofs.Returns.{proposals_refused, proposals_accepted, refused_within}
-use borrow.Author.Rules.{rules}
+use Rattle.proposal_lists.proofs.ProposalSteps.{Proposing}
 use Rattle.proposal_lists.proofs.read_proposals.Given as goal
 
 abbrev pub invariant-loop-last : goal.invariant-loop-last

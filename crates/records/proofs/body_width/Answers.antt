@@ -1,7 +1,6 @@
 -- How many bytes follow each mark: every arm is told which kind it has.
 use mathlib.Core.Path.{sym, ap}
 use Rattle.records.specs.Marks.{body_width}
-use borrow.Author.Rules.{rules}
 use Rattle.records.proofs.body_width.Goals as goal
 
 pub returns-in-Frame : goal.returns-in-Frame

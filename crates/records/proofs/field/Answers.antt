@@ -1,7 +1,6 @@
 -- A field of a part of the bytes: past the end, up to the end, or within.
 use Rattle.records.proofs.Parts.{field_past, field_to_end, field_within}
 use mathlib.Core.Path.{◌∙◌}
-use borrow.Author.Rules.{rules}
 use Rattle.records.proofs.field.Goals as goal
 
 pub returns-then-s-at : goal.returns-then-s-at

@@ -1,6 +1,5 @@
 -- All of the bytes where there are fewer, else the first of them.
 use Rattle.records.proofs.Parts.{first_all, first_some_law}
-use borrow.Author.Rules.{rules}
 use Rattle.records.proofs.first.Goals as goal
 
 pub returns-then-s-size : goal.returns-then-s-size

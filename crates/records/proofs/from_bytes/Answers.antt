@@ -1,10 +1,9 @@
 -- A field read from its last byte to its first.
 use Prim.Native.Nat.{◌-◌}
-use borrow.Author.Rules.{rules}
 use native.Mathlib.Omega.{arith}
 use lib.ListN.{length-take}
 use Rattle.drive_sets.specs.Loops.Back.{back_end}
-use Rattle.records.proofs.Loops.{Reading, reading_start, reading_turn, reading_fits}
+use Rattle.records.proofs.Loops.{reading_start, reading_turn, reading_fits}
 use Rattle.records.proofs.from_bytes.Goals as goal
 
 pub loop-i-init : goal.loop-i-init

@@ -6,7 +6,6 @@ use Rattle.records.specs.declared.Kind.TheVariants.{WideKnown, WideDecide}
 use Rattle.records.specs.Fields.{from_bytes}
 use Rattle.records.specs.Marks.{ascii, mark_text, mark, is_kind, is_due}
 use Rattle.drive_sets.specs.Bools.Laws.{or_first, or_second}
-use borrow.Author.Rules.{rules}
 use Rattle.records.proofs.is_due.Goals as goal
 
 pub returns-in-AtRecord : goal.returns-in-AtRecord

@@ -1,6 +1,5 @@
 -- A kind is known by its mark.
 use Rattle.records.specs.Marks.{is_kind}
-use borrow.Author.Rules.{rules}
 use Rattle.records.proofs.is_kind.Goals as goal
 
 pub returns : goal.returns

@@ -1,5 +1,6 @@
 -- The mark, matched as a number: an arm has its number, and the last one has none of them.
-use borrow.Author.Tests.{ne_eqb}
+use Rattle.std.proofs.lemmas.Grind.{common_steps}
+use native.Mathlib.Omega.{arith}
 use mathlib.Core.Path.{◌≡◌, sym, ap}
 use Rattle.records.specs.Fields.{from_bytes}
 use Rattle.records.specs.Marks.{ascii, mark_text, mark, kind_of}
@@ -51,4 +52,4 @@ returns-in-22340 c = let e : c.args.m ≡ 0x5744 = cc in sym (ap kind_of e)
 
 pub returns-in_default : goal.returns-in_default
 unfolding kind_of mark mark_text ascii from_bytes
-returns-in_default c = let r = c.in_default.rest in rw (ne_eqb _ _ r.0.0.0.0.0.0.0.0.0.0.1, ne_eqb _ _ r.0.0.0.0.0.0.0.0.0.1, ne_eqb _ _ r.0.0.0.0.0.0.0.0.1, ne_eqb _ _ r.0.0.0.0.0.0.0.1, ne_eqb _ _ r.0.0.0.0.0.0.1, ne_eqb _ _ r.0.0.0.0.0.1, ne_eqb _ _ r.0.0.0.0.1, ne_eqb _ _ r.0.0.0.1, ne_eqb _ _ r.0.0.1, ne_eqb _ _ r.0.1, ne_eqb _ _ r.1)
+returns-in_default c = grind (arith, common_steps)

@@ -2,7 +2,6 @@
 use mathlib.Core.Path.{sym, ap}
 use Rattle.records.specs.Fields.{from_bytes}
 use Rattle.records.specs.Marks.{ascii, mark_text, mark}
-use borrow.Author.Rules.{rules}
 use Rattle.records.proofs.mark_of.Goals as goal
 
 pub returns-in-Frame : goal.returns-in-Frame

@@ -1,7 +1,6 @@
 -- The record where one of a list or its end is due: refused, one more, the end with its count, or with another.
-use borrow.Author.Tests.{eq-eqb, ne_eqb, not-true, not-false}
+use borrow.Author.Tests.{eq-eqb, ne_eqb}
 use Rattle.records.specs.RecordLists.{next_of}
-use borrow.Author.Rules.{rules}
 use Rattle.records.proofs.next_record.Goals as goal
 
 pub returns-then-not-is_kind : goal.returns-then-not-is_kind

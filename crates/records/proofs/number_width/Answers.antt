@@ -1,7 +1,6 @@
 -- How many bytes a pattern number takes: every arm is told which kind it has.
 use mathlib.Core.Path.{sym, ap}
 use Rattle.records.specs.Marks.{number_width}
-use borrow.Author.Rules.{rules}
 use Rattle.records.proofs.number_width.Goals as goal
 
 pub returns-in-Frame : goal.returns-in-Frame

@@ -6,7 +6,6 @@ use lib.ListN.{drop}
 use Rattle.records.specs.Fields.{field_at, from_bytes}
 use Rattle.records.specs.Fields.Laws.{bytes_drop, field_lt, low_two}
 use Rattle.records.specs.Marks.Laws.{number_narrow}
-use borrow.Author.Rules.{rules}
 use Rattle.records.proofs.pattern_at.Goals as goal
 
 pub overflow_cast-x : goal.overflow_cast-x

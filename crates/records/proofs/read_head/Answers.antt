@@ -5,7 +5,6 @@ use lib.ListN.{length}
 use borrow.Author.Tests.{lt-ltb, le-ltb}
 use Rattle.records.specs.Marks.{head_of}
 use Rattle.records.proofs.Matches.{head_kind}
-use borrow.Author.Rules.{rules}
 use Rattle.records.proofs.read_head.Goals as goal
 
 pub returns-then-s-lt2 : goal.returns-then-s-lt2

@@ -1,6 +1,5 @@
 -- The part behind so many bytes.
 use Rattle.records.proofs.Parts.{rest_is, rest_past}
-use borrow.Author.Rules.{rules}
 use Rattle.records.proofs.rest.Goals as goal
 
 pub returns-then-s-size : goal.returns-then-s-size

@@ -1,5 +1,4 @@
 -- The mark that stands there, as a field of two bytes.
-use borrow.Author.Rules.{rules}
 use Rattle.records.proofs.starts.Goals as goal
 
 pub returns : goal.returns

@@ -1,5 +1,4 @@
 -- Whatever the turn, each set stands there as often as before.
-use borrow.Author.Rules.{rules}
 use mathlib.Core.Path.{ap, ◌∙◌}
 use Rattle.drive_sets.specs.Lists.{times}
 use Rattle.set_orders.specs.Sorting.Laws.{times_sort_first}

@@ -2,7 +2,6 @@
 use Prim.Native.Nat.{◌+◌}
 use native.Mathlib.Nat.{div-le_self}
 use native.Mathlib.Omega.{arith}
-use borrow.Author.Rules.{rules}
 use Rattle.search_turns.proofs.fuel_for.Goals as goal
 
 pub overflow_add-result-2 : goal.overflow_add-result-2

@@ -1,13 +1,8 @@
 -- Turn after turn on the same sets in another order, until one is done.
-use mathlib.Core.Path.{◌≡◌, refl, ◌∙◌}
+use mathlib.Core.Path.{◌≡◌}
 use Prim.Native.Nat.{◌-◌}
 use lib.ListN.{length}
-use borrow.Author.Rules.{rules}
-use Rattle.set_orders.specs.Sorting.Laws.{precedes_strict}
-use Rattle.drive_sets.specs.Masks.Frames.{below_places}
 use Rattle.search_orders.specs.Rearranged.{Permuted}
-use Rattle.search_attempts.proofs.Tries.{tried_none}
-use Rattle.search_turns.proofs.Turns.{tried_other, same_room}
 use Rattle.search_turns.proofs.in_turns.Given as goal
 
 abbrev pub invariant-loop-turn : goal.invariant-loop-turn

@@ -1,7 +1,6 @@
 -- The turns on a copy, which is the sets.
 use native.Mathlib.Omega.{arith}
 use lib.ListN.{replicate}
-use borrow.Author.Rules.{rules}
 use Rattle.search_attempts.proofs.Tries.{tried_none}
 use Rattle.search_turns.proofs.Turns.{tried_copy}
 use Rattle.search_turns.proofs.search_again.Goals as goal

@@ -3,7 +3,6 @@ use Rattle.drive_states.specs.State.{number_of}
 use Rattle.drive_states.specs.Messages.{length_in}
 use Rattle.drive_states.specs.Messages.Laws.{length_known, length_decided}
 use Rattle.agreement.specs.Calls.{content_by, outgoing}
-use borrow.Author.Rules.{rules}
 use Rattle.sending.proofs.outgoing_size.Goals as goal
 
 pub returns-in-Undecided : goal.returns-in-Undecided

@@ -1,7 +1,6 @@
 -- KW or DW, by the decision.
 use Rattle.drive_states.specs.State.{number_of}
 use Rattle.agreement.specs.Calls.{content_by, outgoing}
-use borrow.Author.Rules.{rules}
 use Rattle.sending.proofs.put_message.Goals as goal
 
 pub returns-in-Undecided : goal.returns-in-Undecided

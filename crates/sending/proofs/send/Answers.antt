@@ -3,7 +3,6 @@ use Rattle.lent_bytes.proofs.Buffers.{written_as, written_refused}
 use mathlib.Core.Path.{refl}
 use Rattle.drive_states.specs.State.{in_core}
 use Rattle.agreement.specs.Calls.{sending}
-use borrow.Author.Rules.{rules}
 use Rattle.sending.proofs.send.Goals as goal
 
 pub returns-then-is_broken : goal.returns-then-is_broken

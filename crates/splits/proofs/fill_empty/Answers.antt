@@ -1,11 +1,14 @@
 -- So many moves are still to come.
-use mathlib.Core.Path.{◌≡◌, ap, ◌∙◌}
-use lib.ListN.{length}
+use mathlib.Core.Path.{ap, ◌∙◌}
 use Prim.Native.Nat.{◌-◌}
 use Rattle.splits.specs.Splits.{moves, fill_empty}
 use Rattle.splits.proofs.Moving.{moves_next, moves_done}
 use borrow.Author.Rules.{rules}
 use Rattle.splits.proofs.fill_empty.Goals as goal
+
+pub loop-left-init : goal.loop-left-init
+unfolding fill_empty
+loop-left-init c = search rules
 
 pub loop-left-preserved : goal.loop-left-preserved
 unfolding fill_empty

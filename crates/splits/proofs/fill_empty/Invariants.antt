@@ -1,10 +1,7 @@
 -- So many moves are still to come.
-use mathlib.Core.Path.{◌≡◌, ap, ◌∙◌}
+use mathlib.Core.Path.{◌≡◌}
 use lib.ListN.{length}
-use Prim.Native.Nat.{◌-◌}
 use Rattle.splits.specs.Splits.{moves, fill_empty}
-use Rattle.splits.proofs.Moving.{moves_next, moves_done}
-use borrow.Author.Rules.{rules}
 use Rattle.splits.proofs.fill_empty.Given as goal
 
 abbrev pub invariant-loop-left : goal.invariant-loop-left

@@ -3,7 +3,6 @@ use mathlib.Core.Path.{ap, ◌∙◌}
 use Prim.Native.Nat.{ℕ}
 use Rattle.survivor_tables.specs.Hitting.{first_missed}
 use Rattle.splits.proofs.Moving.{missed_empty}
-use borrow.Author.Rules.{rules}
 use Rattle.splits.proofs.first_empty.Goals as goal
 
 pub returns : goal.returns

@@ -1,14 +1,8 @@
 -- Each block tested, one after the other.
 use mathlib.Core.Path.{subst}
-use Prim.Native.Nat.{ℕ, ◌+◌, ◌-◌, ◌≤◌, ◌<◌}
-use lib.Dec.{leb}
-use lib.ListN.{length}
+use Prim.Native.Nat.{ℕ, ◌≤◌, ◌<◌}
 use borrow.Author.Tests.{le-leb, lt-leb}
-use Rattle.drive_sets.specs.Masks.{size}
-use Rattle.drive_sets.specs.Lists.{first_failing}
-use Rattle.drive_sets.specs.Loops.Scan.{Scan, scan_start, failing_turn, failing_found, failing_end}
-use Rattle.splits.specs.Splits.{first_large}
-use borrow.Author.Rules.{rules}
+use Rattle.drive_sets.specs.Loops.Scan.{scan_start, failing_turn, failing_found, failing_end}
 use Rattle.splits.proofs.first_large.Goals as goal
 
 pub loop-i-init : goal.loop-i-init

@@ -1,14 +1,11 @@
 -- Each block tested, one after the other.
-use mathlib.Core.Path.{subst}
-use Prim.Native.Nat.{ℕ, ◌+◌, ◌-◌, ◌≤◌, ◌<◌}
+use Prim.Native.Nat.{◌+◌, ◌-◌}
 use lib.Dec.{leb}
 use lib.ListN.{length}
-use borrow.Author.Tests.{le-leb, lt-leb}
 use Rattle.drive_sets.specs.Masks.{size}
 use Rattle.drive_sets.specs.Lists.{first_failing}
-use Rattle.drive_sets.specs.Loops.Scan.{Scan, scan_start, failing_turn, failing_found, failing_end}
+use Rattle.drive_sets.specs.Loops.Scan.{Scan}
 use Rattle.splits.specs.Splits.{first_large}
-use borrow.Author.Rules.{rules}
 use Rattle.splits.proofs.first_large.Given as goal
 
 abbrev pub invariant-loop-i : goal.invariant-loop-i

@@ -1,6 +1,5 @@
 -- Two stores, of what the definition puts there.
 use Rattle.splits.specs.Splits.{with_move}
-use borrow.Author.Rules.{rules}
 use Rattle.splits.proofs.move_lowest.Goals as goal
 
 pub returns : goal.returns

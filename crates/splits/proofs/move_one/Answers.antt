@@ -2,7 +2,6 @@
 use mathlib.Core.Path.{◌∙◌}
 use Rattle.splits.specs.Splits.{moved}
 use Rattle.splits.proofs.Moving.{place_within}
-use borrow.Author.Rules.{rules}
 use Rattle.splits.proofs.move_one.Goals as goal
 
 pub returns-in_default : goal.returns-in_default

@@ -4,7 +4,6 @@ use Rattle.records.specs.Marks.{ascii, mark_text, mark}
 use Rattle.records.specs.Fields.{from_bytes}
 use native.Mathlib.Omega.{arith}
 use mathlib.Core.Path.{refl}
-use borrow.Author.Rules.{rules}
 use Rattle.table_writing.proofs.put_list.Goals as goal
 
 pub returns-then-part-lt-ENDS_WIDTH : goal.returns-then-part-lt-ENDS_WIDTH

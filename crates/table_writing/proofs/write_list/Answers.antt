@@ -6,9 +6,9 @@ use Rattle.table_writing.proofs.Writes.{length_file}
 use Prim.Native.Nat.{◌+◌, ◌*◌}
 use lib.ListN.{length}
 use native.Mathlib.Omega.{arith}
-use borrow.Author.Tests.{lt-ltb, le-ltb, leb-true, not-false}
-use mathlib.Core.Path.{refl, sym, ◌∙◌}
-use borrow.Author.Rules.{rules}
+use borrow.Author.Tests.{lt-ltb, le-ltb, leb-true}
+use mathlib.Core.Path.{refl, sym, ap, ◌∙◌}
+use mathlib.Core.Bool.{not}
 use Rattle.table_writing.proofs.write_list.Goals as goal
 
 pub returns-then-masks-gt-MAX_SETS : goal.returns-then-masks-gt-MAX_SETS
@@ -17,11 +17,12 @@ returns-then-masks-gt-MAX_SETS c = rw (lt-ltb 128 _ c.if-masks-gt-MAX_SETS.true)
 
 pub returns-then-not-fits : goal.returns-then-not-fits
 unfolding write_list
-returns-then-not-fits c = let a = c.args in rw (le-ltb 128 _ c.if-masks-gt-MAX_SETS.false) (written_none (file_bytes a.kind a.n a.masks.now) a.start a.buf.now _ (sym (length_file a.kind a.n a.masks.now)) _ c.fits.ensures c.if-not-fits.true)
+returns-then-not-fits c = let a = c.args in rw (le-ltb 128 _ c.if-masks-gt-MAX_SETS.false) (written_none (file_bytes a.kind a.n a.masks.now) a.start a.buf.now _ (sym (length_file a.kind a.n a.masks.now)) _ c.fits.ensures (ap not c.if-not-fits.true))
 
 pub slice_bounds-put_list-count : goal.slice_bounds-put_list-count
 unfolding write_list
-slice_bounds-put_list-count c = omega (arith, part-put-list-start c)
+slice_bounds-put_list-count c = let a = c.args in
+    omega (arith, leb-true (a.start + (6 + 10 * length a.masks.now)) (length a.buf.now) (sym c.fits.ensures ∙ c.if-not-fits.false))
 
 pub slice_bounds-put_list-start : goal.slice_bounds-put_list-start
 slice_bounds-put_list-start c =
@@ -30,4 +31,4 @@ slice_bounds-put_list-start c =
 
 pub returns : goal.returns
 unfolding write_list
-returns c = let a = c.args in rw (le-ltb 128 _ c.if-masks-gt-MAX_SETS.false) (written_all (file_bytes a.kind a.n a.masks.now) a.start a.buf.now _ (sym (length_file a.kind a.n a.masks.now)) _ c.fits.ensures c.if-not-fits.false _ c.put_list.ensures)
+returns c = let a = c.args in rw (le-ltb 128 _ c.if-masks-gt-MAX_SETS.false) (written_all (file_bytes a.kind a.n a.masks.now) a.start a.buf.now _ (sym (length_file a.kind a.n a.masks.now)) _ c.fits.ensures (ap not c.if-not-fits.false) _ c.put_list.ensures)

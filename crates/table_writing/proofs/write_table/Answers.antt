@@ -18,7 +18,7 @@ use Rattle.table_writing.proofs.write_table.Goals as goal
 
 pub slice_bounds-write_list-end : goal.slice_bounds-write_list-end
 unfolding write_table
-slice_bounds-write_list-end c = let t = c.accept-t in let long : length t.result.table.sets ≡ 128 = search rules in omega (arith, t.ensures.1.sets)
+slice_bounds-write_list-end c = let t = c.accept-t in let long : length t.result.table.sets ≡ 128 = search rules in omega (arith, t.ensures.within.sets)
 
 pub returns-in-Refused : goal.returns-in-Refused
 unfolding write_table
@@ -29,6 +29,6 @@ unfolding write_table
 returns-in-Accepted c =
     let a = c.args in
     let t = c.accept-t in
-    let taken = accept_taken _ _ _ t.ensures.0 c.in-Accepted.is in
+    let taken = accept_taken _ _ _ t.ensures.value c.in-Accepted.is in
     written_as (ap (λ (o : Outcome (List ℕ)). and_then o (fitting a.start (length a.buf.now))) (list_due SurvivorSet a.n (normal_table a.n a.sets.now) (first_taken t.result.table) taken.table taken.whole.most))
     c.write_list.ensures

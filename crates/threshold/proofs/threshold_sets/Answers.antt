@@ -1,8 +1,7 @@
 -- The refusals in their order, by the numbers of groups; then the groups of n - t drives.
 use mathlib.Core.Path.{sym, ◌∙◌}
 use native.Mathlib.Omega.{arith}
-use borrow.Author.Rules.{rules}
-use borrow.Author.Tests.{le-leb, lt-leb, le-ltb, not-false}
+use borrow.Author.Tests.{le-leb, lt-leb, le-ltb}
 use Rattle.drive_sets.specs.Limits.{max_sets, max_cores}
 use Rattle.drive_sets.specs.Refusals.Laws.{accepted_not_refused}
 use Rattle.survivor_tables.specs.Tables.Laws.{frame_high}
@@ -51,7 +50,10 @@ returns c =
     let a = c.args in
     let high = frame_high _ (sym c.is_frame.ensures ∙ c.if-not-is_frame.false) in
     let few = count_within _ _ high (omega (arith, high, c.if-n-t.false)) c.group_count.ensures max_sets (omega arith) c.if-group_count-gt-MAX_SETS.false in
-    let few_cores = count_within _ _ high (omega (arith, high, c.if-n-t.false)) c.group_count-2.ensures max_cores (omega arith) c.if-group_count-gt-MAX_CORES.false in record { value = rw (threshold_list_law, ← c.is_frame.ensures, c.if-not-is_frame.false, lt-leb _ _ c.if-n-t.false, le-ltb max_sets _ few, le-ltb max_cores _ few_cores, c.fill_groups-count.ensures.1); within = record {
+    let few_cores = count_within _ _ high (omega (arith, high, c.if-n-t.false)) c.group_count-2.ensures max_cores (omega arith) c.if-group_count-gt-MAX_CORES.false in record {
+      value = rw (threshold_list_law, ← c.is_frame.ensures, c.if-not-is_frame.false, lt-leb _ _ c.if-n-t.false, le-ltb max_sets _ few, le-ltb max_cores _ few_cores, c.fill_groups-count.ensures.1);
+      within = record {
         sets = omega (arith, c.fill_groups-count.ensures.0, count_others a.t a.n (omega (arith, c.if-n-t.false)), few);
         alone = λ r e. absurd (accepted_not_refused e);
-      } }
+      };
+    }

@@ -1,7 +1,6 @@
 -- Too few bytes, too many, or n and t.
 use mathlib.Core.Path.{refl}
 use lib.ListN.{length}
-use borrow.Author.Rules.{rules}
 use borrow.Author.Tests.{lt-ltb, le-ltb}
 use Rattle.threshold_files.specs.ThresholdFiles.{asked}
 use Rattle.threshold_files.proofs.write_asked.Goals as goal

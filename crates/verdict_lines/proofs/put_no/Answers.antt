@@ -1,5 +1,4 @@
 -- The positions, then the blocks, each behind its words.
--- TODO 10 arguments, 7 goals, 3 invariants
 use Rattle.records.specs.Marks.{ascii}
 use Rattle.text.proofs.Puts.{filled_both}
 use Rattle.verdict_lines.specs.VerdictLines.{no_part}

@@ -1,5 +1,4 @@
 -- The head, then what the call says.
--- TODO 11 arguments, 9 goals, 2 invariants
 use mathlib.Core.Path.{ap}
 use Rattle.records.specs.Marks.{ascii}
 use Rattle.drive_sets.specs.declared.Answer.{Answer}

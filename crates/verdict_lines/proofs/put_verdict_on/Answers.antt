@@ -2,7 +2,6 @@
 use mathlib.Core.Path.{sym, ap}
 use Rattle.drive_sets.specs.Filled.Laws.{filled_same}
 use Rattle.verdict_lines.specs.VerdictLines.{verdict_line}
-use borrow.Author.Rules.{rules}
 use Rattle.verdict_lines.proofs.put_verdict_on.Goals as goal
 
 pub returns : goal.returns

@@ -4,4 +4,4 @@ use borrow.Author.Rules.{rules}
 use Rattle.verdict_lines.proofs.wide.Goals as goal
 
 pub returns : goal.returns
-returns c = all_four c.args.t1 (search rules)
+returns c = all_four c.args.positions (search rules)

@@ -1,20 +1,18 @@
 -- The search for k positions, by recursion on k: nothing where any k share a drive, else what is found from here on is
 -- what the whole gives.
-use borrow.Author.Rules.{rules}
-use lib.ListN.{length}
 use native.Mathlib.Omega.{arith}
 use mathlib.Core.Path.{sym, ap, ◌∙◌}
 use Rattle.drive_sets.specs.Loops.Scan.{scan_from}
 use Rattle.drive_sets.specs.Masks.{common}
 use Rattle.verdict_search.specs.Held.{found_in}
 use Rattle.verdict_search.proofs.Branches.{columns_part, share_none}
-use Rattle.verdict_search.proofs.Loops.{Searching, pair_is, found_more, found_later, found_end}
-use Prim.Native.Nat.{ℕ, ◌-◌, ◌<◌}
+use Rattle.verdict_search.proofs.Loops.{pair_is, found_more, found_later, found_end}
+use Prim.Native.Nat.{◌-◌}
 use Rattle.verdict_search.proofs.+disjoint.Goals as goal
 
 pub all_share-requires : goal.all_share-requires
 unfolding common
-all_share-requires t c = (omega arith, c.requires.1.1, c.requires.1.2 c.if-columns-ge-COLUMN_WORDS.true)
+all_share-requires t c = (omega arith, c.requires.1, c.requires.2 c.if-columns-ge-COLUMN_WORDS.true)
 
 pub returns-then-all_share : goal.returns-then-all_share
 unfolding common
@@ -30,7 +28,7 @@ loop-i-init t c = scan_from _ _ _
 
 pub disjoint-rest-requires : goal.disjoint-rest-requires
 unfolding common
-disjoint-rest-requires t c = (omega arith, (omega arith, c.requires.1.1, λ h. columns_part _ c.ranges.shared.fits (c.requires.1.2 h)))
+disjoint-rest-requires t c = (omega arith, (omega arith, c.requires.1, λ h. columns_part _ c.ranges.shared.fits (c.requires.2 h)))
 
 pub returns-then-rest : goal.returns-then-rest
 unfolding common

@@ -1,6 +1,5 @@
 -- Two sets, or few, without columns; else the columns and then the search with them.
 use native.Mathlib.Omega.{arith}
-use borrow.Author.Rules.{rules}
 use Rattle.verdict_search.proofs.Loops.{pair_is}
 use Rattle.verdict_search.proofs.first_disjoint.Goals as goal
 

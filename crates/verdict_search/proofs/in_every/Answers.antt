@@ -1,10 +1,7 @@
 -- The drives that every set has: the sets seen, then those to come.
-use borrow.Author.Rules.{rules}
 use mathlib.Core.Path.{refl}
-use Prim.Native.Nat.{◌-◌}
-use lib.ListN.{length}
 use Rattle.drive_sets.specs.Masks.{common}
-use Rattle.drive_sets.specs.Loops.Scan.{Scan, scan_start, scan_turn, scan_end}
+use Rattle.drive_sets.specs.Loops.Scan.{scan_start, scan_turn, scan_end}
 use Rattle.verdict_search.specs.Meaning.{in_every}
 use Rattle.verdict_search.proofs.in_every.Goals as goal
 

@@ -12,7 +12,6 @@ use Rattle.verdict_search.specs.Verdicts.{sets_at, blocks_of}
 use Rattle.verdict_search.specs.Verdicts.Blocks.{length_blocks}
 use Rattle.verdict_search.proofs.Fours.{changed_in}
 use Rattle.verdict_search.proofs.Splitting.{count_named}
-use borrow.Author.Rules.{rules}
 use Rattle.verdict_search.proofs.no_at.Goals as goal
 
 pub returns : goal.returns

@@ -1,6 +1,4 @@
 -- Not known, or known and compared.
-use borrow.Author.Tests.{not-true, not-false}
-use borrow.Author.Rules.{rules}
 use Rattle.accepted_messages.proofs.entries.conflicts.Goals as goal
 
 pub returns-then-not-has : goal.returns-then-not-has

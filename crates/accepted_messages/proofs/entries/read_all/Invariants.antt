@@ -1,24 +1,20 @@
 -- The entries one after the other: what is left, compared and stored over what is held, says and gives what the whole
 -- does.
-use mathlib.Core.Path.{refl, ap, ◌∙◌}
-use Prim.Native.Nat.{ℕ, min}
 use mathlib.Core.Bool.{Bool}
 use mathlib.Core.List.{List}
-use native.Mathlib.Omega.{arith}
-use lib.ListN.{length, drop}
-use Rattle.drive_sets.specs.Bools.Laws.{clash}
+use lib.ListN.{drop}
 use Rattle.drive_sets.specs.declared.Pattern.{Pattern}
 use Rattle.drive_sets.specs.Masks.{size, drives}
-use Rattle.drive_sets.specs.Loops.Drives.{taken, taken_fewer, lowest_bounds}
 use Rattle.records.specs.Marks.{number_width}
 use Rattle.drive_states.specs.declared.Exchange.{Exchange}
-use Rattle.drive_states.specs.State.{number_in, number_of}
 use Rattle.drive_states.specs.Messages.{Entry, entries_from}
 use Rattle.agreement.specs.Calls.{any_differs, stored}
-use Rattle.accepted_messages.proofs.EntryWalks.{behind, Entries, entries_next, entries_turn, entries_end}
-use borrow.Author.Rules.{rules}
--- whether one differs, and the numbers with those of the entries
+use Rattle.accepted_messages.proofs.EntryWalks.{Entries}
 use Rattle.accepted_messages.proofs.entries.read_all.Given as goal
+
+-- whether one differs, and the numbers with those of the entries
+abbrev pub both : Exchange → List Pattern → List Entry → Bool × List Pattern
+both x held es = (any_differs x es, stored held es)
 
 abbrev pub invariant-loop-m : goal.invariant-loop-m
 invariant-loop-m l = Entries (number_width l.kind) (both l.x l.x.numbers (entries_from (number_width l.kind) (drives l.mask) (drop 12 l.s))) (both l.x l.numbers) l.values l.m

@@ -1,6 +1,5 @@
 -- 14, or the drives of the first set and those of the second behind them.
 use Rattle.controller.proofs.SentLists.{both_full, both_put}
-use borrow.Author.Rules.{rules}
 use Rattle.controller.proofs.receivers.put_both.Goals as goal
 
 pub returns-then-out-size : goal.returns-then-out-size

@@ -1,8 +1,6 @@
 -- The drives of the mask from the lowest, each behind the one before; nothing where they do not fit.
-use Rattle.drive_sets.specs.Masks.{size}
 use Rattle.drive_sets.specs.Loops.Drives.{taken, taken_fewer}
-use Rattle.controller.proofs.SentLists.{Placing, placing_none, placing_start, placing_place, placing_turn, placing_end}
-use borrow.Author.Rules.{rules}
+use Rattle.controller.proofs.SentLists.{placing_none, placing_start, placing_place, placing_turn, placing_end}
 use Rattle.controller.proofs.receivers.put_drives.Goals as goal
 
 pub returns-then-part-size : goal.returns-then-part-size

@@ -3,7 +3,6 @@ use mathlib.Core.Path.{refl, sym, ◌∙◌}
 use Rattle.agreement.specs.Calls.{closing}
 use Rattle.exchange.specs.Replies.{reply_of}
 use Rattle.exchange.proofs.Rules.{unbroken_round, replied_as}
-use borrow.Author.Rules.{rules}
 use Rattle.exchange.proofs.closing.close.Goals as goal
 
 pub returns-then-is_broken : goal.returns-then-is_broken

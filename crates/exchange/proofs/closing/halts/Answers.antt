@@ -1,6 +1,5 @@
 -- The three reasons to halt, one after the other.
 use Rattle.agreement.specs.Calls.{halts}
-use borrow.Author.Rules.{rules}
 use Rattle.exchange.proofs.closing.halts.Goals as goal
 
 pub returns-then-is_decided : goal.returns-then-is_decided

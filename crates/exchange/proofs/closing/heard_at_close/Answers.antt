@@ -1,7 +1,6 @@
 -- The senders accepted, and oneself if in the core.
 use Rattle.agreement.specs.Calls.{heard_at_close}
 use Rattle.drive_states.specs.State.{in_core}
-use borrow.Author.Rules.{rules}
 use Rattle.exchange.proofs.closing.heard_at_close.Goals as goal
 
 pub returns-then-has : goal.returns-then-has

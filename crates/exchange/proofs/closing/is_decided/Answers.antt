@@ -1,6 +1,5 @@
 -- The two cases of a decision.
 use Rattle.drive_states.specs.State.{is_decided}
-use borrow.Author.Rules.{rules}
 use Rattle.exchange.proofs.closing.is_decided.Goals as goal
 
 pub returns-in-Undecided : goal.returns-in-Undecided

@@ -1,6 +1,5 @@
 -- A core drive does not halt so, and a listener halts on deciding.
 use Rattle.drive_states.specs.State.{in_core}
-use borrow.Author.Rules.{rules}
 use Rattle.exchange.proofs.closing.listener_decides.Goals as goal
 
 pub returns-then-has : goal.returns-then-has

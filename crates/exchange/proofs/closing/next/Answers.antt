@@ -1,6 +1,5 @@
 -- The parts of the new state.
 use Rattle.agreement.specs.Calls.{next}
-use borrow.Author.Rules.{rules}
 use Rattle.exchange.proofs.closing.next.Goals as goal
 
 pub returns : goal.returns

@@ -1,5 +1,4 @@
 -- The round number is kept or raised.
-use borrow.Author.Rules.{rules}
 use Rattle.exchange.proofs.closing.next_round.Goals as goal
 
 pub returns-then-ends : goal.returns-then-ends

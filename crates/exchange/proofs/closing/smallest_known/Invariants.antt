@@ -1,13 +1,7 @@
 -- The known drives from the lowest, each number against the smallest so far.
-use native.Mathlib.Omega.{arith}
-use Rattle.drive_sets.specs.Lists.{smallest}
 use Rattle.drive_sets.specs.Masks.{size}
-use Rattle.drive_sets.specs.Masks.Sizes.{drives_none}
-use Rattle.drive_sets.specs.Loops.Drives.{taken, taken_fewer, lowest_bounds}
 use Rattle.drive_states.specs.State.{number_in}
-use Rattle.agreement.specs.Calls.{decision_on}
-use Rattle.exchange.proofs.Least.{Least, least_start, least_turn, least_end}
-use borrow.Author.Rules.{rules}
+use Rattle.exchange.proofs.Least.{Least}
 use Rattle.exchange.proofs.closing.smallest_known.Given as goal
 
 abbrev pub invariant-loop-m : goal.invariant-loop-m

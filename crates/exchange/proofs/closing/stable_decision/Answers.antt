@@ -2,7 +2,6 @@
 use borrow.Author.Tests.{ne_eqb, eq-eqb}
 use Rattle.drive_states.specs.State.{number_of}
 use Rattle.agreement.specs.Calls.{stable, stable_decision}
-use borrow.Author.Rules.{rules}
 use Rattle.exchange.proofs.closing.stable_decision.Goals as goal
 
 pub returns-then-heard-eq0 : goal.returns-then-heard-eq0

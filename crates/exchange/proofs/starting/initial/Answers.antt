@@ -1,6 +1,5 @@
 -- The parts of the first state.
 use Rattle.agreement.specs.Calls.{initial}
-use borrow.Author.Rules.{rules}
 use Rattle.exchange.proofs.starting.initial.Goals as goal
 
 pub returns : goal.returns

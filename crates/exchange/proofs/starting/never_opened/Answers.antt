@@ -1,6 +1,5 @@
 -- The first state of no drives.
 use Rattle.exchange.specs.Replies.{not_opened}
-use borrow.Author.Rules.{rules}
 use Rattle.exchange.proofs.starting.never_opened.Goals as goal
 
 pub returns : goal.returns

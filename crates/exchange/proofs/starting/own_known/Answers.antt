@@ -1,5 +1,4 @@
 -- A core drive knows its own number.
-use borrow.Author.Rules.{rules}
 use Rattle.exchange.proofs.starting.own_known.Goals as goal
 
 pub returns-then-has : goal.returns-then-has

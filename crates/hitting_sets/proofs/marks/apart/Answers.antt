@@ -1,11 +1,9 @@
 -- The marks that are in no column of c: its drives from the lowest on.
 use mathlib.Core.Path.{ap}
 use Prim.Native.Nat.{ℕ, ◌*◌}
-use borrow.Author.Rules.{rules}
-use borrow.Author.Tests.{eqb-true, not-false}
 use Rattle.drive_sets.specs.Loops.Drives.{taken, lowest_bounds, taken_fewer}
-use Rattle.drive_sets.specs.Masks.{common, size}
-use Rattle.hitting_sets.proofs.FarMarks.{Sparing, sparing_start, sparing_turn, sparing_end, sparing_none}
+use Rattle.drive_sets.specs.Masks.{common}
+use Rattle.hitting_sets.proofs.FarMarks.{sparing_start, sparing_turn, sparing_end, sparing_none}
 use Rattle.hitting_sets.proofs.marks.apart.Goals as goal
 
 pub loop-rest-init : goal.loop-rest-init
@@ -24,7 +22,7 @@ loop-rest-preserved c =
     sparing_turn y (taken y.left c.loop-rest-test.true c.lowest.ensures c.without_lowest-rest.ensures) _ _ (ap (λ (p : ℕ). 16 * p) c.place-k.ensures.0) c.minus-far.ensures
 
 pub returns-else-far-ne0 : goal.returns-else-far-ne0
-returns-else-far-ne0 c = sparing_none c.loop-rest.invariant (eqb-true _ 0 (not-false _ c.if-far-ne0.false))
+returns-else-far-ne0 c = sparing_none c.loop-rest.invariant c.if-far-ne0.false
 
 pub returns-after-loop-rest : goal.returns-after-loop-rest
 returns-after-loop-rest c = sparing_end c.loop-rest.invariant c.loop-rest-test.false

@@ -4,7 +4,6 @@ use Prim.Native.Nat.{ℕ, ◌-◌, ◌*◌}
 use native.Mathlib.Nat.{le_of_eq}
 use lib.Seq.{take_all}
 use lib.ListN.{length, drop, length-drop}
-use borrow.Author.Rules.{rules}
 use Rattle.hitting_sets.proofs.marks.column.Goals as goal
 
 pub returns : goal.returns

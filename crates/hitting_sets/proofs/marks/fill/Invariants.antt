@@ -1,9 +1,6 @@
 -- The columns: set after set, as far as there are places.
 use Prim.Native.Nat.{◌-◌}
-use native.Mathlib.Omega.{arith}
-use borrow.Author.Tests.{ltb-true, ltb-false}
-use borrow.Author.Rules.{rules}
-use Rattle.hitting_sets.proofs.ColumnLaws.{Filling, filling_start, filling_turn, filling_all, filling_first}
+use Rattle.hitting_sets.proofs.ColumnLaws.{Filling}
 use Rattle.hitting_sets.proofs.marks.fill.Given as goal
 
 abbrev pub invariant-loop-at : goal.invariant-loop-at

@@ -1,7 +1,6 @@
 -- All drives up to n, or the whole word.
 use mathlib.Core.Path.{sym, ap, ◌∙◌}
 use native.Mathlib.Omega.{arith}
-use borrow.Author.Rules.{rules}
 use Rattle.drive_sets.specs.Masks.Laws.{has_bounds, full_lt}
 use Rattle.drive_sets.specs.Masks.{has, full}
 use Rattle.hitting_sets.proofs.marks.first_places.Goals as goal

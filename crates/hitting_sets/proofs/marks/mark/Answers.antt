@@ -2,10 +2,9 @@
 use mathlib.Core.Path.{ap}
 use Prim.Native.Nat.{ℕ, ◌+◌, ◌*◌}
 use native.Mathlib.Omega.{arith}
-use borrow.Author.Rules.{rules}
-use Rattle.drive_sets.specs.Masks.{union, size}
+use Rattle.drive_sets.specs.Masks.{union}
 use Rattle.drive_sets.specs.Loops.Drives.{taken, lowest_bounds, taken_fewer}
-use Rattle.hitting_sets.proofs.ColumnLaws.{Marking, marking_start, marking_turn, marking_end}
+use Rattle.hitting_sets.proofs.ColumnLaws.{marking_start, marking_turn, marking_end}
 use Rattle.hitting_sets.proofs.marks.mark.Goals as goal
 
 pub loop-rest-init : goal.loop-rest-init

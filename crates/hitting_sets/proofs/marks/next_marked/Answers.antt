@@ -1,10 +1,9 @@
 -- The first mark: word after word from the one of the first set that is not seen.
 use mathlib.Core.Path.{ap}
-use Prim.Native.Nat.{◌+◌, ℕ, ◌-◌, ◌*◌}
+use Prim.Native.Nat.{◌+◌, ℕ, ◌*◌}
 use native.Mathlib.Omega.{arith}
-use borrow.Author.Rules.{rules}
 use Rattle.drive_sets.specs.Loops.Drives.{lowest_bounds}
-use Rattle.hitting_sets.proofs.FirstMarks.{MetBefore, met_seen, first_missed_law, none_missed, met_word, met_to, missed_there}
+use Rattle.hitting_sets.proofs.FirstMarks.{met_seen, first_missed_law, none_missed, met_word, met_to, missed_there}
 use Rattle.hitting_sets.proofs.marks.next_marked.Goals as goal
 
 pub loop-i-init : goal.loop-i-init

@@ -1,10 +1,8 @@
 -- What the sets that are marked in both share of c, word after word.
 use Prim.Native.Nat.{◌+◌, ◌-◌, ◌*◌, ◌<◌}
 use lib.ListN.{length, get_or}
-use borrow.Author.Tests.{eqb-true, not-false}
-use borrow.Author.Rules.{rules}
 use Rattle.drive_sets.specs.Masks.{common}
-use Rattle.hitting_sets.proofs.InMarked.{CuttingAll, all_start, all_turn, all_end, all_none}
+use Rattle.hitting_sets.proofs.InMarked.{CuttingAll}
 use Rattle.hitting_sets.proofs.marks.shared.Given as goal
 
 abbrev pub invariant-loop-i : goal.invariant-loop-i

@@ -1,6 +1,5 @@
 -- A set that shares nothing with c decides; else all that are marked.
 use mathlib.Core.Path.{sym, ◌∙◌}
-use borrow.Author.Rules.{rules}
 use Rattle.hitting_sets.proofs.FarMarks.{far_decides}
 use Rattle.hitting_sets.proofs.marks.shared_quickly.Goals as goal
 

@@ -1,11 +1,11 @@
 -- The two marks, word after word.
 use mathlib.Core.Path.{ap}
-use Prim.Native.Nat.{ℕ, ◌-◌}
+use Prim.Native.Nat.{ℕ}
 use native.Mathlib.Omega.{arith}
 use lib.ListN.{get_or}
 use borrow.Author.Rules.{rules}
-use Rattle.drive_sets.specs.Masks.{union, common, minus}
-use Rattle.hitting_sets.proofs.Tracking.{Made, made_turn}
+use Rattle.drive_sets.specs.Masks.{union, common}
+use Rattle.hitting_sets.proofs.Tracking.{made_turn}
 use Rattle.hitting_sets.proofs.marks.take_drive.Goals as goal
 
 pub loop-i-preserved : goal.loop-i-preserved

@@ -1,11 +1,8 @@
 -- The two marks, word after word.
-use mathlib.Core.Path.{ap}
-use Prim.Native.Nat.{ℕ, ◌-◌}
-use native.Mathlib.Omega.{arith}
+use Prim.Native.Nat.{◌-◌}
 use lib.ListN.{get_or}
-use borrow.Author.Rules.{rules}
 use Rattle.drive_sets.specs.Masks.{union, common, minus}
-use Rattle.hitting_sets.proofs.Tracking.{Made, made_turn}
+use Rattle.hitting_sets.proofs.Tracking.{Made}
 use Rattle.hitting_sets.proofs.marks.take_drive.Given as goal
 
 abbrev pub invariant-loop-i : goal.invariant-loop-i

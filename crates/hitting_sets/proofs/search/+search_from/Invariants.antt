@@ -1,16 +1,10 @@
 -- The search: the sets still to come become fewer with each call; each return, and each turn of the loop over the
 -- drives with which it goes on, is a law of Trials.
-use mathlib.Core.Logic.{⊎_elim}
-use mathlib.Core.Path.{◌≡◌, refl, sym, ap, ◌∙◌}
-use Prim.Native.Nat.{◌+◌, ◌-◌, ℕ, ◌<◌}
-use native.Mathlib.Omega.{arith}
+use mathlib.Core.Path.{◌≡◌}
+use Prim.Native.Nat.{◌-◌}
 use lib.ListN.{length}
-use borrow.Author.Rules.{rules}
-use Rattle.drive_sets.specs.Loops.Drives.{taken, lowest_bounds, taken_fewer}
 use Rattle.drive_sets.specs.Masks.{size}
-use Rattle.hitting_sets.proofs.Trials.{Trying, try_start, try_minimal, try_tracked, try_next, try_end, try_stop, try_fuel, end_one, searched_from, searched_passed}
-use Rattle.hitting_sets.proofs.Tracking.{columns_room}
-use Rattle.hitting_sets.proofs.Places.{missed_next, none_next, passed_minimal}
+use Rattle.hitting_sets.proofs.Trials.{Trying}
 use Rattle.hitting_sets.proofs.search.+search_from.Given as goal
 
 abbrev pub decreases-search_from : goal.decreases-search_from

@@ -1,16 +1,14 @@
 -- What is not forbidden: by the sets, or by the marks, the drives of m from the lowest on.
-use mathlib.Core.Logic.{⊎_elim}
 use mathlib.Core.Path.{ap, ◌∙◌}
 use Prim.Native.Nat.{◌-◌}
 use native.Mathlib.Omega.{arith}
 use lib.ListN.{length, get_or, take, length-take}
-use borrow.Author.Rules.{rules}
 use Rattle.drive_sets.specs.Loops.Drives.{taken, lowest_bounds, taken_has, taken_bounds, taken_fewer}
-use Rattle.drive_sets.specs.Masks.{minus, size}
-use Rattle.hitting_sets.specs.Marks.{Apart}
-use Rattle.hitting_sets.proofs.Allowing.{Allowing, allowing_start, allowing_turn, allowing_end, all_none, apart_is, apart_same, shared_is, seen_from}
+use Rattle.drive_sets.specs.Masks.{minus}
+use Rattle.hitting_sets.proofs.Allowing.{allowing_start, allowing_turn, allowing_end, all_none, apart_is, apart_same, shared_is, seen_from}
 use Rattle.hitting_sets.proofs.Tracking.{columns_room}
 use Rattle.hitting_sets.proofs.search.allowed.Goals as goal
+use Rattle.hitting_sets.proofs.search.allowed.Goals.{then-all-ne0, else-all-ne0}
 
 pub returns-then-words-sets : goal.returns-then-words-sets
 returns-then-words-sets c = let a = c.args in c.minus.ensures ∙ (ap (minus (get_or a.sets.now a.next 0)) c.forbidden.ensures ∙ seen_from a.sets.now a.next _ _)
@@ -65,15 +63,15 @@ loop-rest-preserved c =
     let each = shared_is a.sets.now a.next a.m a.words a.columns.now a.once.now c.ranges.m.fits p.0 p.1 c.if-words-sets.false p.2 p.3 (λ i. (c.type_inv.once i).fits)
     _ (taken_bounds t).0 (taken_bounds t).1 (y.0.of_m _ (taken_has t)) _ c.column.ensures _ _ c.shared_quickly-all.ensures in
     let seen = take (a.next - 0) a.sets.now in
-    ⊎_elim
-    (λ w. (
-      allowing_turn y.0 p.4 t _ _ each (w.4 ∙ w.1.ensures),
-      apart_same seen a.once.now w.5 w.4
-          (apart_is a.sets.now a.next a.m a.words a.columns.now a.once.now c.ranges.m.fits p.0 p.1 c.if-words-sets.false p.2 p.3 (λ i. (c.type_inv.once i).fits)
-          _ _ w.1.ok w.3.ensures),
-    ))
-    (λ w. (allowing_turn y.0 p.4 t _ _ each (all_none y.0 _ _ w.0.left w.1), apart_same seen a.once.now w.2 w.1 y.1))
-    c.if-all-ne0.branch
+    elim c.if-all-ne0.branch [
+      | then-all-ne0 w ↦ (
+        allowing_turn y.0 p.4 t _ _ each (w.c-is ∙ w.minus-c.ensures),
+        apart_same seen a.once.now w.far-is w.c-is
+            (apart_is a.sets.now a.next a.m a.words a.columns.now a.once.now c.ranges.m.fits p.0 p.1 c.if-words-sets.false p.2 p.3 (λ i. (c.type_inv.once i).fits)
+            _ _ w.minus-c.type_inv w.apart-far-then-all-ne0.ensures),
+      )
+      | else-all-ne0 w ↦ (allowing_turn y.0 p.4 t _ _ each (all_none y.0 _ _ w.if-all-ne0.false w.c-is), apart_same seen a.once.now w.far-is w.c-is y.1)
+    ]
 
 pub returns : goal.returns
 returns c = let a = c.args in allowing_end c.loop-rest.invariant.0 c.loop-rest-test.false ∙ seen_from a.sets.now a.next _ _

@@ -1,6 +1,5 @@
 -- The look-ahead: the forbidden drives, then the drives that stay critical before the sets ahead.
 use Rattle.hitting_sets.proofs.Covers.{cannot_extend_ahead}
-use borrow.Author.Rules.{rules}
 use Rattle.hitting_sets.proofs.search.cannot_extend.Goals as goal
 
 pub returns : goal.returns

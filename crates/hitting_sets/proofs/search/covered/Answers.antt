@@ -1,10 +1,8 @@
 -- The first set that covers p decides.
 use mathlib.Core.Path.{sym, ap, ◌∙◌}
-use Prim.Native.Nat.{ℕ, ◌-◌}
-use lib.ListN.{length}
-use borrow.Author.Rules.{rules}
+use Prim.Native.Nat.{ℕ}
 use Rattle.drive_sets.specs.Lists.{any}
-use Rattle.drive_sets.specs.Loops.Scan.{Scan, any_turn, any_found, any_end}
+use Rattle.drive_sets.specs.Loops.Scan.{any_turn, any_found, any_end}
 use Rattle.drive_sets.specs.Masks.{union, subset}
 use Rattle.hitting_sets.specs.LookAhead.{covered}
 use Rattle.hitting_sets.proofs.search.covered.Goals as goal

@@ -1,11 +1,9 @@
 -- The first set that covers p decides.
-use mathlib.Core.Path.{sym, ap, ◌∙◌}
-use Prim.Native.Nat.{ℕ, ◌-◌}
+use Prim.Native.Nat.{◌-◌}
 use lib.ListN.{length}
-use borrow.Author.Rules.{rules}
 use Rattle.drive_sets.specs.Lists.{any}
-use Rattle.drive_sets.specs.Loops.Scan.{Scan, any_turn, any_found, any_end}
-use Rattle.drive_sets.specs.Masks.{union, subset}
+use Rattle.drive_sets.specs.Loops.Scan.{Scan}
+use Rattle.drive_sets.specs.Masks.{subset}
 use Rattle.hitting_sets.specs.LookAhead.{covered}
 use Rattle.hitting_sets.proofs.search.covered.Given as goal
 

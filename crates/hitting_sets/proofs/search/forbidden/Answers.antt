@@ -1,8 +1,7 @@
 -- The forbidden drives: the drives of m from the lowest on.
-use borrow.Author.Rules.{rules}
 use Rattle.drive_sets.specs.Loops.Drives.{taken, lowest_bounds, taken_fewer}
-use Rattle.hitting_sets.proofs.Forbids.{Forbidding, forbidding_start, forbidding_turn, forbidding_end}
-use Rattle.drive_sets.specs.Masks.{union, size}
+use Rattle.hitting_sets.proofs.Forbids.{forbidding_start, forbidding_turn, forbidding_end}
+use Rattle.drive_sets.specs.Masks.{union}
 use Rattle.hitting_sets.proofs.search.forbidden.Goals as goal
 
 pub loop-rest-init : goal.loop-rest-init

@@ -1,8 +1,6 @@
 -- The forbidden drives: the drives of m from the lowest on.
-use borrow.Author.Rules.{rules}
-use Rattle.drive_sets.specs.Loops.Drives.{taken, lowest_bounds, taken_fewer}
-use Rattle.hitting_sets.proofs.Forbids.{Forbidding, forbidding_start, forbidding_turn, forbidding_end}
-use Rattle.drive_sets.specs.Masks.{union, size}
+use Rattle.hitting_sets.proofs.Forbids.{Forbidding}
+use Rattle.drive_sets.specs.Masks.{size}
 use Rattle.hitting_sets.proofs.search.forbidden.Given as goal
 
 abbrev pub invariant-loop-rest : goal.invariant-loop-rest

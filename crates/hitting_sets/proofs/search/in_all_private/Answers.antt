@@ -1,8 +1,7 @@
 -- What the private sets of each drive share: the sets from the last to the first, of which one with one drive of m
 -- counts for that drive.
-use borrow.Author.Rules.{rules}
 use borrow.Author.Tests.{eqb-true, eqb-false}
-use Rattle.hitting_sets.proofs.Shares.{Sharing, sharing_start, shared_bounds, sharing_one, sharing_none, sharing_end}
+use Rattle.hitting_sets.proofs.Shares.{sharing_start, shared_bounds, sharing_one, sharing_none, sharing_end}
 use Rattle.drive_sets.specs.Masks.{common}
 use mathlib.Core.Path.{refl, sym, ◌∙◌}
 use Rattle.hitting_sets.proofs.search.in_all_private.Goals as goal

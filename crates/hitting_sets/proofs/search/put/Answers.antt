@@ -1,15 +1,14 @@
 -- Put at its place, or not where there is no room.
 use mathlib.Core.Path.{refl, sym, ap, ◌∙◌}
-use mathlib.Core.Logic.{⊎_elim}
 use lib.ListN.{length, length-set}
 use lib.Seq.{set_out}
-use borrow.Author.Rules.{rules}
 use Rattle.hitting_sets.proofs.search.put.Goals as goal
+use Rattle.hitting_sets.proofs.search.put.Goals.{then-at-out, else-at-out}
 
 pub shape_of-out : goal.shape_of-out
-shape_of-out c = ⊎_elim (λ w. ap length w.1 ∙ simp length-set) (λ w. ap length w.1) c.if-at-out.branch
+shape_of-out c = elim c.if-at-out.branch [ then-at-out w ↦ ap length w.out-is ∙ simp length-set | else-at-out w ↦ ap length w.out-is ]
 
 pub returns : goal.returns
 returns c =
     let a = c.args in
-    (refl, refl, ⊎_elim (λ w. w.1) (λ w. w.1 ∙ sym (set_out a.out.now a.tally.found a.m w.0.left)) c.if-at-out.branch)
+    (refl, refl, elim c.if-at-out.branch [ then-at-out w ↦ w.out-is | else-at-out w ↦ w.out-is ∙ sym (set_out a.out.now a.tally.found a.m w.if-at-out.false) ])

@@ -1,7 +1,6 @@
 -- Only fuel that is limited is spent.
 use mathlib.Core.Path.{refl}
 use Rattle.drive_sets.specs.Bools.Laws.{clash}
-use borrow.Author.Rules.{rules}
 use Rattle.hitting_sets.proofs.search.spend.Goals as goal
 
 pub returns-then-tally-gt0 : goal.returns-then-tally-gt0

@@ -3,7 +3,6 @@ use mathlib.Core.Path.{refl}
 use Rattle.records.specs.Fields.{from_bytes}
 use Rattle.records.specs.Marks.{ascii, mark_text, mark}
 use Rattle.message_writing.proofs.Writes.{decide_none, decide_written}
-use borrow.Author.Rules.{rules}
 use Rattle.message_writing.proofs.writing.put_decide.Goals as goal
 
 pub returns-then-part-lt-DECIDE_BYTES : goal.returns-then-part-lt-DECIDE_BYTES

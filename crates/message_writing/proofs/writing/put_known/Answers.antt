@@ -3,7 +3,6 @@ use mathlib.Core.Path.{refl}
 use Rattle.records.specs.Fields.{from_bytes}
 use Rattle.records.specs.Marks.{ascii, mark_text, mark}
 use Rattle.message_writing.proofs.Writes.{known_none, known_written}
-use borrow.Author.Rules.{rules}
 use Rattle.drive_states.specs.State.{number_in}
 use Rattle.message_writing.proofs.writing.put_known.Goals as goal
 

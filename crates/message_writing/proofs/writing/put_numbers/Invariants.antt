@@ -1,11 +1,7 @@
 -- The mask's drives from the lowest, each number behind the one before.
-use mathlib.Core.Path.{refl}
-use native.Mathlib.Omega.{arith}
 use Rattle.drive_sets.specs.Masks.{size}
-use Rattle.drive_sets.specs.Loops.Drives.{taken, taken_fewer, lowest_bounds}
 use Rattle.drive_states.specs.State.{number_in}
-use Rattle.message_writing.proofs.Writes.{Telling, numbers_none, telling_start, telling_turn, telling_end}
-use borrow.Author.Rules.{rules}
+use Rattle.message_writing.proofs.Writes.{Telling}
 use Rattle.message_writing.proofs.writing.put_numbers.Given as goal
 
 abbrev pub invariant-loop-m : goal.invariant-loop-m

@@ -1,6 +1,5 @@
 -- The mark and the sender, then the round; nothing where they do not fit.
 use Rattle.message_writing.proofs.Writes.{start_none, start_written}
-use borrow.Author.Rules.{rules}
 use Rattle.message_writing.proofs.writing.put_start.Goals as goal
 
 pub returns-then-part-lt4 : goal.returns-then-part-lt4

@@ -1,7 +1,6 @@
 -- A field of one byte.
 use native.Mathlib.Omega.{arith}
 use Rattle.records.specs.Fields.Laws.{field_lt}
-use borrow.Author.Rules.{rules}
 use Rattle.messages.proofs.reading.byte_at.Goals as goal
 
 pub overflow_cast-result : goal.overflow_cast-result

@@ -4,7 +4,6 @@ use Rattle.drive_sets.specs.Bools.Laws.{or_first, or_second}
 use Rattle.records.specs.declared.Kind.TheVariants.{WideKnown}
 use Rattle.records.specs.Marks.{is_kind}
 use Rattle.drive_states.specs.Messages.{is_known}
-use borrow.Author.Rules.{rules}
 use Rattle.messages.proofs.reading.is_known.Goals as goal
 
 pub returns-then-is_kind : goal.returns-then-is_kind

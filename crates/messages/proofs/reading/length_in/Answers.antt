@@ -5,9 +5,7 @@ use native.Mathlib.Nat.{mul-le-mul_right}
 use native.Mathlib.Omega.{arith}
 use Rattle.drive_sets.specs.Masks.Sizes.{size_le}
 use Rattle.records.specs.Marks.Laws.{number_most}
-use borrow.Author.Tests.{not-true, not-false}
 use Rattle.drive_states.specs.Messages.{length_in, content_of}
-use borrow.Author.Rules.{rules}
 -- the product and the sum fit
 use Rattle.messages.proofs.reading.length_in.Goals as goal
 
@@ -20,8 +18,10 @@ unfolding length_in content_of
 returns-then-not-is_known c = rw (← c.number_width-width.ensures, ← c.is_known.ensures, c.if-not-is_known.true)
 
 pub overflow_mul-result : goal.overflow_mul-result
-unfolding length_in content_of
-overflow_mul-result c = omega (arith, whole c)
+overflow_mul-result c =
+    let width = c.number_width-width in
+    let few = mul-le-mul_right c.size-count.result (number_most c.args.kind) in
+    omega (arith, subst (λ (w : ℕ). w * c.size-count.result ≤ 4 * c.size-count.result) (sym width.ensures) few, c.size-count.ensures, size_le c.mask_of.result)
 
 pub overflow_add-result-2 : goal.overflow_add-result-2
 overflow_add-result-2 c =

@@ -1,6 +1,5 @@
 -- The mask where numbers are told, none of a decision.
 use Rattle.drive_states.specs.Messages.{mask_in, content_of}
-use borrow.Author.Rules.{rules}
 use Rattle.messages.proofs.reading.mask_in.Goals as goal
 
 pub returns-then-is_known : goal.returns-then-is_known

@@ -1,6 +1,5 @@
 -- The mask is eight bytes.
 use Rattle.drive_states.specs.Messages.{mask_of}
-use borrow.Author.Rules.{rules}
 use Rattle.messages.proofs.reading.mask_of.Goals as goal
 
 pub returns : goal.returns

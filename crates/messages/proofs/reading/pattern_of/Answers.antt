@@ -1,6 +1,5 @@
 -- The pattern number, as wide as the kind says.
 use Rattle.drive_states.specs.Messages.{pattern_of}
-use borrow.Author.Rules.{rules}
 use Rattle.messages.proofs.reading.pattern_of.Goals as goal
 
 pub returns : goal.returns

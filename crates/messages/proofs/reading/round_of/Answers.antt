@@ -1,6 +1,5 @@
 -- The round is one byte.
 use Rattle.drive_states.specs.Messages.{round_of}
-use borrow.Author.Rules.{rules}
 use Rattle.messages.proofs.reading.round_of.Goals as goal
 
 pub returns : goal.returns

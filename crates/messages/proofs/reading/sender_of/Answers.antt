@@ -1,6 +1,5 @@
 -- The sender is one byte.
 use Rattle.drive_states.specs.Messages.{sender_of}
-use borrow.Author.Rules.{rules}
 use Rattle.messages.proofs.reading.sender_of.Goals as goal
 
 pub returns : goal.returns

@@ -1,7 +1,5 @@
 -- Not asked of a decision; the sender, then the frame.
-use borrow.Author.Tests.{not-true, not-false}
 use Rattle.drive_states.specs.Messages.{content_of, wrong_mask}
-use borrow.Author.Rules.{rules}
 use Rattle.messages.proofs.reading.wrong_mask.Goals as goal
 
 pub returns-then-not-is_known : goal.returns-then-not-is_known

@@ -1,7 +1,6 @@
 -- The listing's answer as a reply; the buffer is the listing's.
 use mathlib.Core.Path.{ap, ◌∙◌}
 use Rattle.c_replies.specs.Replies.{size_reply}
-use borrow.Author.Rules.{rules}
 use Rattle.run_calls.proofs.listings.regdulyn_run_listing.Goals as goal
 
 pub returns : goal.returns

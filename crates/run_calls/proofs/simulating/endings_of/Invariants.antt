@@ -1,12 +1,7 @@
 -- The drives one after the other, over zeros.
-use mathlib.Core.Path.{sym, subst}
 use Prim.Native.Nat.{◌-◌}
-use lib.ListN.{replicate}
-use Rattle.drive_sets.specs.Limits.{max_drives}
 use Rattle.simulated_decisions.specs.Endings.{ending_at}
-use Rattle.simulation_replies.specs.declared.DriveEnding.{DriveEnding}
-use Rattle.run_calls.proofs.Simulates.{Putting, putting_start, drive_turn, putting_end}
-use borrow.Author.Rules.{rules}
+use Rattle.run_calls.proofs.Simulates.{Putting}
 use Rattle.run_calls.proofs.simulating.endings_of.Given as goal
 
 abbrev pub invariant-loop-i : goal.invariant-loop-i

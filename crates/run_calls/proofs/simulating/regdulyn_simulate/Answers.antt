@@ -2,7 +2,6 @@
 use mathlib.Core.Path.{ap, ◌∙◌}
 use Rattle.simulation_replies.specs.Replies.{simulation_reply}
 use Rattle.run_calls.proofs.Simulates.{simulated_frame}
-use borrow.Author.Rules.{rules}
 use Rattle.run_calls.proofs.simulating.regdulyn_simulate.Goals as goal
 
 pub simulation_reply-requires : goal.simulation_reply-requires

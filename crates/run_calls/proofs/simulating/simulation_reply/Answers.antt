@@ -1,7 +1,6 @@
 -- The refusal, or how the drives end.
 use mathlib.Core.Path.{◌∙◌}
 use Rattle.run_calls.proofs.Simulates.{reply_said, reply_told}
-use borrow.Author.Rules.{rules}
 use Rattle.run_calls.proofs.simulating.simulation_reply.Goals as goal
 
 pub endings_of-drives-requires : goal.endings_of-drives-requires

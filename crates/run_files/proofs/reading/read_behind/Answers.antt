@@ -15,7 +15,7 @@ returns-then-used-s c = record { value = rw (c.refused_file-then-used-s.ensures,
 
 pub returns-in_default : goal.returns-in_default
 unfolding run_file_outcome records_outcome read_behind whole_run untouched_left
-returns-in_default c = let r = c.read_records-read in let word : r.result.crashes.crashed < 2 ^ 64 = search rules in record { value = rw (c.refused_file-in_default.ensures, ← r.ensures.0, c.in-Accepted.is, rest_none _ _ c.if-used-s.false, crashed_in r.result.crashes word, ← c.first_missed-untouched.ensures, c.in_default.is); alone = file_refused c.refused_file-in_default.ensures }
+returns-in_default c = let r = c.read_records-read in let word : r.result.crashes.crashed < 2 ^ 64 = search rules in record { value = rw (c.refused_file-in_default.ensures, ← r.ensures.value, c.in-Accepted.is, rest_none _ _ c.if-used-s.false, crashed_in r.result.crashes word, ← c.first_missed-untouched.ensures, c.in_default.is); alone = file_refused c.refused_file-in_default.ensures }
 
 pub returns-in-Refused : goal.returns-in-Refused
 unfolding run_file_outcome records_outcome read_behind whole_run untouched_left
@@ -23,4 +23,4 @@ returns-in-Refused c = record { value = rw (c.refused_file.ensures, ← c.read_r
 
 pub returns-in-At : goal.returns-in-At
 unfolding run_file_outcome records_outcome read_behind whole_run untouched_left
-returns-in-At c = let r = c.read_records-read in let word : r.result.crashes.crashed < 2 ^ 64 = search rules in record { value = rw (← r.ensures.0, c.in-Accepted.is, rest_none _ _ c.if-used-s.false, crashed_in r.result.crashes word, ← c.first_missed-untouched.ensures, c.in-At.is); alone = file_accepted refl }
+returns-in-At c = let r = c.read_records-read in let word : r.result.crashes.crashed < 2 ^ 64 = search rules in record { value = rw (← r.ensures.value, c.in-Accepted.is, rest_none _ _ c.if-used-s.false, crashed_in r.result.crashes word, ← c.first_missed-untouched.ensures, c.in-At.is); alone = file_accepted refl }

@@ -5,7 +5,6 @@ use Rattle.tables.specs.Answers.{chosen_outcome}
 use Rattle.run_files.specs.RunFiles.{read_run_file}
 use Rattle.run_files.specs.Reading.{run_file_outcome}
 use Rattle.run_files.proofs.Returns.{file_refused}
-use borrow.Author.Rules.{rules}
 use Rattle.run_files.proofs.reading.read_run_file.Goals as goal
 
 pub read_behind-requires : goal.read_behind-requires

@@ -1,5 +1,4 @@
 -- No crash beside the refusal.
-use borrow.Author.Rules.{rules}
 use Rattle.run_files.proofs.reading.refused_file.Goals as goal
 
 pub returns : goal.returns

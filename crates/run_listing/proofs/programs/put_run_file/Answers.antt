@@ -3,7 +3,6 @@ use mathlib.Core.Path.{sym, ap, ◌∙◌}
 use Rattle.drive_sets.specs.Filled.Laws.{filled_same}
 use Rattle.run_listing.specs.RunListing.{run_text}
 use Rattle.run_listing.proofs.RunPrograms.{run_file_text}
-use borrow.Author.Rules.{rules}
 use Rattle.run_listing.proofs.programs.put_run_file.Goals as goal
 
 pub returns-in-Refused : goal.returns-in-Refused

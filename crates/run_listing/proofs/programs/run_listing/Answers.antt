@@ -2,7 +2,6 @@
 use native.Mathlib.Omega.{arith}
 use Rattle.text.proofs.Prints.{prints_put}
 use Rattle.run_listing.proofs.Lengths.{run_program_length}
-use borrow.Author.Rules.{rules}
 use Rattle.run_listing.proofs.programs.run_listing.Goals as goal
 
 pub slice_bounds-print-end : goal.slice_bounds-print-end

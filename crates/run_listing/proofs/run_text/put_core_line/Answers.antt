@@ -1,5 +1,4 @@
 -- The core, then the stops.
--- TODO 6 arguments, 4 goals, 2 invariants
 use Rattle.records.specs.Marks.{ascii}
 use Rattle.text.proofs.Puts.{filled_both}
 use Rattle.run_listing.specs.RunListing.{core_line}

@@ -1,5 +1,4 @@
 -- The drive, how it ends, the newline.
--- TODO 14 arguments, 12 goals, 2 invariants
 use mathlib.Core.Path.{sym, ap}
 use mathlib.Core.Bool.{Bool}
 use Rattle.records.specs.Marks.{ascii}
@@ -14,4 +13,4 @@ use Rattle.run_listing.proofs.run_text.put_drive.Goals as goal
 
 pub returns : goal.returns
 unfolding drive_line ascii ending_at number_in
-returns c = let a = c.args in filled_both (search rules) c.put_named-headed.ensures (filled_both (search rules) (filled_same (ap (λ (b : Bool). ending_text (ending_for b (round_at a.t5 a.d.0) (number_in a.t6 a.d.0))) (sym c.has.ensures)) c.put_ending-ended.ensures) c.put_all.ensures)
+returns c = let a = c.args in filled_both (search rules) c.put_named-headed.ensures (filled_both (search rules) (filled_same (ap (λ (b : Bool). ending_text (ending_for b (round_at a.rounds a.d.0) (number_in a.numbers a.d.0))) (sym c.has.ensures)) c.put_ending-ended.ensures) c.put_all.ensures)

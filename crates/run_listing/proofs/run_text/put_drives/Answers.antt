@@ -1,11 +1,7 @@
 -- The lines of the drives, one after the other.
 use native.Mathlib.Omega.{arith}
-use Prim.Native.Nat.{◌-◌}
-use Rattle.drive_sets.specs.Lists.{range}
 use Rattle.drive_sets.specs.Lists.Places.{length_range}
-use Rattle.text.proofs.Puts.{Putting, putting_start, putting_turn, putting_end}
-use Rattle.run_listing.specs.RunListing.{drive_line}
-use Rattle.simulated_decisions.specs.Endings.{ending_at}
+use Rattle.text.proofs.Puts.{putting_start, putting_turn, putting_end}
 use Rattle.run_listing.specs.RunParts.{drive_lines}
 use Rattle.run_listing.proofs.RunPrograms.{drive_at_law}
 use borrow.Author.Rules.{rules}

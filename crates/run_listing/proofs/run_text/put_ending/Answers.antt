@@ -1,6 +1,4 @@
 -- Stopped, undecided, or the decision with its round.
--- TODO 16 arguments, 12 goals, 4 invariants
--- TODO put_all-requires-then-round-eq0: unknown: c.before.before.put-all2.ensures at After-put_all-arg6
 use borrow.Author.Tests.{eq-eqb, ne_eqb}
 use Rattle.records.specs.Marks.{ascii}
 use Rattle.simulated_decisions.specs.Endings.{ending_by, ending_for}
@@ -11,15 +9,11 @@ use Rattle.run_listing.proofs.run_text.put_ending.Goals as goal
 
 pub returns-then-crashes : goal.returns-then-crashes
 unfolding ending_text ending_for ending_by ascii
-returns-then-crashes c = search rules
-
-pub put_all-requires-then-round-eq0 : goal.put_all-requires-then-round-eq0
-unfolding ending_text ending_for ending_by ascii
-put_all-requires-then-round-eq0 c = rw (c.if-crashes.false, eq-eqb _ 0 c.if-round-eq0.true) c.put-all2.ensures
+returns-then-crashes c = rw c.if-crashes.true c.put_all.ensures
 
 pub returns-then-round-eq0 : goal.returns-then-round-eq0
 unfolding ending_text ending_for ending_by ascii
-returns-then-round-eq0 c = search rules
+returns-then-round-eq0 c = rw (c.if-crashes.false, eq-eqb _ 0 c.if-round-eq0.true) c.put_all-then-round-eq0.ensures
 
 pub returns : goal.returns
 unfolding ending_text ending_for ending_by ascii

@@ -3,7 +3,6 @@ use native.Mathlib.Omega.{arith}
 use borrow.Author.Tests.{ne_eqb}
 use Rattle.agreement.specs.Canonical.{ending_on}
 use Rattle.simulated_decisions.specs.Endings.{ending_by, or_later}
-use borrow.Author.Rules.{rules}
 use Rattle.simulated_decisions.proofs.noting.first_decision.Goals as goal
 
 pub returns-then-was-ne0 : goal.returns-then-was-ne0

@@ -1,7 +1,5 @@
 -- The drives one after the other.
-use borrow.Author.Rules.{rules}
-use Rattle.simulated_decisions.proofs.Openings.{Opening, open_start, open_turn, open_end}
-use native.Mathlib.Omega.{arith}
+use Rattle.simulated_decisions.proofs.Openings.{Opening}
 use Prim.Native.Nat.{◌-◌}
 use Rattle.simulated_decisions.proofs.opened.open_all.Given as goal
 

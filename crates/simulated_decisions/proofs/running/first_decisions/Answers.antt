@@ -3,7 +3,6 @@ use Rattle.simulated_decisions.proofs.Bounds.{frame_bound, core_bound}
 use Rattle.drive_sets.specs.Bools.Laws.{clash}
 use Rattle.drive_sets.specs.Masks.{subset}
 use Rattle.drive_sets.specs.Masks.Laws.{subset_full, full_subset}
-use borrow.Author.Tests.{not-true, not-false}
 use native.Mathlib.Omega.{arith}
 use mathlib.Core.Path.{sym, ap, ◌∙◌}
 use borrow.Author.Rules.{rules}

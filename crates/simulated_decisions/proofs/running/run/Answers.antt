@@ -1,10 +1,8 @@
 -- The openings, then round after round.
-use borrow.Author.Rules.{rules}
 use Rattle.simulated_decisions.proofs.Openings.{world_opened}
-use Rattle.simulated_decisions.proofs.AllRounds.{Running, run_start, run_turn, run_end, run_decided, all_given}
+use Rattle.simulated_decisions.proofs.AllRounds.{run_start, run_turn, run_end, run_decided, all_given}
 use Rattle.drive_sets.specs.Masks.Sizes.{size_le}
 use native.Mathlib.Omega.{arith}
-use Prim.Native.Nat.{◌-◌}
 use mathlib.Core.Path.{◌∙◌}
 use Rattle.simulated_decisions.proofs.running.run.Goals as goal
 

@@ -1,11 +1,6 @@
 -- The openings, then round after round.
-use borrow.Author.Rules.{rules}
-use Rattle.simulated_decisions.proofs.Openings.{world_opened}
-use Rattle.simulated_decisions.proofs.AllRounds.{Running, run_start, run_turn, run_end, run_decided, all_given}
-use Rattle.drive_sets.specs.Masks.Sizes.{size_le}
-use native.Mathlib.Omega.{arith}
+use Rattle.simulated_decisions.proofs.AllRounds.{Running}
 use Prim.Native.Nat.{◌-◌}
-use mathlib.Core.Path.{◌∙◌}
 use Rattle.simulated_decisions.proofs.running.run.Given as goal
 
 abbrev pub invariant-loop-done : goal.invariant-loop-done

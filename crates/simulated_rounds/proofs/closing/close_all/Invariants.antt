@@ -1,8 +1,5 @@
 -- The drives one after the other.
-use borrow.Author.Rules.{rules}
-use Rattle.simulated_rounds.proofs.Closes.{close_turn, close_end, Closing}
-use Rattle.simulated_rounds.proofs.Walks.{walk_start}
-use native.Mathlib.Omega.{arith}
+use Rattle.simulated_rounds.proofs.Closes.{Closing}
 use Prim.Native.Nat.{◌-◌}
 use Rattle.simulated_rounds.proofs.closing.close_all.Given as goal
 

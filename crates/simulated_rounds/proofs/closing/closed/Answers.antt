@@ -1,6 +1,4 @@
 -- A drive that does not close keeps its state.
-use borrow.Author.Tests.{not-true, not-false}
-use borrow.Author.Rules.{rules}
 use Rattle.simulated_rounds.proofs.closing.closed.Goals as goal
 
 pub returns-then-not-is_closer : goal.returns-then-not-is_closer

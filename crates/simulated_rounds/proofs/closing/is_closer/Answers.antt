@@ -1,7 +1,6 @@
 -- The two tests.
 use mathlib.Core.Path.{refl}
 use Rattle.runs.specs.World.{active}
-use borrow.Author.Rules.{rules}
 use Rattle.simulated_rounds.proofs.closing.is_closer.Goals as goal
 
 pub returns-then-was : goal.returns-then-was

@@ -1,6 +1,8 @@
 -- No CR, one for another round, one for this round.
 use lib.Seq.{take_all}
-use borrow.Author.Tests.{eq-eqb, ne_eqb, not-true, not-false}
+use mathlib.Core.Path.{ap}
+use mathlib.Core.Bool.{not}
+use borrow.Author.Tests.{eq-eqb, ne_eqb}
 use Rattle.agreement.specs.Sends.{cut}
 use Rattle.drive_sets.specs.Masks.Laws.{tested_bounds}
 use Rattle.simulated_rounds.specs.Rounds.{crash_at}
@@ -13,7 +15,7 @@ returns-then-not-has c l g = rw (← c.has.ensures, c.if-not-has.true, take_all 
 
 pub round_at-last-requires : goal.round_at-last-requires
 unfolding cut crash_at
-round_at-last-requires c = let a = c.args in tested_bounds a.d.0 a.crashes.crashed _ (search rules) c.has.ensures c.if-not-has.false
+round_at-last-requires c = let a = c.args in tested_bounds a.d.0 a.crashes.crashed _ (search rules) c.has.ensures (ap not c.if-not-has.false)
 
 pub returns-then-last-round : goal.returns-then-last-round
 unfolding cut crash_at
@@ -21,7 +23,7 @@ returns-then-last-round c l g = rw (← c.has.ensures, c.if-not-has.false, ← c
 
 pub sends_at-requires : goal.sends_at-requires
 unfolding cut crash_at
-sends_at-requires c = let a = c.args in tested_bounds a.d.0 a.crashes.crashed _ (search rules) c.has.ensures c.if-not-has.false
+sends_at-requires c = let a = c.args in tested_bounds a.d.0 a.crashes.crashed _ (search rules) c.has.ensures (ap not c.if-not-has.false)
 
 pub returns : goal.returns
 unfolding cut crash_at

@@ -1,7 +1,5 @@
 -- The tests in order.
-use borrow.Author.Tests.{not-true, not-false}
 use Rattle.runs.specs.World.{active}
-use borrow.Author.Rules.{rules}
 use Rattle.simulated_rounds.proofs.rounds.is_sender.Goals as goal
 
 pub returns-then-not-has : goal.returns-then-not-has

@@ -6,7 +6,6 @@ use Rattle.drive_sets.specs.Masks.{subset}
 use Rattle.drive_sets.specs.Masks.Laws.{subset_full, full_subset}
 use Rattle.runs.specs.World.{World, closes}
 use Rattle.agreement.specs.Document01.{apply_all}
-use borrow.Author.Tests.{not-true, not-false}
 use native.Mathlib.Omega.{arith}
 use mathlib.Core.List.{map}
 use mathlib.Core.Path.{refl, sym, ap, ◌∙◌}

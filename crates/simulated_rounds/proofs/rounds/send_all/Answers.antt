@@ -1,23 +1,23 @@
 -- The drives one after the other, each with the drives of its list; one that is no sender changes nothing.
-use mathlib.Core.Path.{◌≡◌, refl, sym, ap, ◌∙◌}
+use mathlib.Core.Path.{refl, sym, ap, ◌∙◌}
 use mathlib.Core.List.{map}
-use Prim.Native.Nat.{ℕ, ◌-◌}
+use Prim.Native.Nat.{ℕ}
 use native.Mathlib.Nat.{sub-zero}
 use native.Mathlib.Omega.{arith}
-use lib.ListN.{length, take}
+use lib.ListN.{take}
 use Rattle.runs.specs.World.{delivers}
 use Rattle.runs.specs.World as worlds
 use Rattle.agreement.specs.Document01.{apply_all}
 use Rattle.simulated_sends.specs.States.{world_of, due_of}
-use Rattle.simulated_rounds.proofs.Deliveries.{list_drives, Delivering, deliver_end, deliver_bounds, deliver_fewer, deliver_turn}
-use Rattle.simulated_rounds.proofs.SenderCalls.{Sending, send_turn, send_end}
+use Rattle.simulated_rounds.proofs.Deliveries.{list_drives, deliver_end, deliver_bounds, deliver_fewer, deliver_turn}
+use Rattle.simulated_rounds.proofs.SenderCalls.{send_turn, send_end}
 use Rattle.simulated_rounds.proofs.Walks.{walk_start}
 use borrow.Author.Rules.{rules}
 use Rattle.simulated_rounds.proofs.rounds.send_all.Goals as goal
 
 pub loop-i-init : goal.loop-i-init
 unfolding worlds.apply_all
-loop-i-init c = (walk_start c.args.n _ c.args.t1 (search rules), search rules)
+loop-i-init c = (walk_start c.args.n _ c.args.states (search rules), search rules)
 
 pub slice_bounds-sent_by-end : goal.slice_bounds-sent_by-end
 unfolding worlds.apply_all
@@ -30,11 +30,11 @@ sent_by-sent-requires c = (c.requires.0, c.requires.1, c.loop-i.invariant.1)
 pub loop-to-init : goal.loop-to-init
 unfolding worlds.apply_all
 loop-to-init c = let s = c in record {
-      long = c.loop-i.invariant.0.long;
-      first = c.first-to.ensures;
-      drives = λ e h. list_drives s.args.n s.args.core _ s.requires.0 s.requires.1 e (c.sent_by-sent.ensures.listed.0 e h);
-      same = refl;
-    }
+  long = c.loop-i.invariant.0.long;
+  first = c.first-to.ensures;
+  drives = λ e h. list_drives s.args.n s.args.core _ s.requires.0 s.requires.1 e (c.sent_by-sent.ensures.listed e h);
+  same = refl;
+}
 
 pub overflow_sub-at : goal.overflow_sub-at
 unfolding worlds.apply_all
@@ -50,7 +50,7 @@ bounds-all-at c = let b = deliver_bounds (due_of c.loop-to.due) c.loop-to.invari
 
 pub slice_bounds-message-end : goal.slice_bounds-message-end
 unfolding worlds.apply_all
-slice_bounds-message-end c = let sent = c.sent_by-sent in omega (arith, sent.ensures.1.1, sent.auto.1.1.1.1.1.1.0, c.loop-i.invariant.1)
+slice_bounds-message-end c = let sent = c.sent_by-sent in omega (arith, sent.ensures.within, sent.auto.buf, c.loop-i.invariant.1)
 
 pub offset_bounds-all-at-in-loop-to : goal.offset_bounds-all-at-in-loop-to
 unfolding worlds.apply_all
@@ -71,11 +71,11 @@ loop-to-preserved c = let l = c.loop-to in deliver_turn c.requires.0 (due_of l.d
 pub loop-i-preserved : goal.loop-i-preserved
 unfolding worlds.apply_all
 loop-i-preserved c = let a = c.args in let l = c.loop-i in let each = c.loop-to in let sent = c.sent_by-sent in (
-      send_turn a.n a.core a.crashes a.round.0 a.t1 l.all l.i each.all l.invariant.0 (omega arith) each.invariant.long
-          (deliver_end (due_of each.due) each.invariant c.loop-to-test.false ∙ ap (apply_all (world_of a.n l.all)) (ap (λ (k : ℕ). map (λ e. delivers e (take k sent.new.1.1.1.1.1.1.0)) (due_of sent.result.due)) (sub-zero sent.result.size) ∙ sent.ensures.0)),
-      omega (arith, sent.auto.1.1.1.1.1.1.0, l.invariant.1),
-    )
+  send_turn a.n a.core a.crashes a.round.0 a.states l.all l.i each.all l.invariant.0 (omega arith) each.invariant.long
+      (deliver_end (due_of each.due) each.invariant c.loop-to-test.false ∙ ap (apply_all (world_of a.n l.all)) (ap (λ (k : ℕ). map (λ e. delivers e (take k sent.new.buf)) (due_of sent.result.due)) (sub-zero sent.result.size) ∙ sent.ensures.calls)),
+  omega (arith, sent.auto.buf, l.invariant.1),
+)
 
 pub returns : goal.returns
 unfolding worlds.apply_all
-returns c = let a = c.args in let l = c.loop-i in send_end a.n a.core a.crashes a.round.0 a.t1 l.all l.i l.invariant.0 (omega arith)
+returns c = let a = c.args in let l = c.loop-i in send_end a.n a.core a.crashes a.round.0 a.states l.all l.i l.invariant.0 (omega arith)

@@ -8,19 +8,22 @@ use Rattle.drive_sets.specs.Lists.Laws.{elem_none}
 use Rattle.drive_sets.specs.Lists.Takes.{elem_take}
 use Rattle.simulated_sends.specs.States.{due_of, list_for}
 use Rattle.simulated_sends.proofs.SentBytes.{wrote, wrote_nothing, wrote_calls}
-use borrow.Author.Rules.{rules}
 use Rattle.simulated_sends.proofs.lists.send_from.Goals as goal
 
 pub returns-in-Refused : goal.returns-in-Refused
 unfolding due_of list_for
-returns-in-Refused c = let none = c.nothing.ensures in let a = c.args in (
-      ap (map _) none.1 ∙ sym (wrote_nothing a.x _ _ _ c.send-written.ensures _ c.in-Refused.is _),
-      (λ e h. absurd (clash h (ap (elem e) none.1 ∙ elem_none e)), (omega (arith, none.0), c.send-written.ensures.buffer)),
-    )
+returns-in-Refused c = let none = c.nothing.ensures in let a = c.args in record {
+  calls = ap (map _) none.1 ∙ sym (wrote_nothing a.x _ _ _ c.send-written.ensures _ c.in-Refused.is _);
+  listed = λ e h. absurd (clash h (ap (elem e) none.1 ∙ elem_none e));
+  within = omega (arith, none.0);
+  lent = c.send-written.ensures.buffer;
+}
 
 pub returns-in-Wrote : goal.returns-in-Wrote
 unfolding due_of list_for
-returns-in-Wrote c = let a = c.args in let w = wrote a.x _ _ _ c.send-written.ensures _ c.in-Wrote.is in (
-      rw (c.remove.ensures, c.outside.ensures) (wrote_calls a.x _ _ _ w _),
-      (λ e h. rw (← c.remove.ensures, ← c.outside.ensures) (elem_take e a.sends _ h), (w.fits, c.send-written.ensures.buffer)),
-    )
+returns-in-Wrote c = let a = c.args in let w = wrote a.x _ _ _ c.send-written.ensures _ c.in-Wrote.is in record {
+  calls = rw (c.remove.ensures, c.outside.ensures) (wrote_calls a.x _ _ _ w _);
+  listed = λ e h. rw (← c.remove.ensures, ← c.outside.ensures) (elem_take e a.sends _ h);
+  within = w.fits;
+  lent = c.send-written.ensures.buffer;
+}

@@ -1,6 +1,5 @@
 -- The record that the two arrays say.
 use Rattle.drive_crashes.specs.Crashes.{crash_of_drive, crash_record}
-use borrow.Author.Rules.{rules}
 use Rattle.simulation.proofs.checking.check_one.Goals as goal
 
 pub returns : goal.returns

@@ -1,5 +1,4 @@
 -- Nothing is found beside the refusal.
-use borrow.Author.Rules.{rules}
 use Rattle.simulation.proofs.simulating.refused.Goals as goal
 
 pub returns : goal.returns

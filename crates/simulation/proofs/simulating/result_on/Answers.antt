@@ -6,7 +6,6 @@ use Rattle.drive_sets.specs.Masks.Sizes.{size_le}
 use Rattle.drive_sets.specs.Masks.{common}
 use native.Mathlib.Omega.{arith}
 use mathlib.Core.Path.{refl}
-use borrow.Author.Rules.{rules}
 use Rattle.simulation.proofs.simulating.result_on.Goals as goal
 
 pub overflow_cast-result : goal.overflow_cast-result

@@ -1,5 +1,4 @@
 -- The refusal, or the position of the first set that the group misses.
-use borrow.Author.Rules.{rules}
 use Rattle.table_calls.proofs.calls.regdulyn_missed.Goals as goal
 
 pub returns-in-Refused : goal.returns-in-Refused

@@ -1,11 +1,10 @@
 -- The refusal, or the groups of the table.
 use mathlib.Core.Path.{refl}
 use Rattle.tables.proofs.CallAnswers.{list_said}
-use borrow.Author.Rules.{rules}
 use Rattle.table_calls.proofs.calls.regdulyn_threshold.Goals as goal
 
 pub returns-in-Refused : goal.returns-in-Refused
-returns-in-Refused c = let t = c.threshold_sets-made in rw (← list_said _ t.result t.ensures.0 _ c.in-Refused.is) (c.refused_size.ensures, refl)
+returns-in-Refused c = let t = c.threshold_sets-made in rw (← list_said _ t.result t.ensures.value _ c.in-Refused.is) (record { value = c.refused_size.ensures; out_after = refl })
 
 pub returns-in-Accepted : goal.returns-in-Accepted
-returns-in-Accepted c = let t = c.threshold_sets-made in rw (← list_said _ t.result t.ensures.0 _ c.in-Accepted.is) c.put_list.ensures
+returns-in-Accepted c = let t = c.threshold_sets-made in rw (← list_said _ t.result t.ensures.value _ c.in-Accepted.is) c.put_list.ensures

@@ -1,7 +1,6 @@
 -- The writer's answer as a reply; the buffer is the writer's.
 use mathlib.Core.Path.{ap, ◌∙◌}
 use Rattle.c_replies.specs.Replies.{size_reply}
-use borrow.Author.Rules.{rules}
 use Rattle.table_calls.proofs.calls.regdulyn_write_table.Goals as goal
 
 pub returns : goal.returns

@@ -5,7 +5,6 @@ use Rattle.table_files.specs.Reading.{read_outcome}
 use Rattle.table_files.specs.WithCores.{read_whole_complete}
 use Rattle.table_files.proofs.TableReads.{accepted_completed}
 use Rattle.complete_tables.proofs.Completes.{rest_none, rest_some}
-use borrow.Author.Rules.{rules}
 use Rattle.table_files.proofs.files.read_whole.Goals as goal
 
 pub returns-then-used-s : goal.returns-then-used-s

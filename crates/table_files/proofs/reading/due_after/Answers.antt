@@ -1,7 +1,6 @@
 -- What is due after so many masks.
 use mathlib.Core.Path.{ap, ◌∙◌}
 use Rattle.records.specs.declared.Due.TheVariants.{AtRecord, AtRecordOrEnd}
-use borrow.Author.Rules.{rules}
 use Rattle.table_files.proofs.Steps.{due_first, due_later}
 use Rattle.table_files.proofs.reading.due_after.Goals as goal
 

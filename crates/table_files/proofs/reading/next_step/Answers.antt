@@ -2,7 +2,6 @@
 use Rattle.records.specs.RecordLists.{step_of}
 use Rattle.table_files.specs.Files.{taken_mask}
 use borrow.Author.Tests.{le-leb, lt-leb}
-use borrow.Author.Rules.{rules}
 use Rattle.table_files.proofs.reading.next_step.Goals as goal
 
 pub returns-then-count-ge-MAX_SETS : goal.returns-then-count-ge-MAX_SETS

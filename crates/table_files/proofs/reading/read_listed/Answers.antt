@@ -4,7 +4,6 @@ use Rattle.table_files.specs.Files.{read_listed}
 use Rattle.table_files.specs.Reading.{read_outcome}
 use Rattle.table_files.proofs.Steps.{frame_whole}
 use native.Mathlib.Omega.{arith}
-use borrow.Author.Rules.{rules}
 use Rattle.table_files.proofs.reading.read_listed.Goals as goal
 
 pub bounds-s-2 : goal.bounds-s-2

@@ -1,10 +1,8 @@
 -- The loop over the records after FR: what is left to read gives what the whole gives.
-use borrow.Author.Rules.{rules}
 use Rattle.drive_sets.specs.Refusals.Laws.{accepted_not_refused}
-use Rattle.table_files.proofs.Steps.{Listing, listing_start, listing_stop, listed_within, listing_end, listing_turn}
+use Rattle.table_files.proofs.Steps.{listing_start, listing_stop, listed_within, listing_end, listing_turn}
 use Rattle.complete_tables.specs.Complete.{sets_of}
 use Rattle.table_files.specs.Reading.{read_outcome}
-use Prim.Native.Nat.{◌-◌}
 use native.Mathlib.Omega.{arith}
 use mathlib.Core.Path.{refl}
 use Rattle.table_files.proofs.reading.read_masks.Goals as goal
@@ -31,23 +29,23 @@ returns-in-End c = let l = c.loop-r.invariant in let n = c.next_step-next.ensure
 
 pub offset_bounds-sets-count : goal.offset_bounds-sets-count
 unfolding read_outcome sets_of
-offset_bounds-sets-count c = omega (arith, (loop-again c).few)
+offset_bounds-sets-count c = omega (arith, (listing_turn c.loop-r.invariant c.next_step-next.ensures c.in-Mask.is).few)
 
 pub bounds-sets-count : goal.bounds-sets-count
 unfolding read_outcome sets_of
-bounds-sets-count c = omega (arith, (loop-again c).few)
+bounds-sets-count c = omega (arith, (listing_turn c.loop-r.invariant c.next_step-next.ensures c.in-Mask.is).few)
 
 pub overflow_add-count : goal.overflow_add-count
 unfolding read_outcome sets_of
-overflow_add-count c = omega (arith, (loop-again c).few)
+overflow_add-count c = omega (arith, (listing_turn c.loop-r.invariant c.next_step-next.ensures c.in-Mask.is).few)
 
 pub overflow_add-at : goal.overflow_add-at
 unfolding read_outcome sets_of
-overflow_add-at c = omega (arith, (loop-again c).reading.within)
+overflow_add-at c = omega (arith, (listing_turn c.loop-r.invariant c.next_step-next.ensures c.in-Mask.is).reading.within)
 
 pub loop-r-smaller : goal.loop-r-smaller
 unfolding read_outcome sets_of
-loop-r-smaller c = omega (arith, (loop-again c).few)
+loop-r-smaller c = omega (arith, (listing_turn c.loop-r.invariant c.next_step-next.ensures c.in-Mask.is).few)
 
 pub loop-r-preserved : goal.loop-r-preserved
 loop-r-preserved c = listing_turn c.loop-r.invariant c.next_step-next.ensures c.in-Mask.is

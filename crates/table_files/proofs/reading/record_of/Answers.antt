@@ -1,6 +1,5 @@
 -- SV or FL: every arm is told what the masks are.
 use mathlib.Core.Path.{sym, ap}
-use borrow.Author.Rules.{rules}
 use Rattle.table_files.specs.Files.{record_of}
 use Rattle.table_files.proofs.reading.record_of.Goals as goal
 

@@ -6,12 +6,11 @@ use Rattle.complete_tables.specs.Complete.{Complete, with_cores}
 use Rattle.table_files.specs.WithCores.{read_whole_complete}
 use Rattle.table_files.proofs.TableReads.{read_refused, read_accepted, read_cores}
 use Rattle.table_listing.specs.TableListing.{listing, listing_of, table_program}
-use borrow.Author.Rules.{rules}
 use Rattle.table_listing.proofs.programs.put_table.Goals as goal
 
 pub put_complete-requires : goal.put_complete-requires
 unfolding read_whole_complete table_program with_cores
-put_complete-requires c = let s = c.args.input.now in let r = c.read_whole-t in (r.ensures.1, read_cores _ (read_whole s) r.ensures.0 c.in-Accepted.is)
+put_complete-requires c = let s = c.args.input.now in let r = c.read_whole-t in (r.ensures.within, read_cores _ (read_whole s) r.ensures.value c.in-Accepted.is)
 
 pub returns-in-Refused : goal.returns-in-Refused
 unfolding read_whole_complete table_program with_cores

@@ -2,7 +2,6 @@
 use native.Mathlib.Omega.{arith}
 use Rattle.text.proofs.Prints.{prints_put}
 use Rattle.table_listing.proofs.Lengths.{program_length}
-use borrow.Author.Rules.{rules}
 use Rattle.table_listing.proofs.programs.table_listing.Goals as goal
 
 pub slice_bounds-print-end : goal.slice_bounds-print-end

@@ -1,6 +1,5 @@
 -- The first of the list, or 0.
 use Rattle.table_listing.proofs.Listings.{no_first}
-use borrow.Author.Rules.{rules}
 use Rattle.table_listing.proofs.table_text.first_group.Goals as goal
 
 pub returns-then-groups-eq0 : goal.returns-then-groups-eq0

@@ -1,5 +1,4 @@
 -- The drives, the sets, the cores, the chosen one, the verdicts.
--- TODO 12 arguments, 8 goals, 4 invariants
 use mathlib.Core.Path.{sym, ap, ◌∙◌}
 use mathlib.Core.List.{List}
 use Prim.Native.Nat.{ℕ}

@@ -1,6 +1,5 @@
 -- All of the sets where there are fewer, else the first of them.
 use Rattle.records.proofs.Parts.{first_all, first_some_law}
-use borrow.Author.Rules.{rules}
 use Rattle.table_replies.proofs.lists.first_sets.Goals as goal
 
 pub returns-then-sets-count : goal.returns-then-sets-count

@@ -1,7 +1,6 @@
 -- The refusal, 14, or the sets, copied.
 use Rattle.complete_tables.specs.Complete.{sets_of}
 use Rattle.table_replies.proofs.ReadTables.{put_refused, put_full, put_all}
-use borrow.Author.Rules.{rules}
 use Rattle.table_replies.proofs.reading.put_table.Goals as goal
 
 pub returns-then-out-part : goal.returns-then-out-part

@@ -1,7 +1,6 @@
 -- The refusal's number, for any bytes.
 use mathlib.Core.Path.{ap}
 use Prim.Native.Nat.{ℕ}
-use borrow.Author.Rules.{rules}
 use Rattle.table_replies.proofs.reading.refused_table.Goals as goal
 
 pub returns : goal.returns

@@ -1,11 +1,5 @@
 -- Each set tested, one after the other.
-use borrow.Author.Rules.{rules}
-use Rattle.drive_sets.specs.Loops.Scan.{Scan, scan_start, all_turn, all_found, all_end}
-use Rattle.survivor_tables.specs.Tables.{is_set}
-use Rattle.drive_sets.specs.Lists.{all}
-use borrow.Author.Tests.{not-true, not-false}
-use lib.ListN.{length}
-use Prim.Native.Nat.{◌-◌}
+use Rattle.drive_sets.specs.Loops.Scan.{scan_start, all_turn, all_found, all_end}
 use mathlib.Core.Path.{sym, ◌∙◌}
 use Rattle.tables.proofs.calls.all_sets.Goals as goal
 

@@ -1,12 +1,9 @@
 -- Each set tested, one after the other.
-use borrow.Author.Rules.{rules}
-use Rattle.drive_sets.specs.Loops.Scan.{Scan, scan_start, all_turn, all_found, all_end}
+use Rattle.drive_sets.specs.Loops.Scan.{Scan}
 use Rattle.survivor_tables.specs.Tables.{is_set}
 use Rattle.drive_sets.specs.Lists.{all}
-use borrow.Author.Tests.{not-true, not-false}
 use lib.ListN.{length}
 use Prim.Native.Nat.{◌-◌}
-use mathlib.Core.Path.{sym, ◌∙◌}
 use Rattle.tables.proofs.calls.all_sets.Given as goal
 
 abbrev pub invariant-loop-i : goal.invariant-loop-i

@@ -2,7 +2,6 @@
 use Rattle.complete_tables.proofs.Accepts.{accept_refused, accept_taken}
 use Rattle.tables.proofs.CallAnswers.{first_core}
 use Rattle.survivor_tables.specs.Tables.{chosen_core}
-use borrow.Author.Rules.{rules}
 use Rattle.tables.proofs.calls.chosen_core.Goals as goal
 
 pub returns-in-Refused : goal.returns-in-Refused

@@ -14,7 +14,7 @@ returns-then-not-is_set c = rw ((accept_taken _ _ _ c.accept-t.ensures.value c.i
 
 pub slice_bounds-first_missed-end : goal.slice_bounds-first_missed-end
 unfolding missed_set
-slice_bounds-first_missed-end c = let t = c.accept-t in let long : length t.result.table.sets ≡ 128 = search rules in omega (arith, t.ensures.1.sets)
+slice_bounds-first_missed-end c = let t = c.accept-t in let long : length t.result.table.sets ≡ 128 = search rules in omega (arith, t.ensures.within.sets)
 
 pub returns-in-Refused : goal.returns-in-Refused
 unfolding missed_set
@@ -22,4 +22,4 @@ returns-in-Refused c = rw (accept_refused _ _ _ c.accept-t.ensures.value _ c.in-
 
 pub returns-else-not-is_set : goal.returns-else-not-is_set
 unfolding missed_set
-returns-else-not-is_set c = let t = c.accept-t in rw ((accept_taken _ _ _ t.ensures.0 c.in-Accepted.is).table, ← c.is_set.ensures, c.if-not-is_set.false, c.first_missed.ensures, first_taken t.result.table)
+returns-else-not-is_set c = let t = c.accept-t in rw ((accept_taken _ _ _ t.ensures.value c.in-Accepted.is).table, ← c.is_set.ensures, c.if-not-is_set.false, c.first_missed.ensures, first_taken t.result.table)

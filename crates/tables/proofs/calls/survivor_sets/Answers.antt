@@ -6,7 +6,6 @@ use Rattle.survivor_tables.specs.Tables.{survivor_sets}
 use Rattle.tables.specs.Answers.{list_outcome}
 use borrow.Author.Tests.{lt-ltb, le-ltb}
 use mathlib.Core.Path.{refl}
-use borrow.Author.Rules.{rules}
 use Rattle.tables.proofs.calls.survivor_sets.Goals as goal
 
 pub returns-then-not-is_frame : goal.returns-then-not-is_frame

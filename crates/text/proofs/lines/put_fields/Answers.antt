@@ -1,9 +1,7 @@
 -- The fields of a list, item by item.
 use mathlib.Core.Path.{refl}
-use Prim.Native.Nat.{◌-◌}
-use lib.ListN.{length}
-use Rattle.text.specs.Text.{field, fields}
-use Rattle.text.proofs.Puts.{Putting, putting_start, putting_turn, putting_end}
+use Rattle.text.specs.Text.{fields}
+use Rattle.text.proofs.Puts.{putting_start, putting_turn, putting_end}
 use borrow.Author.Rules.{rules}
 use Rattle.text.proofs.lines.put_fields.Goals as goal
 

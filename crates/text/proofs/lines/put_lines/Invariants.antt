@@ -1,10 +1,8 @@
 -- The lines of a list, item by item.
-use mathlib.Core.Path.{refl}
 use Prim.Native.Nat.{◌-◌}
 use lib.ListN.{length}
-use Rattle.text.specs.Text.{line, lines}
-use Rattle.text.proofs.Puts.{Putting, putting_start, putting_turn, putting_end}
-use borrow.Author.Rules.{rules}
+use Rattle.text.specs.Text.{line}
+use Rattle.text.proofs.Puts.{Putting}
 use Rattle.text.proofs.lines.put_lines.Given as goal
 
 abbrev pub invariant-loop-i : goal.invariant-loop-i

@@ -1,10 +1,8 @@
 -- One line, with the refusal's number.
--- TODO 6 arguments, 5 goals, 1 invariants
 use mathlib.Core.Path.{sym, ap}
 use Rattle.records.specs.Marks.{ascii}
 use Rattle.drive_sets.specs.Filled.Laws.{filled_same}
 use Rattle.text.specs.Text.{refusal_line}
-use borrow.Author.Rules.{rules}
 use Rattle.text.proofs.lines.put_refused.Goals as goal
 
 pub returns : goal.returns

@@ -1,15 +1,15 @@
 -- No room, or a copy.
--- TODO 8 arguments, 9 goals, 0 invariants
--- TODO fewer arguments than goals
-use mathlib.Core.Path.{refl, sym, ◌∙◌}
-use Prim.Native.Nat.{◌+◌, ◌-◌, ◌≤◌}
-use native.Mathlib.Omega.{arith}
-use lib.ListN.{length}
-use borrow.Author.Tests.{leb-true, not-false}
+use Rattle.std.proofs.Common.{refl, sym, ◌∙◌, ap, not, leb-true}
 use Rattle.lent_bytes.proofs.Buffers.{written_none}
 use Rattle.text.proofs.Prints.{prints_all}
-use borrow.Author.Rules.{rules}
 use Rattle.text.proofs.printing.print.Goals as goal
 
-part-copy-start : tie.Need-slice-bounds-copy-start
-part-copy-start c = let a = c.before.before.before.before.args in let h = leb-true (a.start + length a.text.now) (length a.out.now) (sym c.before.fits2.ensures ∙ not-false _ c.if1.false) in omega (arith, h)
+pub returns-then-not-fits : goal.returns-then-not-fits
+returns-then-not-fits c =
+    let a = c.args in
+    written_none a.text.now a.start a.out.now _ refl _ c.fits.ensures (ap not c.if-not-fits.true)
+
+pub returns : goal.returns
+returns c =
+    let a = c.args in
+    prints_all a.text.now a.start a.out.now (leb-true _ _ (sym c.fits.ensures ∙ c.if-not-fits.false)) _ c.copy_from_slice.ensures.after

@@ -1,6 +1,5 @@
 -- The bytes that were written, or the line of the refusal.
 use mathlib.Core.Path.{refl}
-use borrow.Author.Rules.{rules}
 use Rattle.text.proofs.printing.put_written.Goals as goal
 
 pub returns-in-Wrote : goal.returns-in-Wrote

@@ -1,6 +1,5 @@
 -- A digit: 0 to 9, then a to f.
 use Rattle.text.proofs.Puts.{digit_low, digit_high}
-use borrow.Author.Rules.{rules}
 use Rattle.text.proofs.text.digit.Goals as goal
 
 pub returns-then-d-lt10 : goal.returns-then-d-lt10

@@ -1,7 +1,6 @@
 -- One byte: none is left, or stored.
 use native.Mathlib.Omega.{arith}
 use Rattle.drive_sets.specs.Filled.Laws.{filled_one, filled_over}
-use borrow.Author.Rules.{rules}
 use Rattle.text.proofs.text.put.Goals as goal
 
 pub returns-then-buf-at : goal.returns-then-buf-at

@@ -1,11 +1,8 @@
 -- A list of bytes, one after the other.
-use mathlib.Core.Path.{refl, sym}
 use mathlib.Core.List.{[], ◌∷◌}
 use Prim.Native.Nat.{◌-◌}
 use lib.ListN.{length}
-use Rattle.drive_sets.specs.Filled.Laws.{filled_same}
-use Rattle.text.proofs.Puts.{Putting, putting_start, putting_turn, putting_end, joined_bytes}
-use borrow.Author.Rules.{rules}
+use Rattle.text.proofs.Puts.{Putting}
 use Rattle.text.proofs.text.put_all.Given as goal
 
 abbrev pub invariant-loop-i : goal.invariant-loop-i

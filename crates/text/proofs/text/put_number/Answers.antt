@@ -3,7 +3,6 @@ use mathlib.Core.Path.{ap}
 use Rattle.drive_sets.specs.Filled.Laws.{filled_same}
 use Rattle.text.specs.declared.Base.{Base}
 use Rattle.text.specs.Text.{digits}
-use borrow.Author.Rules.{rules}
 use Rattle.text.proofs.text.put_number.Goals as goal
 
 pub returns-in-Decimal : goal.returns-in-Decimal

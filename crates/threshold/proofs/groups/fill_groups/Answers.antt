@@ -1,5 +1,4 @@
 -- All groups, from the first place on.
-use borrow.Author.Rules.{rules}
 use Rattle.threshold.proofs.Fills.{filled_groups}
 use Rattle.threshold.proofs.groups.fill_groups.Goals as goal
 

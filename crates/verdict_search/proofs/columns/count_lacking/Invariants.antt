@@ -1,6 +1,4 @@
 -- The columns of the drives from the lowest on.
-use borrow.Author.Rules.{rules}
-use Rattle.drive_sets.specs.Loops.Drives.{taken, taken_fewer}
 use Rattle.drive_sets.specs.Masks.{size}
 use Prim.Native.Nat.{◌^◌, ◌<◌}
 use Rattle.verdict_search.proofs.columns.count_lacking.Given as goal

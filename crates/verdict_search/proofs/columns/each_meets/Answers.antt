@@ -1,10 +1,9 @@
 -- A place that is missing from the words is missing from the column of a drive seen.
 use Rattle.drive_sets.specs.Bools.Laws.{clash}
 use mathlib.Core.Path.{refl}
-use borrow.Author.Rules.{rules}
-use Rattle.verdict_search.proofs.Asking.{index_has, Meeting, meeting_start, meeting_turn, meeting_end}
+use Rattle.verdict_search.proofs.Asking.{index_has, meeting_start, meeting_turn, meeting_end}
 use Rattle.drive_sets.specs.Loops.Drives.{taken, taken_has, taken_fewer}
-use Rattle.drive_sets.specs.Masks.{size, common}
+use Rattle.drive_sets.specs.Masks.{common}
 use Rattle.verdict_search.proofs.columns.each_meets.Goals as goal
 
 pub loop-rest-init : goal.loop-rest-init

@@ -1,10 +1,6 @@
 -- A place that is missing from the words is missing from the column of a drive seen.
-use Rattle.drive_sets.specs.Bools.Laws.{clash}
-use mathlib.Core.Path.{refl}
-use borrow.Author.Rules.{rules}
-use Rattle.verdict_search.proofs.Asking.{index_has, Meeting, meeting_start, meeting_turn, meeting_end}
-use Rattle.drive_sets.specs.Loops.Drives.{taken, taken_has, taken_fewer}
-use Rattle.drive_sets.specs.Masks.{size, common}
+use Rattle.verdict_search.proofs.Asking.{Meeting}
+use Rattle.drive_sets.specs.Masks.{size}
 use Rattle.verdict_search.proofs.columns.each_meets.Given as goal
 
 abbrev pub invariant-loop-rest : goal.invariant-loop-rest

@@ -1,7 +1,6 @@
 -- The bounds of the lowest drive.
 use Rattle.drive_sets.specs.Loops.Drives.{lowest_bounds}
 use native.Mathlib.Omega.{arith}
-use borrow.Author.Rules.{rules}
 use Rattle.verdict_search.proofs.columns.lowest_index.Goals as goal
 
 pub overflow_sub-result : goal.overflow_sub-result

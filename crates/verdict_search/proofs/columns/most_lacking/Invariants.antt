@@ -1,8 +1,5 @@
 -- The most of the sets seen.
-use mathlib.Core.Logic.{⊎_elim}
-use borrow.Author.Rules.{rules}
-use Rattle.verdict_search.proofs.Building.{Most, most_turn, most_end}
-use native.Mathlib.Omega.{arith}
+use Rattle.verdict_search.proofs.Building.{Most}
 use lib.ListN.{length}
 use Prim.Native.Nat.{◌-◌}
 use Rattle.verdict_search.proofs.columns.most_lacking.Given as goal

@@ -1,11 +1,7 @@
 -- The place of each set put in turn.
 use borrow.Author.Rules.{rules}
 use Rattle.verdict_search.proofs.Building.{lacking_turn}
-use Rattle.verdict_search.specs.Columns.{LackingTo}
 use native.Mathlib.Omega.{arith}
-use lib.ListN.{length}
-use mathlib.Core.Path.{◌≡◌}
-use Prim.Native.Nat.{◌-◌, ◌≤◌}
 use Rattle.verdict_search.proofs.columns.put_lacking.Goals as goal
 
 pub loop-place-init : goal.loop-place-init

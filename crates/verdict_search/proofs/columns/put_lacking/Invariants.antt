@@ -1,8 +1,5 @@
 -- The place of each set put in turn.
-use borrow.Author.Rules.{rules}
-use Rattle.verdict_search.proofs.Building.{lacking_turn}
 use Rattle.verdict_search.specs.Columns.{LackingTo}
-use native.Mathlib.Omega.{arith}
 use lib.ListN.{length}
 use mathlib.Core.Path.{◌≡◌}
 use Prim.Native.Nat.{◌-◌, ◌≤◌}

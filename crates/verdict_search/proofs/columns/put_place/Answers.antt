@@ -1,8 +1,7 @@
 -- The columns of the drives from the lowest on.
-use borrow.Author.Rules.{rules}
-use Rattle.verdict_search.proofs.Building.{Putting, putting_start, putting_turn, putting_end}
+use Rattle.verdict_search.proofs.Building.{putting_start, putting_turn, putting_end}
 use Rattle.drive_sets.specs.Loops.Drives.{taken, taken_fewer}
-use Rattle.drive_sets.specs.Masks.{size, union}
+use Rattle.drive_sets.specs.Masks.{union}
 use Rattle.verdict_search.proofs.columns.put_place.Goals as goal
 
 pub loop-rest-init : goal.loop-rest-init

@@ -1,8 +1,6 @@
 -- The columns of the drives from the lowest on.
-use borrow.Author.Rules.{rules}
-use Rattle.verdict_search.proofs.Building.{Putting, putting_start, putting_turn, putting_end}
-use Rattle.drive_sets.specs.Loops.Drives.{taken, taken_fewer}
-use Rattle.drive_sets.specs.Masks.{size, union}
+use Rattle.verdict_search.proofs.Building.{Putting}
+use Rattle.drive_sets.specs.Masks.{size}
 use Rattle.verdict_search.proofs.columns.put_place.Given as goal
 
 abbrev pub invariant-loop-rest : goal.invariant-loop-rest

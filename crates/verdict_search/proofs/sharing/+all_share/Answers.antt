@@ -1,15 +1,12 @@
 -- Few enough drives are lacked, or each set has a drive; else for each set that lacks the chosen drive, one set fewer.
-use borrow.Author.Rules.{rules}
 use native.Mathlib.Omega.{arith}
 use mathlib.Core.Path.{refl, subst, sym, ◌∙◌}
-use mathlib.Core.Logic.{⊎_elim}
-use lib.ListN.{length}
-use borrow.Author.Tests.{not-false}
 use Rattle.drive_sets.specs.Bools.Laws.{clash}
 use Rattle.drive_sets.specs.Masks.{common}
-use Rattle.verdict_search.proofs.Branches.{product_fits, columns_part, few_share, each_share, Branching, branching_start, branching_turn, branching_end}
-use Prim.Native.Nat.{ℕ, ◌-◌, ◌*◌, ◌<◌}
+use Rattle.verdict_search.proofs.Branches.{product_fits, columns_part, few_share, each_share, branching_start, branching_turn, branching_end}
+use Prim.Native.Nat.{ℕ, ◌*◌, ◌<◌}
 use Rattle.verdict_search.proofs.sharing.+all_share.Goals as goal
+use Rattle.verdict_search.proofs.sharing.+all_share.Goals.{then-not-has+else-not-all_share, else-not-has}
 
 pub overflow_mul-k : goal.overflow_mul-k
 unfolding common
@@ -17,15 +14,15 @@ overflow_mul-k t c = record { fits = product_fits _ _ c.ranges.k.fits c.ranges.m
 
 pub returns-then-k-most : goal.returns-then-k-most
 unfolding common
-returns-then-k-most t c = λ e. few_share c.args.table.now c.ranges.shared.fits c.requires.1.2 (subst (λ (n : ℕ). c.args.k * c.args.most < n) c.size.ensures c.if-k-most.true)
+returns-then-k-most t c = λ e. few_share c.args.table.now c.ranges.shared.fits c.requires.2 (subst (λ (n : ℕ). c.args.k * c.args.most < n) c.size.ensures c.if-k-most.true)
 
 pub each_meets-requires : goal.each_meets-requires
 unfolding common
-each_meets-requires t c = c.requires.1.2.room
+each_meets-requires t c = c.requires.2.room
 
 pub returns-then-k-eq1 : goal.returns-then-k-eq1
 unfolding common
-returns-then-k-eq1 t c = λ e. each_share c.args.table.now c.requires.1.1 c.requires.1.2 c.if-k-eq1.true (c.each_meets.ensures e)
+returns-then-k-eq1 t c = λ e. each_share c.args.table.now c.requires.1 c.requires.2 c.if-k-eq1.true (c.each_meets.ensures e)
 
 pub returns-then-shared-eq0 : goal.returns-then-shared-eq0
 unfolding common
@@ -37,7 +34,7 @@ loop-place-init t c = branching_start _ _ _ _
 
 pub all_share-requires : goal.all_share-requires
 unfolding common
-all_share-requires t c = (omega arith, (omega arith, c.requires.1.1, columns_part _ c.ranges.shared.fits c.requires.1.2))
+all_share-requires t c = (omega arith, (omega arith, c.requires.1, columns_part _ c.ranges.shared.fits c.requires.2))
 
 pub returns-then-not-all_share : goal.returns-then-not-all_share
 unfolding common
@@ -45,7 +42,7 @@ returns-then-not-all_share t c = λ e. absurd (clash e refl)
 
 pub loop-place-preserved : goal.loop-place-preserved
 unfolding common
-loop-place-preserved t c = branching_turn _ _ _ _ c.loop-place.invariant (λ lacks. ⊎_elim (λ w. w.2.ensures (not-false _ w.3.left)) (λ w. absurd (clash (sym c.has.ensures ∙ not-false _ w.left) lacks)) c.if-not-has.branch)
+loop-place-preserved t c = branching_turn _ _ _ _ c.loop-place.invariant (λ lacks. elim c.if-not-has.branch [ then-not-has+else-not-all_share w ↦ w.all_share.ensures w.if-not-all_share.false | else-not-has w ↦ absurd (clash (sym c.has.ensures ∙ w.if-not-has.false) lacks) ])
 
 pub returns : goal.returns
 unfolding common

@@ -2,7 +2,6 @@
 use borrow.Author.Tests.{le-leb, lt-leb}
 use Rattle.verdicts.specs.Held.{judgement_of, held_in}
 use Rattle.verdicts.specs.Calls.{judged}
-use borrow.Author.Rules.{rules}
 use Rattle.verdicts.proofs.calls.on_normal.Goals as goal
 
 pub returns-then-n-k : goal.returns-then-n-k

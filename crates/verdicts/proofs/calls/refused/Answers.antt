@@ -1,7 +1,6 @@
 -- A refusal, on every k.
 use mathlib.Core.Path.{refl}
 use Rattle.verdicts.specs.Held.{judgement_of, held_in}
-use borrow.Author.Rules.{rules}
 use Rattle.verdicts.proofs.calls.refused.Goals as goal
 
 pub returns : goal.returns

@@ -2,8 +2,8 @@
 use Rattle.verdicts.specs.Calls.{verdict_given}
 use Rattle.survivor_tables.specs.declared.frames.MaskKind.TheVariants.{SurvivorSet}
 use Rattle.complete_tables.proofs.Completes.{check_said, said_most}
+use Rattle.std.proofs.Common.{ap, not}
 use Rattle.verdict_search.proofs.Answers.{count_bounds}
-use borrow.Author.Rules.{rules}
 use Rattle.verdicts.proofs.calls.verdict_on.Goals as goal
 
 pub returns-then-not-is_block_count : goal.returns-then-not-is_block_count
@@ -12,7 +12,7 @@ returns-then-not-is_block_count c = record { says = rw (c.refused.ensures.says _
 
 pub on_normal-requires : goal.on_normal-requires
 unfolding verdict_given
-on_normal-requires c = let b = count_bounds _ c.is_block_count.ensures c.if-not-is_block_count.false in let a = c.args in (b.0, b.1, said_most SurvivorSet a.n a.table.now _ c.check_masks-checked.ensures c.in-Accepted.is)
+on_normal-requires c = let b = count_bounds _ c.is_block_count.ensures (ap not c.if-not-is_block_count.false) in let a = c.args in (b.0, b.1, said_most SurvivorSet a.n a.table.now _ c.check_masks-checked.ensures c.in-Accepted.is)
 
 pub returns-in-Refused : goal.returns-in-Refused
 unfolding verdict_given
