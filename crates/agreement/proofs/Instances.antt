@@ -17,7 +17,7 @@ use Rattle.drive_sets.specs.Masks.Laws.{meets_has}
 use Rattle.drive_sets.specs.Masks.Frames.{has_range, drives_frame, size_frame}
 use Rattle.drive_sets.specs.Masks.Tests.{set_of, set_of_drives}
 use Rattle.survivor_tables.specs.Tables.{chosen, Accepted}
-use Rattle.survivor_tables.specs.Tables.Laws.{ChosenCore, table_accepted, chosen_core_law, sets_below}
+use Rattle.survivor_tables.proofs.Tables.Laws.{ChosenCore, table_accepted, chosen_core_law, sets_below}
 use Rattle.drive_sets.specs.Counts.Laws.{is_drive_range}
 use Rattle.survivor_tables.specs.Order.{normal}
 use Rattle.sync_crash.specs.Rounds.{InFrame, Lawful, StaysUp, failures}

@@ -6,7 +6,7 @@ use Rattle.drive_sets.specs.Lists.Places.{map_same}
 use Rattle.drive_sets.specs.Masks.{has, size}
 use Rattle.survivor_tables.specs.Tables.{Accepted}
 use Rattle.sync_crash.specs.Rounds.{View}
-use Rattle.sync_crash.specs.Rounds.Proposals.{rounds_same}
+use Rattle.sync_crash.proofs.Rounds.Proposals.{rounds_same}
 use Rattle.runs.specs.Scenario.{Crash, stays, crashes, Scenario, frame, core_of}
 use Rattle.agreement.specs.Sends.{list_of, reach}
 use Rattle.agreement.specs.Instance.{instance_of}

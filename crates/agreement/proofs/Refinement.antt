@@ -8,7 +8,7 @@ use Prim.Native.Nat.{ℕ, suc, ◌<◌}
 use Rattle.drive_sets.specs.Masks.{has, size}
 use Rattle.agreement.specs.Calls.{decision_on, next}
 use Rattle.sync_crash.specs.Rounds.{InFrame, reaches, after, decision, halted}
-use Rattle.sync_crash.specs.Rounds.Steps.{Active, Sender}
+use Rattle.sync_crash.proofs.Rounds.Steps.{Active, Sender}
 use Rattle.runs.specs.World.{Call, opened, World, active, decision_of}
 use Rattle.agreement.specs.Document01.{refused_in, due, noted}
 use Rattle.runs.specs.Scenario.{Scenario, core_of}

@@ -8,8 +8,8 @@ use Prim.Native.Nat.{ℕ, zero, suc, ◌<◌}
 use native.Mathlib.Omega.{arith}
 use Rattle.drive_sets.specs.Masks.{has, size}
 use Rattle.agreement.specs.Calls.{decision_on}
-use Rattle.sync_crash.specs.Rounds.Agreement as rounds
-use Rattle.sync_crash.specs.Rounds.Agreement.{failures_below_core}
+use Rattle.sync_crash.proofs.Rounds.Agreement as rounds
+use Rattle.sync_crash.proofs.Rounds.Agreement.{failures_below_core}
 use Rattle.runs.specs.World.{Call}
 use Rattle.runs.specs.Scenario.{stays, Scenario, core_of}
 use Rattle.agreement.specs.Document01.{document01, Run, ByRules}

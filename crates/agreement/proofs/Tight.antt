@@ -27,12 +27,12 @@ use Rattle.drive_sets.specs.Masks.Sizes.{size_remove, elem_drives, drives_rising
 use Rattle.drive_sets.specs.Refusals.{yields}
 use Rattle.survivor_tables.specs.Order.{normal}
 use Rattle.survivor_tables.specs.Tables.{chosen, normal_table, Accepted}
-use Rattle.survivor_tables.specs.Tables.Laws.{ChosenCore, table_accepted, chosen_core_law}
+use Rattle.survivor_tables.proofs.Tables.Laws.{ChosenCore, table_accepted, chosen_core_law}
 use Rattle.drive_sets.specs.Counts.{is_drive}
 use Rattle.drive_sets.specs.Limits.{pattern_limit}
 use Rattle.drive_sets.specs.Counts.Laws.{is_drive_law}
 use Rattle.sync_crash.specs.Rounds.{StaysUp, decision, DecidesIn}
-use Rattle.sync_crash.specs.Rounds.Bound.{undecided_failures, LostUnheard, undecided_while_losing}
+use Rattle.sync_crash.proofs.Rounds.Bound.{undecided_failures, LostUnheard, undecided_while_losing}
 use Rattle.runs.specs.Scenario.{Crash, crashes, Scenario, core_of, gone_by}
 use Rattle.runs.specs.Scenario.Laws.{crashes_crash}
 use Rattle.runs.specs.Statement.{Valid, Untouched, Up, core_crashes, TightAt}

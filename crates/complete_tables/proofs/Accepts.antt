@@ -10,7 +10,7 @@ use Rattle.drive_sets.specs.Refusals.Laws.{first_result, same_result}
 use Rattle.drive_sets.specs.declared.Answer.{Answer}
 use Rattle.drive_sets.specs.declared.Answer.TheVariants as answers
 use Rattle.survivor_tables.specs.Tables.{cores, normal_table, Accepted}
-use Rattle.survivor_tables.specs.Tables.Laws.{table_accepted, accepted_normal}
+use Rattle.survivor_tables.proofs.Tables.Laws.{table_accepted, accepted_normal}
 use Rattle.complete_tables.specs.declared.TableWithCores.{TableWithCores}
 use Rattle.complete_tables.specs.Complete.{sets_of, Complete, with_cores, complete_table, complete_outcome}
 

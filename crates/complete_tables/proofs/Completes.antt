@@ -33,7 +33,7 @@ use Rattle.survivor_tables.specs.declared.frames.MaskKind.TheVariants.{SurvivorS
 use Rattle.survivor_tables.specs.declared.frames.Table.{Table}
 use Rattle.drive_sets.specs.Limits.{max_sets, max_cores}
 use Rattle.survivor_tables.specs.Tables.{is_empty, cores, within_core_limit, checked_masks, checked_sets, normal_table}
-use Rattle.survivor_tables.specs.Tables.Laws.{masks_checked}
+use Rattle.survivor_tables.proofs.Tables.Laws.{masks_checked}
 use Rattle.complete_tables.specs.Complete.{sets_of, with_cores, complete_normal, complete_sets, complete_table}
 
 -- ---- the normal table

@@ -22,7 +22,7 @@ use Rattle.drive_sets.specs.Masks.Sizes.{length_drives, drives_none, lowest_remo
 use Rattle.drive_sets.specs.Refusals.{Outcome, refused, number}
 use Rattle.lent_bytes.proofs.Parts.{part_then}
 use Rattle.survivor_tables.specs.Tables.{is_frame, is_set}
-use Rattle.survivor_tables.specs.Tables.Laws.{set_lt}
+use Rattle.survivor_tables.proofs.Tables.Laws.{set_lt}
 use Rattle.drive_states.specs.declared.Exchange.{Exchange}
 use Rattle.drive_states.specs.State.{in_core, broken}
 use Rattle.agreement.specs.Sends.{receivers}

@@ -10,11 +10,11 @@ use Rattle.drive_sets.specs.Refusals.{Outcome, refused, yields}
 use Rattle.drive_sets.specs.Refusals.Laws.{same_result, first_result}
 use Rattle.survivor_tables.specs.declared.frames.MaskKind.{MaskKind}
 use Rattle.survivor_tables.specs.declared.frames.MaskKind.TheVariants.{SurvivorSet, FaultGroup}
-use Rattle.survivor_tables.specs.Tables.Laws.{accepted_normal}
+use Rattle.survivor_tables.proofs.Tables.Laws.{accepted_normal}
 use Rattle.table_files.specs.Files.{read_whole, file_bytes, table_bytes}
 use Rattle.table_writing.proofs.Writes.{length_file}
 use Rattle.fault_lists.specs.FaultLists.{rests, table_from_faults, faults_from_table}
-use Rattle.fault_lists.specs.FaultLists.Laws.{from_faults, table_list, list_again}
+use Rattle.fault_lists.proofs.FaultLists.Laws.{from_faults, table_list, list_again}
 use Rattle.fault_files.specs.FaultFiles.{read_faults, fault_bytes, write_faults_from}
 use Rattle.text.specs.Printing.{printed}
 use Rattle.text.proofs.Lengths.{refusal_length}

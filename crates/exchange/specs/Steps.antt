@@ -11,8 +11,6 @@ use Rattle.agreement.specs.Calls.{opening, receiving, closing}
 use Rattle.agreement.specs.Document01.{apply, refused_in, sending_of}
 use Rattle.exchange.specs.declared.Reply.{Reply}
 use Rattle.exchange.specs.Replies.{reply_of, state_after, not_opened}
-pub mod Laws
-pub mod Kept
 
 -- ---- one call
 

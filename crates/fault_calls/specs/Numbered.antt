@@ -11,7 +11,7 @@ use Rattle.table_files.specs.Files.{ReadTable}
 use Rattle.table_replies.specs.Replies.{fitting_table}
 use Rattle.table_replies.specs.Replies.Laws.{all_numbered, table_numbered}
 use Rattle.fault_lists.specs.FaultLists.{rests, table_from_faults, fault_list, faults_from_table}
-use Rattle.fault_lists.specs.FaultLists.Laws as lists
+use Rattle.fault_lists.proofs.FaultLists.Laws as lists
 use Rattle.fault_files.specs.FaultFiles.{accepted_faults, read_faults, write_faults}
 
 accepted_numbered : (t : ReadTable) → Numbered (accepted_faults t)

@@ -9,7 +9,7 @@ use Rattle.survivor_tables.specs.Tables.{checked_masks}
 use Rattle.complete_tables.specs.Complete.{complete_table}
 use Rattle.complete_tables.proofs.Completes.{check_said}
 use Rattle.fault_lists.specs.FaultLists.{rests, complete_from_faults}
-use Rattle.fault_lists.specs.FaultLists.Laws.{complete_rests}
+use Rattle.fault_lists.proofs.FaultLists.Laws.{complete_rests}
 
 pub table_said : (n : ℕ) (groups : List ℕ) (answer : Answer) → outcome_of answer groups ≡ checked_masks FaultGroup n groups → (a : Answer) → answer ≡ a
     → and_then (outcome_of a groups) (λ faults. complete_table n (rests n faults)) ≡ complete_from_faults n groups

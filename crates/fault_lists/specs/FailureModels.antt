@@ -12,7 +12,6 @@
 use Rattle.std.specs.Prelude.{◌≡◌, true, false, List, ◌↔◌, ℕ, ◌^◌, ◌<◌}
 use Rattle.drive_sets.specs.Lists.{any, elem}
 use Rattle.drive_sets.specs.Masks.{has, single, common, minus, outside, meets, subset}
-pub mod Laws
 
 -- a model, as the sets that can fail
 abbrev pub Model : Type 1

@@ -9,8 +9,6 @@ use Rattle.survivor_tables.specs.Order.{sorted_unless}
 use Rattle.survivor_tables.specs.Tables.{within_core_limit, checked_masks, normal_table}
 use Rattle.complete_tables.specs.Complete.{Complete, with_cores}
 pub mod Rests
-pub mod Largest
-pub mod Laws
 
 -- the rest of the frame for each of the masks, the last first: so the rests of masks that rise, rise (`rests_rising`)
 unfoldable pub rests : ℕ → List ℕ → List ℕ
@@ -35,6 +33,10 @@ table_from_faults n groups = and_then (checked_masks FaultGroup n groups) (λ fa
 -- the same with its cores
 unfoldable pub complete_from_faults : ℕ → List ℕ → Outcome Complete
 complete_from_faults n groups = and_then (table_from_faults n groups) (λ table. yields (with_cores n table))
+
+-- what is given, by the table with its cores
+abbrev pub rests_of : Complete → Outcome (List ℕ)
+rests_of t = yields (rests t.n t.sets)
 
 -- the fault list itself in normal form
 unfoldable pub fault_list : ℕ → List ℕ → Outcome (List ℕ)

@@ -6,8 +6,7 @@ ghost use Rattle.std.specs.Prelude.{◌≡◌, ◌≤◌, length, take};
 ghost use Rattle.drive_sets.specs.Refusals.{and_then};
 ghost use Rattle.complete_tables.specs.Complete.{complete_outcome, CompleteWithin};
 ghost use Rattle.tables.specs.Answers.{list_outcome, ListWithin};
-ghost use Rattle.fault_lists.specs.FaultLists.{rests, complete_from_faults, fault_list, faults_from_table};
-ghost use Rattle.fault_lists.specs.FaultLists.Laws.{rests_of};
+ghost use Rattle.fault_lists.specs.FaultLists.{rests, complete_from_faults, fault_list, faults_from_table, rests_of};
 
 use complete_tables::{TableWithCores, accept, check_masks};
 use drive_sets::Answer;

@@ -14,7 +14,7 @@ use Rattle.drive_sets.specs.Masks.Laws.{has_none, has_minus, meets_not}
 use Rattle.drive_sets.specs.Masks.Sizes.{drives_none}
 use Rattle.survivor_tables.specs.Hitting.{Minimal, for_each, search}
 use Rattle.drive_sets.specs.Masks.Frames.{below_places}
-use Rattle.survivor_tables.specs.Hitting.SearchLaws.{below_now}
+use Rattle.survivor_tables.proofs.Hitting.SearchLaws.{below_now}
 use Rattle.hitting_sets.specs.LookAhead.Forbidden.{free_minimal, search_free}
 use Rattle.hitting_sets.specs.LookAhead.CannotExtend.{cannot_extend_search}
 use Rattle.hitting_sets.specs.LookAhead.{forbidden, cannot_extend}

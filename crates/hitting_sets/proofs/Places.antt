@@ -17,7 +17,7 @@ use Rattle.drive_sets.specs.Lists.Places.{get_or_elem}
 use Rattle.drive_sets.specs.Masks.{meets}
 use Rattle.survivor_tables.specs.Hitting.{missed_from, Minimal, for_each, search}
 use Rattle.survivor_tables.specs.Hitting.Laws.{hits_one, minimal_more}
-use Rattle.survivor_tables.specs.Hitting.SearchLaws.{search_met}
+use Rattle.survivor_tables.proofs.Hitting.SearchLaws.{search_met}
 
 -- what is listed from m, behind the set at position p, with each of the drives ds
 abbrev pub Each : List ℕ → ℕ → ℕ → List ℕ → List ℕ

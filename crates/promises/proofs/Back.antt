@@ -15,7 +15,7 @@ use Rattle.drive_sets.specs.Limits.{max_sets, max_cores}
 use Rattle.survivor_tables.specs.Hitting.Laws.{hits_meets, minimal_lt}
 use Rattle.survivor_tables.specs.Order.{normal}
 use Rattle.survivor_tables.specs.Tables.{is_set, cores, survivor_sets, Accepted}
-use Rattle.survivor_tables.specs.Tables.Laws.{accepted_frame, sets_below, sets_word, accepted_normal, core_minimal, dual_cores, some_core}
+use Rattle.survivor_tables.proofs.Tables.Laws.{accepted_frame, sets_below, sets_word, accepted_normal, core_minimal, dual_cores, some_core}
 use Rattle.complete_tables.specs.Complete.{Complete, with_cores}
 use Rattle.complete_tables.proofs.Completes.{some_elements}
 use Rattle.promises.specs.Back.{BackFromCores, BackOf, BackFromCall, BackFromRead, BackFromWhole}

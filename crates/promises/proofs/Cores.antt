@@ -21,7 +21,7 @@ use Rattle.survivor_tables.specs.Order.Lowest.{lowest_first, first_lowest}
 use Rattle.survivor_tables.specs.Order.Strict.{by_size_strict, by_size_cases, strict_irr}
 use Rattle.survivor_tables.specs.Order.Normal.{normal_elem, antichain_normal, holds_normal}
 use Rattle.survivor_tables.specs.Tables.{core_order, cores, chosen, Accepted}
-use Rattle.survivor_tables.specs.Tables.Laws.{core_given, sets_below, sets_word, accepted_normal, core_minimal, minimal_core, cores_ordered, chosen_first, some_core}
+use Rattle.survivor_tables.proofs.Tables.Laws.{core_given, sets_below, sets_word, accepted_normal, core_minimal, minimal_core, cores_ordered, chosen_first, some_core}
 use Rattle.complete_tables.specs.Complete.{Complete, with_cores}
 use Rattle.promises.specs.Cores.{OrderOfCores, StrictOrder, TableSays, FirstCore, ListingDescribes, CoresOfCall, ChosenOfCall, CoresOfRead, CoresOfWhole, CoresOfSurvivors}
 use Rattle.promises.proofs.Tables.{call_table, read_table_law, whole_read}

@@ -21,15 +21,15 @@ use Rattle.survivor_tables.specs.Hitting.Laws.{hits_meets, meets_hits}
 use Rattle.survivor_tables.specs.Hitting.Minimality.{minimal_critical, critical_minimal}
 use Rattle.survivor_tables.specs.Order.{normal}
 use Rattle.survivor_tables.specs.Tables.{cores, normal_table, Accepted}
-use Rattle.survivor_tables.specs.Tables.Laws.{table_accepted, accepted_table, accepted_normal, sets_below, dual_minimal, minimal_dual, survivor_sets_dual}
+use Rattle.survivor_tables.proofs.Tables.Laws.{table_accepted, accepted_table, accepted_normal, sets_below, dual_minimal, minimal_dual, survivor_sets_dual}
 use Rattle.complete_tables.specs.Complete.{Complete, with_cores, complete_table}
 use Rattle.table_files.specs.Files.{ReadTable, table_bytes}
 use Rattle.fault_lists.specs.FaultLists.{rests, largest, table_from_faults, complete_from_faults, fault_list, faults_from_table}
 use Rattle.fault_lists.specs.FaultLists.Rests.{rests_below, rests_rests}
-use Rattle.fault_lists.specs.FaultLists.Largest.{largest_elem, largest_alone, alone_largest, largest_rising, largest_rests, rests_largest}
-use Rattle.fault_lists.specs.FaultLists.Laws.{groups_below, from_faults, faults_back, table_back, normal_largest}
+use Rattle.fault_lists.proofs.FaultLists.Largest.{largest_elem, largest_alone, alone_largest, largest_rising, largest_rests, rests_largest}
+use Rattle.fault_lists.proofs.FaultLists.Laws.{groups_below, from_faults, faults_back, table_back, normal_largest}
 use Rattle.fault_lists.specs.FailureModels.{CanFail, RestHolds}
-use Rattle.fault_lists.specs.FailureModels.Laws.{fail_prone, model_told, one_model, same_model, core_for, for_core, held_normal, fails_described}
+use Rattle.fault_lists.proofs.FailureModels.Laws.{fail_prone, model_told, one_model, same_model, core_for, for_core, held_normal, fails_described}
 use Rattle.fault_files.specs.FaultFiles.{read_faults, write_faults, write_faults_from, fault_bytes}
 use Rattle.fault_files.specs.FaultFiles.Laws.{faults_written, faults_read}
 use Rattle.convert_files.specs.ConvertFiles.{write_table_from, table_file, fault_file, convert_file}

@@ -15,7 +15,7 @@ use Rattle.drive_sets.specs.Refusals.Laws.{same_result, passed, first_result, th
 use Rattle.survivor_tables.specs.Order.{normal}
 use Rattle.survivor_tables.specs.Tables.{is_empty, chosen, normal_table, chosen_core}
 use Rattle.table_files.specs.Files.{ReadTable}
-use Rattle.survivor_tables.specs.Tables.Laws.{table_accepted, core_given, chosen_core_law}
+use Rattle.survivor_tables.proofs.Tables.Laws.{table_accepted, core_given, chosen_core_law}
 use Rattle.records.specs.RecordLists.{ReadList, read_list}
 use Rattle.runs.specs.Scenario.{core_of}
 use Rattle.runs.specs.CrashRecords.{crashed, scenario}

@@ -20,10 +20,10 @@ use Rattle.drive_sets.specs.declared.Refusal.TheVariants.{BadSet}
 use Rattle.survivor_tables.specs.Hitting.{first_missed, hits}
 use Rattle.survivor_tables.specs.Hitting.Laws.{none_missed, missed_at, hits_meets, meets_hits}
 use Rattle.survivor_tables.specs.Hitting.Normal.{hits_normal}
-use Rattle.survivor_tables.specs.Hitting.Duality.{holds_core_law, cores_minimals}
+use Rattle.survivor_tables.proofs.Hitting.Duality.{holds_core_law, cores_minimals}
 use Rattle.survivor_tables.specs.Order.{normal}
 use Rattle.survivor_tables.specs.Tables.{is_set, cores, normal_table, missed_set, Accepted}
-use Rattle.survivor_tables.specs.Tables.Laws.{table_accepted, accepted_table, accepted_normal, sets_below, sets_word, set_lt}
+use Rattle.survivor_tables.proofs.Tables.Laws.{table_accepted, accepted_table, accepted_normal, sets_below, sets_word, set_lt}
 use Rattle.promises.specs.Missed.{Meet, MissedOfCall, NoneOfCall, NoneOfListed, NoneHoldsCore, MissedGiven}
 
 -- ---- what the call gives

@@ -21,7 +21,7 @@ use Rattle.drive_sets.specs.declared.Refusal.TheVariants.{DriveNumber}
 use Rattle.drive_sets.specs.Refusals.{Outcome, refused, yields, and_then, number}
 use Rattle.survivor_tables.specs.Order.{normal}
 use Rattle.survivor_tables.specs.Tables.{chosen, chosen_core, Accepted}
-use Rattle.survivor_tables.specs.Tables.Laws.{accepted_table, chosen_core_law}
+use Rattle.survivor_tables.proofs.Tables.Laws.{accepted_table, chosen_core_law}
 use Rattle.records.specs.RecordLists.{ReadList, read_list}
 use Rattle.records.specs.RecordLists.Laws.{read_complete_law, read_wrong}
 use Rattle.runs.specs.CrashRecords.{is_next}

@@ -19,7 +19,7 @@ use Rattle.lent_bytes.specs.LentBuffers.{writing_outcome, WrittenIfRoom}
 use Rattle.survivor_tables.specs.Order.{normal}
 use Rattle.survivor_tables.specs.Order.Normal.{normal_idempotent}
 use Rattle.survivor_tables.specs.Tables.{normal_table, Accepted}
-use Rattle.survivor_tables.specs.Tables.Laws.{table_accepted, accepted_table, accepted_normal}
+use Rattle.survivor_tables.proofs.Tables.Laws.{table_accepted, accepted_table, accepted_normal}
 use Rattle.table_files.specs.Files.{ReadTable, table_bytes}
 use Rattle.table_writing.specs.Writing.{write_table}
 use Rattle.table_files.specs.Files.Laws.{read_written, whole_written}

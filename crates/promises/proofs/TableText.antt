@@ -8,7 +8,7 @@ use borrow.Author.Tests.{leb-true, leb-false}
 use Rattle.drive_sets.specs.Bools.Laws.{by_test, cond_true, cond_false}
 use Rattle.records.specs.Marks.{ascii}
 use Rattle.survivor_tables.specs.Tables.{Accepted}
-use Rattle.survivor_tables.specs.Tables.Laws.{accepted_normal}
+use Rattle.survivor_tables.proofs.Tables.Laws.{accepted_normal}
 use Rattle.text.specs.declared.Base.TheVariants.{Decimal}
 use Rattle.text.specs.Text.{named}
 use Rattle.table_files.specs.Files.Laws.{table_read_law, whole_table}

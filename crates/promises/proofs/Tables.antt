@@ -6,7 +6,7 @@ use Rattle.drive_sets.specs.Refusals.{Outcome, yields, and_then}
 use Rattle.drive_sets.specs.Refusals.Laws.{first_result, same_result}
 use Rattle.survivor_tables.specs.Order.{normal}
 use Rattle.survivor_tables.specs.Tables.{normal_table, Accepted}
-use Rattle.survivor_tables.specs.Tables.Laws.{table_accepted}
+use Rattle.survivor_tables.proofs.Tables.Laws.{table_accepted}
 use Rattle.table_files.specs.Files.{ReadTable, read_table, read_whole}
 use Rattle.table_files.specs.Files.Laws.{table_read_law, whole_table}
 use Rattle.complete_tables.specs.Complete.{Complete, with_cores, complete_table}

@@ -13,12 +13,12 @@ use Rattle.drive_sets.specs.Refusals.{refused}
 use Rattle.drive_sets.specs.Refusals.Laws.{refused_no_result, refused_by_law, first_refused}
 use Rattle.survivor_tables.specs.Order.{normal}
 use Rattle.survivor_tables.specs.Tables.{normal_table, Accepted}
-use Rattle.survivor_tables.specs.Tables.Laws.{accepted_normal, table_accepted, table_refused}
+use Rattle.survivor_tables.proofs.Tables.Laws.{accepted_normal, table_accepted, table_refused}
 use Rattle.verdict_search.specs.Verdicts.{verdict_on}
 use Rattle.verdicts.specs.Calls.{judged, verdict}
 use Rattle.verdict_search.specs.Verdicts.BlockCounts.{block_count_within}
 use Rattle.verdicts.specs.Calls.Laws.{verdict_answered, given_normal, given_few, given_more}
-use Rattle.verdict_search.specs.Verdicts.Intersection.{yes_intersection}
+use Rattle.verdict_search.proofs.Verdicts.Intersection.{yes_intersection}
 use Rattle.verdicts.specs.Partitions.Laws.{yes_partition}
 use Rattle.verdicts.specs.Partitions.Witness.{no_witness}
 use Rattle.promises.specs.Verdict.{VerdictSays, VerdictOfCall, VerdictGiven, FewRefused}

@@ -21,7 +21,7 @@ use Rattle.drive_sets.specs.Refusals.Laws.{first_result}
 use Rattle.agreement.specs.RoundEndings.{Ending}
 use Rattle.runs.specs.CrashRecords.{CrashRecord}
 use Rattle.survivor_tables.specs.Tables.{chosen, normal_table}
-use Rattle.survivor_tables.specs.Tables.Laws.{table_accepted}
+use Rattle.survivor_tables.proofs.Tables.Laws.{table_accepted}
 use Rattle.run_files.specs.RunFiles.{RunFile, read_run_file}
 use Rattle.run_files.specs.Reading.{run_file_outcome}
 use Rattle.drive_states.specs.State.{values}

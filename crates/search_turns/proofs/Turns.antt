@@ -15,7 +15,7 @@ use Rattle.search_attempts.specs.Attempts.{Attempted}
 use Rattle.search_orders.specs.Rearranged.{Permuted}
 use Rattle.survivor_tables.specs.Order.{sort}
 use Rattle.survivor_tables.specs.Order.Strict.{Strict}
-use Rattle.survivor_tables.specs.Hitting.Listed.{listed_same}
+use Rattle.survivor_tables.proofs.Hitting.Listed.{listed_same}
 use Rattle.survivor_tables.specs.Order.Sort.{length_sort}
 
 -- the same sets in another order

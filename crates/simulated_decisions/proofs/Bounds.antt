@@ -5,7 +5,7 @@ use Prim.Native.Nat.{ℕ, ◌^◌, ◌≤◌, ◌<◌}
 use Rattle.drive_sets.specs.declared.Pattern.{Pattern}
 use Rattle.survivor_tables.specs.Order.{normal}
 use Rattle.survivor_tables.specs.Tables.{Accepted}
-use Rattle.survivor_tables.specs.Tables.Laws.{table_accepted, chosen_core_law}
+use Rattle.survivor_tables.proofs.Tables.Laws.{table_accepted, chosen_core_law}
 use Rattle.runs.specs.Scenario.{Scenario, core_of}
 use Rattle.drive_crashes.specs.declared.Crashes.{Crashes}
 use Rattle.simulated_decisions.specs.Arguments.{Told}

@@ -22,7 +22,7 @@ use Rattle.drive_sets.specs.Refusals.{Outcome, refused, yields, and_then}
 use Rattle.drive_sets.specs.Refusals.Laws.{refused_no_result}
 use Rattle.survivor_tables.specs.Order.{normal}
 use Rattle.survivor_tables.specs.Tables.{chosen, normal_table, chosen_core, Accepted}
-use Rattle.survivor_tables.specs.Tables.Laws.{accepted_table, core_given}
+use Rattle.survivor_tables.proofs.Tables.Laws.{accepted_table, core_given}
 use Rattle.drive_sets.specs.Counts.{is_drive}
 use Rattle.drive_sets.specs.Limits.{pattern_limit}
 use Rattle.drive_sets.specs.Counts.Laws.{drive_bounds, is_drive_range}

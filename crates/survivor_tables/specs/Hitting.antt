@@ -10,10 +10,6 @@ pub mod Normal
 pub mod Critical
 pub mod Minimality
 pub mod Growth
-pub mod SearchLaws
-pub mod Distinct
-pub mod Listed
-pub mod Duality
 
 -- m meets every one of the sets
 unfoldable pub hits : List ℕ → ℕ → Bool

@@ -12,7 +12,6 @@ use Rattle.survivor_tables.specs.declared.frames.MaskKind.TheVariants.{SurvivorS
 use Rattle.survivor_tables.specs.Hitting.{first_missed, minimals}
 use Rattle.survivor_tables.specs.Order.{by_mask, by_size, sort, normal}
 use Rattle.drive_sets.specs.Limits.{max_drives, max_sets, max_cores}
-pub mod Laws
 pub mod Numbered
 
 -- a frame has 1 to 64 drives

@@ -8,16 +8,6 @@ use Rattle.std.specs.Bool.{beq}
 use Rattle.std.proofs.Math.Option.{Option, none, some, or_else}
 use Rattle.drive_sets.specs.Options.{is_some}
 use Rattle.drive_sets.specs.Lists.{range, filter, all, any, elem, smallest, first_some}
-pub mod Steps
-pub mod Decisions
-pub mod Validity
-pub mod HeardSets
-pub mod StableRounds
-pub mod Invariant
-pub mod InvariantSteps
-pub mod Bound
-pub mod Agreement
-pub mod Proposals
 
 -- One instance of consensus: the drives (processes) 1 to n, the core, the number that each drive proposes, and the
 -- failure pattern, which says who has crashed by when and whom a drive still reaches in the round in which it crashes.

@@ -13,7 +13,7 @@ use Rattle.complete_tables.specs.declared.TableWithCores.{TableWithCores}
 use Rattle.table_files.specs.declared.reading.TableRead.{TableRead}
 use Rattle.survivor_tables.specs.declared.frames.MaskKind.TheVariants.{SurvivorSet}
 use Rattle.survivor_tables.specs.Tables.{cores, within_core_limit, normal_table}
-use Rattle.survivor_tables.specs.Tables.Laws.{checked_masks_law}
+use Rattle.survivor_tables.proofs.Tables.Laws.{checked_masks_law}
 use Rattle.table_files.specs.Files.{ReadTable, accepted, read_listed, read_table}
 use Rattle.table_files.specs.Files.Laws.{listed_checked}
 use Rattle.complete_tables.specs.Complete.{sets_of, Complete, with_cores, complete_sets, complete_table, complete_outcome}

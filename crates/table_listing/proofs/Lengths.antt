@@ -7,7 +7,7 @@ use lib.ListN.{length, length-append}
 use Rattle.drive_sets.specs.Refusals.{Outcome, refused, yields}
 use Rattle.records.specs.Marks.{ascii}
 use Rattle.survivor_tables.specs.Tables.{cores, chosen, Accepted}
-use Rattle.survivor_tables.specs.Tables.Laws.{accepted_normal}
+use Rattle.survivor_tables.proofs.Tables.Laws.{accepted_normal}
 use Rattle.table_files.specs.Files.{ReadTable, read_whole}
 use Rattle.table_files.specs.Files.Laws.{table_read_law, whole_table}
 use Rattle.survivor_tables.specs.Order.{normal}

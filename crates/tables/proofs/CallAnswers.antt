@@ -15,7 +15,7 @@ use Rattle.survivor_tables.specs.Hitting.{minimals}
 use Rattle.survivor_tables.specs.Order.{by_mask}
 use Rattle.survivor_tables.specs.Order.Sort.{length_sort}
 use Rattle.survivor_tables.specs.Tables.{chosen, dual, chosen_core}
-use Rattle.survivor_tables.specs.Tables.Laws.{some_core}
+use Rattle.survivor_tables.proofs.Tables.Laws.{some_core}
 use Rattle.set_orders.specs.declared.sorting.Order.TheVariants.{ByMask}
 use Rattle.set_orders.specs.Sorting.{precedes}
 use Rattle.core_search.specs.Found.{Found}

@@ -12,7 +12,7 @@ use Rattle.drive_sets.specs.Refusals.Laws.{same_result, first_result, passed}
 use Rattle.survivor_tables.specs.Order.Normal.{length_normal}
 use Rattle.survivor_tables.specs.declared.frames.MaskKind.TheVariants.{SurvivorSet}
 use Rattle.survivor_tables.specs.Tables.{normal_table}
-use Rattle.survivor_tables.specs.Tables.Laws.{table_accepted}
+use Rattle.survivor_tables.proofs.Tables.Laws.{table_accepted}
 use Rattle.table_files.specs.Files.{table_bytes}
 use Rattle.table_writing.specs.Writing.{write_table}
 use Rattle.table_writing.proofs.Writes.{length_file}

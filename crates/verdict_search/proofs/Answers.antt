@@ -16,8 +16,8 @@ use Rattle.verdict_search.specs.declared.Named.{Named}
 use Rattle.verdict_search.specs.declared.Verdict.{Verdict as Answer}
 use Rattle.splits.specs.Splits.{fill_empty}
 use Rattle.verdict_search.specs.Verdicts.{Verdict, yes, no, sets_at, disjoint, blocks_of, verdict_on}
-use Rattle.verdict_search.specs.Verdicts.Firsts.{First, disjoint_first}
-use Rattle.verdict_search.specs.Verdicts.Intersection.{none_yes, some_no, no_counts}
+use Rattle.verdict_search.proofs.Verdicts.Firsts.{First, disjoint_first}
+use Rattle.verdict_search.proofs.Verdicts.Intersection.{none_yes, some_no, no_counts}
 use Rattle.verdict_search.specs.Verdicts.BlockCounts.{block_count_within}
 use Rattle.verdict_search.specs.Verdicts.CommonPart.{every_lt, in_every_law}
 use Rattle.verdict_search.specs.Meaning.{in_every}

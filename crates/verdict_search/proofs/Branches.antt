@@ -20,11 +20,11 @@ use Rattle.drive_sets.specs.Masks.{has, common, minus, size}
 use Rattle.drive_sets.specs.Masks.Laws.{has_some, has_common, has_minus, has_subset, common_lt, minus_lt}
 use Rattle.drive_sets.specs.Masks.Sizes.{size_none, size_minus, size_subset}
 use Rattle.verdict_search.specs.Verdicts.{disjoint}
-use Rattle.verdict_search.specs.Verdicts.Search.{Shared, shared_more}
-use Rattle.verdict_search.specs.Verdicts.Firsts.{set_from, named_from, disjoint_first}
+use Rattle.verdict_search.proofs.Verdicts.Search.{shared_more}
+use Rattle.verdict_search.proofs.Verdicts.Firsts.{set_from, named_from, disjoint_first}
 use Rattle.verdict_search.specs.Meaning.{AllFrom}
 use Rattle.verdict_search.specs.Columns.{Columns, EachMet}
-use Rattle.verdict_search.specs.Sharing.{AllShare}
+use Rattle.verdict_search.specs.Sharing.{AllShare, Shared}
 
 -- ---- a part of m
 

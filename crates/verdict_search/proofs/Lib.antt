@@ -7,3 +7,4 @@ pub mod Building
 pub mod Asking
 pub mod Branches
 pub mod Answers
+pub mod Verdicts

@@ -20,7 +20,7 @@ use Rattle.drive_sets.specs.Masks.{common, meets}
 use Rattle.drive_sets.specs.Masks.Laws.{meets_sym}
 use Rattle.survivor_tables.specs.Hitting.{missed_from}
 use Rattle.verdict_search.specs.Verdicts.{first_with, disjoint}
-use Rattle.verdict_search.specs.Verdicts.Search.{first_here, first_later}
+use Rattle.verdict_search.proofs.Verdicts.Search.{first_here, first_later}
 use Rattle.verdict_search.specs.declared.Named.{Named}
 use Rattle.verdict_search.specs.Held.{found_in, in_four}
 use Rattle.verdict_search.proofs.Fours.{in_front}

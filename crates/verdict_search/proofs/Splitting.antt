@@ -13,7 +13,7 @@ use Rattle.drive_sets.specs.Loops.Scan.{drop_next}
 use Rattle.drive_sets.specs.Masks.{union, outside}
 use Rattle.verdict_search.specs.Verdicts.{set_at, sets_at, blocks_of}
 use Rattle.verdict_search.specs.Held.{in_four}
-use Rattle.verdict_search.specs.Verdicts.Blocks.{length_blocks}
+use Rattle.verdict_search.proofs.Verdicts.Blocks.{length_blocks}
 use Rattle.verdict_search.proofs.Fours.{zeros, zeros_behind}
 
 -- ---- the named sets

@@ -5,10 +5,6 @@ use Rattle.std.specs.Prelude.{cond, List, [], ◌∷◌, map, ℕ, zero, suc, �
 use Rattle.std.proofs.Math.Option.{Option, some, none}
 use Rattle.drive_sets.specs.Masks.{full, union, common, outside}
 use Rattle.splits.specs.Splits.{fill_empty}
-pub mod Search
-pub mod Firsts
-pub mod Blocks
-pub mod Intersection
 pub mod CommonPart
 pub mod BlockCounts
 

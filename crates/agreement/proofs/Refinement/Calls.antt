@@ -21,8 +21,8 @@ use Rattle.agreement.specs.Sends.{reach}
 use Rattle.agreement.proofs.CallLaws.{received}
 use Rattle.agreement.proofs.SendLists.{reach_frame, reach_other}
 use Rattle.sync_crash.specs.Rounds.{InFrame}
-use Rattle.sync_crash.specs.Rounds.Steps.{Active, Sender, Closer, reaches_true, true_reaches, sender_active, closer_active, active_sends}
-use Rattle.sync_crash.specs.Rounds.HeardSets.{sender_was_heard}
+use Rattle.sync_crash.proofs.Rounds.Steps.{Active, Sender, Closer, reaches_true, true_reaches, sender_active, closer_active, active_sends}
+use Rattle.sync_crash.proofs.Rounds.HeardSets.{sender_was_heard}
 use Rattle.runs.specs.World.{sends, delivers, closes, Slot, opened, World, put, after_call, on_state, active}
 use Rattle.runs.specs.World as worlds
 use Rattle.runs.specs.World.Laws.{Gives, by_message, put_same, put_other, call_keeps}

@@ -15,7 +15,7 @@ use Rattle.drive_sets.specs.Lists.Distinct.{distinct_head, distinct_tail}
 use Rattle.drive_sets.specs.Masks.{size}
 use Rattle.drive_sets.specs.Refusals.{yields}
 use Rattle.drive_sets.specs.Counts.Laws.{is_drive_range}
-use Rattle.sync_crash.specs.Rounds.Steps.{sender_active}
+use Rattle.sync_crash.proofs.Rounds.Steps.{sender_active}
 use Rattle.runs.specs.World.{Call, opens, drive_of, World, nothing_open}
 use Rattle.runs.specs.Scenario.{Scenario, frame, core_of}
 use Rattle.runs.specs.Scenario.Laws.{frame_distinct}

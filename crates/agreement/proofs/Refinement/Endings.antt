@@ -14,7 +14,7 @@ use Rattle.drive_sets.specs.Options.Laws.{by_option, none_some, same_some}
 use Rattle.drive_sets.specs.Masks.{size}
 use Rattle.agreement.specs.Calls.{decision_on}
 use Rattle.sync_crash.specs.Rounds.{Instance, Lawful, DecidesIn, start, after, decision}
-use Rattle.sync_crash.specs.Rounds.Decisions.{decision_later}
+use Rattle.sync_crash.proofs.Rounds.Decisions.{decision_later}
 use Rattle.runs.specs.World.{Call, World, nothing_open}
 use Rattle.agreement.specs.Document01.{apply_all, round_part, round_parts}
 use Rattle.runs.specs.Scenario.{Scenario, core_of}

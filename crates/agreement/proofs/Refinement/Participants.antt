@@ -7,7 +7,7 @@ use Rattle.drive_sets.specs.Bools.Laws.{clash, false_of, and_intro, and_left, an
 use Rattle.drive_sets.specs.Masks.{has, size}
 use Rattle.drive_sets.specs.Counts.Laws.{is_drive_range}
 use Rattle.sync_crash.specs.Rounds.{InFrame, halted}
-use Rattle.sync_crash.specs.Rounds.Steps.{Active, Sender, Closer, sender_active, closer_active}
+use Rattle.sync_crash.proofs.Rounds.Steps.{Active, Sender, Closer, sender_active, closer_active}
 use Rattle.runs.specs.World.{World, active}
 use Rattle.runs.specs.Scenario.{Scenario, core_of}
 use Rattle.runs.specs.Scenario.Laws.{gone_before_law}

@@ -13,7 +13,7 @@ use Rattle.drive_sets.specs.Lists.Laws.{first_kept_passes, all_elem}
 use Rattle.drive_sets.specs.Masks.{size}
 use Rattle.agreement.specs.Calls.{decision_on, next}
 use Rattle.sync_crash.specs.Rounds.{InFrame, halted}
-use Rattle.sync_crash.specs.Rounds.Steps.{Closer, halted_view, active_closed}
+use Rattle.sync_crash.proofs.Rounds.Steps.{Closer, halted_view, active_closed}
 use Rattle.runs.specs.World.{Call, opens, sends, delivers, closes, opened, World, active, decision_of}
 use Rattle.agreement.specs.Document01.{document01, apply, apply_all, undelivered, due, noted, round_part}
 use Rattle.runs.specs.World as worlds

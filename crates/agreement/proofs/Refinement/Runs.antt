@@ -17,8 +17,8 @@ use Rattle.drive_states.specs.declared.Decision.TheVariants.{Undecided, Decided}
 use Rattle.agreement.specs.Calls.{decision_on}
 use Rattle.agreement.proofs.CallLaws.{undecided_none, decided_some}
 use Rattle.sync_crash.specs.Rounds.{DecidesIn, decision}
-use Rattle.sync_crash.specs.Rounds.Steps.{Closer, closer_active}
-use Rattle.sync_crash.specs.Rounds.Decisions.{decider_closes}
+use Rattle.sync_crash.proofs.Rounds.Steps.{Closer, closer_active}
+use Rattle.sync_crash.proofs.Rounds.Decisions.{decider_closes}
 use Rattle.runs.specs.World.{Call, closes, World, nothing_open, decision_of, round_in}
 use Rattle.runs.specs.World as worlds
 use Rattle.runs.specs.World.Laws.{apply_all_append, put_same, refused_keeps}

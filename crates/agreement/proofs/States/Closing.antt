@@ -25,8 +25,8 @@ use Rattle.agreement.specs.Calls.{heard_at_close, decision_on, stable_decision, 
 use Rattle.agreement.proofs.CallLaws.{decided_on, closing_accepted}
 use Rattle.sync_crash.specs.Rounds as rounds
 use Rattle.sync_crash.specs.Rounds.{Instance, Lawful, smallest_of, reaches, known, announces, announced, heard, unchanged, stable, if_stable, decides, after, knows, before, decision, halted}
-use Rattle.sync_crash.specs.Rounds.Steps.{Closer, reaches_true, knows_now, before_now, decision_now, halted_now}
-use Rattle.sync_crash.specs.Rounds.HeardSets.{heard_core, before_core}
+use Rattle.sync_crash.proofs.Rounds.Steps.{Closer, reaches_true, knows_now, before_now, decision_now, halted_now}
+use Rattle.sync_crash.proofs.Rounds.HeardSets.{heard_core, before_core}
 use Rattle.agreement.proofs.States.{Bounded, InRound, numbers_of, announcement_of, known_from, announced_from, state_of}
 use Rattle.agreement.proofs.States.Announcements.{announced_cases, none_announced}
 use Rattle.agreement.proofs.States.KnownSets.{known_core, known_none, known_all}

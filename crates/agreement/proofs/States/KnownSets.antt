@@ -13,7 +13,7 @@ use Rattle.drive_sets.specs.Options.{is_some}
 use Rattle.drive_sets.specs.Lists.{range, any, elem}
 use Rattle.drive_sets.specs.Lists.Laws.{any_elem, any_intro}
 use Rattle.sync_crash.specs.Rounds.{Instance, InFrame, Lawful, reaches, adds, known, after, knows, decision}
-use Rattle.sync_crash.specs.Rounds.Validity.{knows_own, knows_core}
+use Rattle.sync_crash.proofs.Rounds.Validity.{knows_own, knows_core}
 use Rattle.agreement.proofs.States.{known_from}
 
 -- of the elements that pass p, and d besides, some passes q

@@ -26,8 +26,8 @@ use Rattle.drive_states.specs.Messages.Laws.{Written, known_written, decided_wri
 use Rattle.agreement.specs.Calls.{decision_on, outside_core, any_differs, stored, announcing, accept, receiving}
 use Rattle.agreement.proofs.CallLaws.{none_differs, receiving_accepted}
 use Rattle.sync_crash.specs.Rounds.{Instance, InFrame, Lawful, knows, before, decision}
-use Rattle.sync_crash.specs.Rounds.Validity.{knows_own, knows_core, decision_proposed}
-use Rattle.sync_crash.specs.Rounds.HeardSets.{before_core}
+use Rattle.sync_crash.proofs.Rounds.Validity.{knows_own, knows_core, decision_proposed}
+use Rattle.sync_crash.proofs.Rounds.HeardSets.{before_core}
 use Rattle.agreement.proofs.States.{Bounded, InRound, numbers_of, announcement_of, known_from, announced_from, state_of, content_in, value_of, message_of}
 use Rattle.agreement.proofs.States.Numbers.{stored_numbers}
 use Rattle.agreement.proofs.States.Announcements.{lower_also}

@@ -17,8 +17,8 @@ use Rattle.drive_states.specs.State.{in_core, number_of, broken}
 use Rattle.drive_sets.specs.Counts.Laws.{is_drive_range}
 use Rattle.drive_states.specs.State.Laws.{Sound, sound_unbroken}
 use Rattle.sync_crash.specs.Rounds.{Instance, InFrame, Lawful, knows, before}
-use Rattle.sync_crash.specs.Rounds.Validity.{knows_own, knows_core}
-use Rattle.sync_crash.specs.Rounds.HeardSets.{before_core}
+use Rattle.sync_crash.proofs.Rounds.Validity.{knows_own, knows_core}
+use Rattle.sync_crash.proofs.Rounds.HeardSets.{before_core}
 use Rattle.agreement.proofs.States.{Bounded, InRound, known_from, state_of}
 use Rattle.agreement.proofs.States.Numbers.{number_at}
 use Rattle.agreement.proofs.States.KnownSets.{known_core, known_own}

@@ -16,7 +16,7 @@ use Rattle.drive_states.specs.Messages.Laws.{length_known, known_same, length_de
 use Rattle.agreement.specs.Calls.{content_by, decision_on, outgoing, sending}
 use Rattle.agreement.proofs.CallLaws.{sending_accepted, sending_crowded}
 use Rattle.sync_crash.specs.Rounds.{Instance, Lawful, knows, decision}
-use Rattle.sync_crash.specs.Rounds.Validity.{knows_core}
+use Rattle.sync_crash.proofs.Rounds.Validity.{knows_core}
 use Rattle.agreement.proofs.States.{Bounded, InRound, state_of, content_in, value_of, message_of}
 use Rattle.agreement.proofs.States.KnownSets.{knows_known}
 use Rattle.agreement.proofs.States.Rules.{has_core_set, state_in_core, state_number, state_unbroken, state_running}

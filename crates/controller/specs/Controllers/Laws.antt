@@ -19,8 +19,8 @@ use Rattle.agreement.proofs.Theorems.{agreement}
 use Rattle.exchange.specs.Replies.{state_after, not_opened}
 use Rattle.exchange.specs.Replies.Laws.{not_opened_sending, not_opened_receiving, not_opened_closing}
 use Rattle.exchange.specs.Steps.{held, may_name, leaves}
-use Rattle.exchange.specs.Steps.Laws.{opening_named, not_open_law, size_refused}
-use Rattle.exchange.specs.Steps.Kept.{kept_held, kept_open, decided_open}
+use Rattle.exchange.proofs.Steps.Laws.{opening_named, not_open_law, size_refused}
+use Rattle.exchange.proofs.Steps.Kept.{kept_held, kept_open, decided_open}
 use Rattle.c_states.specs.declared.State.{State}
 use Rattle.c_states.specs.Crossing.{is_flagged, exchange_of, decided_flag, decided_number, state_of, answered}
 use Rattle.c_states.specs.Crossing.Laws.{there_and_back}

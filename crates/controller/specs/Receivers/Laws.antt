@@ -11,7 +11,7 @@ use Rattle.drive_sets.specs.Refusals.{yields}
 use Rattle.drive_sets.specs.Refusals.Laws.{same_result, passed, first_result}
 use Rattle.drive_sets.specs.Refusals.Numbered.{Numbered, if_numbered}
 use Rattle.survivor_tables.specs.Tables.{chosen, normal_table}
-use Rattle.survivor_tables.specs.Tables.Laws.{table_accepted}
+use Rattle.survivor_tables.proofs.Tables.Laws.{table_accepted}
 use Rattle.drive_states.specs.declared.Exchange.{Exchange}
 use Rattle.drive_states.specs.State.{in_core, broken}
 use Rattle.drive_states.specs.Messages.{entries_in, read_message}

@@ -15,12 +15,12 @@ use Rattle.survivor_tables.specs.declared.frames.MaskKind.TheVariants.{SurvivorS
 use Rattle.survivor_tables.specs.Order.{normal}
 use Rattle.survivor_tables.specs.Order.Normal.{normal_idempotent}
 use Rattle.survivor_tables.specs.Tables.{normal_table}
-use Rattle.survivor_tables.specs.Tables.Laws.{accepted_table, accepted_normal}
+use Rattle.survivor_tables.proofs.Tables.Laws.{accepted_table, accepted_normal}
 use Rattle.table_files.specs.Files.{ReadTable, record_of, accepted, read_whole, table_bytes}
 use Rattle.table_files.specs.Files.Laws.{kind_behind, whole_table, table_read_law, whole_written}
 use Rattle.table_files.specs.Files.Prefixes.{all_prefix}
 use Rattle.fault_lists.specs.FaultLists.{rests, largest, table_from_faults, fault_list, faults_from_table}
-use Rattle.fault_lists.specs.FaultLists.Laws.{from_faults, faults_back, table_list, list_again}
+use Rattle.fault_lists.proofs.FaultLists.Laws.{from_faults, faults_back, table_list, list_again}
 use Rattle.fault_files.specs.FaultFiles.{accepted_faults, read_faults, fault_bytes, write_faults_from}
 use Rattle.fault_files.specs.FaultFiles.Laws.{faults_written, faults_read}
 use Rattle.text.specs.Printing.{printed}

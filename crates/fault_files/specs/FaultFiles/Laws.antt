@@ -8,11 +8,11 @@ use Rattle.drive_sets.specs.Refusals.{Outcome, yields, refuse_if, and_then}
 use Rattle.drive_sets.specs.Refusals.Laws.{passed, first_result, same_result, then_then}
 use Rattle.survivor_tables.specs.declared.frames.MaskKind.TheVariants.{FaultGroup}
 use Rattle.survivor_tables.specs.Tables.{is_empty, within_core_limit}
-use Rattle.survivor_tables.specs.Tables.Laws.{Checked, checked_masks_law}
+use Rattle.survivor_tables.proofs.Tables.Laws.{Checked, checked_masks_law}
 use Rattle.table_files.specs.Files.{ReadTable, read_listed}
 use Rattle.table_files.specs.Files.Laws.{empty_is, listed_read, listed_checked}
 use Rattle.fault_lists.specs.FaultLists.{rests, largest, table_from_faults, fault_list}
-use Rattle.fault_lists.specs.FaultLists.Laws.{list_again}
+use Rattle.fault_lists.proofs.FaultLists.Laws.{list_again}
 use Rattle.fault_files.specs.FaultFiles.{accepted_faults, read_faults, fault_bytes}
 
 -- ---- what is listed meets nothing but 13, and is the fault list of n and groups

@@ -2,7 +2,8 @@
 use mathlib.Core.Path.{ap, ◌∙◌}
 use Rattle.drive_sets.specs.Refusals.{Outcome, and_then}
 use Rattle.complete_tables.specs.Complete.{Complete}
-use Rattle.fault_lists.specs.FaultLists.Laws.{rests_of, list_rests}
+use Rattle.fault_lists.proofs.FaultLists.Laws.{list_rests}
+use Rattle.fault_lists.specs.FaultLists.{rests_of}
 use Rattle.fault_lists.proofs.fault_list.Goals as goal
 
 pub rests_of-requires : goal.rests_of-requires

@@ -19,7 +19,7 @@ use Rattle.hitting_sets.specs.LookAhead.{privates, forbidden, covered, cannot_ex
 use Rattle.survivor_tables.specs.Hitting.Laws.{hits_meets, minimal_word}
 use Rattle.survivor_tables.specs.Hitting.Critical.{Private, private_critical, critical_all, not_all_critical}
 use Rattle.survivor_tables.specs.Hitting.Minimality.{minimal_critical}
-use Rattle.survivor_tables.specs.Hitting.SearchLaws.{search_minimal}
+use Rattle.survivor_tables.proofs.Hitting.SearchLaws.{search_minimal}
 use Rattle.hitting_sets.specs.LookAhead.Forbidden.{in_all_has, forbidden_by}
 
 -- t is part of a minimal hitting set u

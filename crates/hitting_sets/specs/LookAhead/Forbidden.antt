@@ -22,7 +22,7 @@ use Rattle.survivor_tables.specs.Hitting.Laws.{minimal_word}
 use Rattle.drive_sets.specs.Masks.Frames.{below_left}
 use Rattle.survivor_tables.specs.Hitting.Critical.{Private, all_critical, critical_all}
 use Rattle.survivor_tables.specs.Hitting.Growth.{added, grown_minimal, private_cases}
-use Rattle.survivor_tables.specs.Hitting.SearchLaws.{tried, tried_critical, search_missed}
+use Rattle.survivor_tables.proofs.Hitting.SearchLaws.{tried, tried_critical, search_missed}
 
 -- ---- what is in all sets, and what is forbidden
 

@@ -23,7 +23,7 @@ use Rattle.survivor_tables.specs.Hitting.Laws.{some_missed}
 use Rattle.survivor_tables.specs.Order.{normal}
 use Rattle.survivor_tables.specs.Tables.{is_empty, chosen, chosen_core}
 use Rattle.survivor_tables.specs.Tables as tables
-use Rattle.survivor_tables.specs.Tables.Laws.{core_given}
+use Rattle.survivor_tables.proofs.Tables.Laws.{core_given}
 use Rattle.drive_sets.specs.Limits.{pattern_limit}
 use Rattle.records.specs.RecordLists.{read_list}
 use Rattle.runs.specs.CrashRecords.{drives_of, CrashRecord, crashed, most_sends}

@@ -13,7 +13,7 @@ use Rattle.records.specs.Marks.Laws.{number_most}
 use Rattle.records.specs.RecordLists.{ReadList}
 use Rattle.records.specs.RecordLists.Prefixes.{field_prefix, kind_prefix, widest, list_prefix}
 use Rattle.survivor_tables.specs.Tables.{within_core_limit, chosen_core}
-use Rattle.survivor_tables.specs.Tables.Laws.{core_given}
+use Rattle.survivor_tables.proofs.Tables.Laws.{core_given}
 use Rattle.survivor_tables.specs.declared.frames.MaskKind.TheVariants.{SurvivorSet}
 use Rattle.table_files.specs.Files.{ReadTable, read_listed, accepted, read_table}
 use Rattle.table_files.specs.Files.Prefixes.{empty_prefix, listed_prefix}

@@ -9,7 +9,7 @@ use Rattle.drive_sets.specs.Counts.{is_drive}
 use Rattle.survivor_tables.specs.Order.{normal}
 use Rattle.survivor_tables.specs.Order.Normal.{normal_idempotent}
 use Rattle.survivor_tables.specs.Tables.{normal_table}
-use Rattle.survivor_tables.specs.Tables.Laws.{table_accepted, accepted_table, accepted_normal}
+use Rattle.survivor_tables.proofs.Tables.Laws.{table_accepted, accepted_table, accepted_normal}
 use Rattle.runs.specs.Protocol.{Protocol}
 use Rattle.runs.specs.Scenario.{Scenario}
 use Rattle.runs.specs.World.{Call, opens, sends, delivers, closes, drive_of, unopened, World, apply, refused_in}

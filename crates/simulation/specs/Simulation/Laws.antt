@@ -20,7 +20,7 @@ use Rattle.survivor_tables.specs.Hitting.{first_missed}
 use Rattle.survivor_tables.specs.Hitting.Laws.{some_missed}
 use Rattle.survivor_tables.specs.Order.{normal}
 use Rattle.survivor_tables.specs.Tables.{chosen, normal_table, Accepted}
-use Rattle.survivor_tables.specs.Tables.Laws.{table_accepted}
+use Rattle.survivor_tables.proofs.Tables.Laws.{table_accepted}
 use Rattle.drive_sets.specs.Counts.{is_drive, is_round}
 use Rattle.drive_sets.specs.Limits.{pattern_limit}
 use Rattle.drive_sets.specs.Counts.Laws.{drive_bounds}

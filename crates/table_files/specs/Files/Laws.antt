@@ -25,7 +25,7 @@ use Rattle.drive_sets.specs.Limits.{max_drives, max_sets}
 use Rattle.survivor_tables.specs.declared.frames.MaskKind.{MaskKind}
 use Rattle.survivor_tables.specs.declared.frames.MaskKind.TheVariants.{SurvivorSet, FaultGroup}
 use Rattle.survivor_tables.specs.Tables.{is_frame, is_empty, within_core_limit, checked_mask, Accepted}
-use Rattle.survivor_tables.specs.Tables.Laws.{frame_high, mask_lt, mask_result, Checked, checked_accepted, within_limit, accepted_checked, accepted_within_limit, accepted_normal}
+use Rattle.survivor_tables.proofs.Tables.Laws.{frame_high, mask_lt, mask_result, Checked, checked_accepted, within_limit, accepted_checked, accepted_within_limit, accepted_normal}
 use Rattle.table_files.specs.Files.{ReadTable, record_of, due_after, taken_mask, mask_list, listed_table, read_listed, accepted, read_table, read_whole, file_bytes, table_bytes}
 
 -- ---- the masks

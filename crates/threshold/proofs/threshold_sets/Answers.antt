@@ -4,7 +4,7 @@ use native.Mathlib.Omega.{arith}
 use borrow.Author.Tests.{le-leb, lt-leb, le-ltb}
 use Rattle.drive_sets.specs.Limits.{max_sets, max_cores}
 use Rattle.drive_sets.specs.Refusals.Laws.{accepted_not_refused}
-use Rattle.survivor_tables.specs.Tables.Laws.{frame_high}
+use Rattle.survivor_tables.proofs.Tables.Laws.{frame_high}
 use Rattle.tables.specs.Answers.{list_outcome}
 use Rattle.threshold.specs.Counts.Laws.{count_above_limit, count_within}
 use Rattle.threshold.specs.Groups.Laws.{count_others}

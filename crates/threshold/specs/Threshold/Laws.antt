@@ -33,7 +33,7 @@ use Rattle.survivor_tables.specs.Order.Sort.{elem_sort, length_sort, ordered_sor
 use Rattle.survivor_tables.specs.Order.Strict.{by_mask_strict, by_size_strict, by_size_cases, strict_irr}
 use Rattle.survivor_tables.specs.declared.frames.MaskKind.TheVariants.{SurvivorSet}
 use Rattle.survivor_tables.specs.Tables.{is_frame, is_set, core_order, cores, chosen, within_core_limit, normal_table}
-use Rattle.survivor_tables.specs.Tables.Laws.{frame_high, core_minimal, minimal_core, cores_unique, chosen_first, set_mask, Checked, checked_masks_law}
+use Rattle.survivor_tables.proofs.Tables.Laws.{frame_high, core_minimal, minimal_core, cores_unique, chosen_first, set_mask, Checked, checked_masks_law}
 use Rattle.complete_tables.specs.Complete.{with_cores, complete_table}
 use Rattle.threshold.specs.Groups.{groups, group_count}
 use Rattle.threshold.specs.Groups.Laws.{groups_sound, groups_complete, groups_ordered, full_group, some_groups, count_others}

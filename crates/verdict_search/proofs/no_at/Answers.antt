@@ -9,7 +9,7 @@ use Rattle.verdict_search.specs.Held.{with_blocks}
 use Rattle.splits.specs.Splits.{fill_empty}
 use Rattle.splits.specs.Splits.Moves.{length_fill}
 use Rattle.verdict_search.specs.Verdicts.{sets_at, blocks_of}
-use Rattle.verdict_search.specs.Verdicts.Blocks.{length_blocks}
+use Rattle.verdict_search.proofs.Verdicts.Blocks.{length_blocks}
 use Rattle.verdict_search.proofs.Fours.{changed_in}
 use Rattle.verdict_search.proofs.Splitting.{count_named}
 use Rattle.verdict_search.proofs.no_at.Goals as goal

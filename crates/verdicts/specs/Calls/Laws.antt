@@ -9,10 +9,10 @@ use Rattle.drive_sets.specs.Refusals.Laws.{passed, first_result, same_result}
 use Rattle.survivor_tables.specs.Order.{normal}
 use Rattle.survivor_tables.specs.Tables.{checked_sets, normal_table, Accepted}
 use Rattle.survivor_tables.specs.declared.frames.MaskKind.TheVariants.{SurvivorSet}
-use Rattle.survivor_tables.specs.Tables.Laws.{checked_masks_law, table_accepted, accepted_normal, accepted_checked, accepted_table}
+use Rattle.survivor_tables.proofs.Tables.Laws.{checked_masks_law, table_accepted, accepted_normal, accepted_checked, accepted_table}
 use Rattle.verdict_search.specs.Verdicts.{Verdict, no, verdict_on}
 use Rattle.verdict_search.specs.Verdicts.BlockCounts.{block_count_within}
-use Rattle.verdict_search.specs.Verdicts.Intersection.{no_counts}
+use Rattle.verdict_search.proofs.Verdicts.Intersection.{no_counts}
 use Rattle.verdicts.specs.Calls.{judged, verdict, verdict_given}
 
 pub record Answered (k n : ℕ) (sets : List ℕ) (v : Verdict) : Type 0 where

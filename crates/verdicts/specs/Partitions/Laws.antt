@@ -17,7 +17,7 @@ use Rattle.survivor_tables.specs.Tables.{Accepted}
 use Rattle.splits.specs.Splits.{Split, block_of}
 use Rattle.splits.specs.Splits.Listed.{block_of_lt, has_block_of}
 use Rattle.verdict_search.specs.Verdicts.{yes, disjoint, verdict_on}
-use Rattle.verdict_search.specs.Verdicts.Intersection.{none_yes, some_no, yes_intersection}
+use Rattle.verdict_search.proofs.Verdicts.Intersection.{none_yes, some_no, yes_intersection}
 use Rattle.verdicts.specs.Partitions.Witness.{no_core_outside, no_witness}
 use Rattle.verdict_search.specs.Meaning.{SharedDrive, AllFrom, Intersection}
 use Rattle.verdicts.specs.Partitions.{holds_core, Partition}

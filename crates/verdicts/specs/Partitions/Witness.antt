@@ -12,16 +12,16 @@ use Rattle.drive_sets.specs.Lists.Places.{get_or_elem, elem_get_or}
 use Rattle.drive_sets.specs.Masks.{has, outside, subset}
 use Rattle.drive_sets.specs.Masks.Laws.{not_meets, subset_has}
 use Rattle.drive_sets.specs.Masks.Outside.{subset_outside}
-use Rattle.survivor_tables.specs.Hitting.Duality.{Cores, cores_minimals, holds_core_or_complement}
+use Rattle.survivor_tables.proofs.Hitting.Duality.{Cores, cores_minimals, holds_core_or_complement}
 use Rattle.survivor_tables.specs.Order.{by_size}
 use Rattle.survivor_tables.specs.Tables.{cores, Accepted}
-use Rattle.survivor_tables.specs.Tables.Laws.{sets_below}
+use Rattle.survivor_tables.proofs.Tables.Laws.{sets_below}
 use Rattle.splits.specs.Splits.{Split, block_of, Parted, PartOf, fill_empty}
 use Rattle.splits.specs.Splits.Moves.{length_fill, fill_keeps, fill_ends}
 use Rattle.splits.specs.Splits.Listed.{split_of_blocks}
 use Rattle.verdict_search.specs.Verdicts.{no, set_at, sets_at, blocks_of, verdict_on}
-use Rattle.verdict_search.specs.Verdicts.Intersection.{no_some, shared_drive, sets_from, some_first}
-use Rattle.verdict_search.specs.Verdicts.Blocks.{length_blocks, blocks_below, blocks_rule, not_named, blocks_one}
+use Rattle.verdict_search.proofs.Verdicts.Intersection.{no_some, shared_drive, sets_from, some_first}
+use Rattle.verdict_search.proofs.Verdicts.Blocks.{length_blocks, blocks_below, blocks_rule, not_named, blocks_one}
 use Rattle.verdict_search.specs.Meaning.{FirstNoneShared}
 use Rattle.verdicts.specs.Partitions.{holds_core, NoWitness}
 

@@ -1,7 +1,7 @@
 -- The search from no set and no drive, which misses every set.
 use mathlib.Core.Path.{sym, ◌∙◌}
 use borrow.Author.Rules.{rules}
-use Rattle.survivor_tables.specs.Hitting.SearchLaws.{none_minimal}
+use Rattle.survivor_tables.proofs.Hitting.SearchLaws.{none_minimal}
 use Rattle.survivor_tables.specs.Hitting.{minimals}
 use Rattle.hitting_sets.proofs.Trials.{end_one, searched_passed}
 use Rattle.hitting_sets.proofs.Tracking.{tracked_start}

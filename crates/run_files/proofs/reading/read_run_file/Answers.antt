@@ -1,6 +1,6 @@
 -- The table's refusal, or the file behind it with the chosen core.
 use mathlib.Core.Path.{sym, ap, ◌∙◌}
-use Rattle.survivor_tables.specs.Tables.Laws.{core_given}
+use Rattle.survivor_tables.proofs.Tables.Laws.{core_given}
 use Rattle.tables.specs.Answers.{chosen_outcome}
 use Rattle.run_files.specs.RunFiles.{read_run_file}
 use Rattle.run_files.specs.Reading.{run_file_outcome}

@@ -7,8 +7,8 @@ use Rattle.drive_sets.specs.Lists.Laws.{ordered_unique}
 use Rattle.survivor_tables.specs.Hitting.{hits, Minimal, minimals}
 use Rattle.survivor_tables.specs.Hitting.Laws.{minimal_same_hits}
 use Rattle.drive_sets.specs.Masks.{Below}
-use Rattle.survivor_tables.specs.Hitting.SearchLaws.{minimals_minimal, minimal_found}
-use Rattle.survivor_tables.specs.Hitting.Distinct.{minimals_distinct}
+use Rattle.survivor_tables.proofs.Hitting.SearchLaws.{minimals_minimal, minimal_found}
+use Rattle.survivor_tables.proofs.Hitting.Distinct.{minimals_distinct}
 use Rattle.survivor_tables.specs.Order.{sort}
 use Rattle.survivor_tables.specs.Order.Strict.{Strict}
 use Rattle.survivor_tables.specs.Order.Sort.{elem_sort, ordered_sort}

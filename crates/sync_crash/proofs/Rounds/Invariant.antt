@@ -10,7 +10,7 @@ use Rattle.drive_sets.specs.Options.Laws.{same_some, some_of, none_of}
 use Rattle.drive_sets.specs.Lists.{range, any}
 use Rattle.drive_sets.specs.Lists.Laws.{any_elem, any_not}
 use Rattle.sync_crash.specs.Rounds.{Instance, InFrame, Lawful, smallest_of, knows, decision, halted}
-use Rattle.sync_crash.specs.Rounds.Steps.{Sender, Closer, awake_now, decision_stays, knows_stays, learnt}
+use Rattle.sync_crash.proofs.Rounds.Steps.{Sender, Closer, awake_now, decision_stays, knows_stays, learnt}
 
 module _ (S : Instance) (k : ℕ) where
   open S use {core, alive}

@@ -13,7 +13,7 @@ use Rattle.drive_sets.specs.Options.Laws.{by_option, none_some, same_some, is_so
 use Rattle.drive_sets.specs.Lists.{range}
 use Rattle.drive_sets.specs.Lists.FirstSome.{first_elem, first_none}
 use Rattle.sync_crash.specs.Rounds.{Instance, Lawful, start, smallest_of, announces, announced, stable, if_stable, decides, reaches, after, knows, decision, DecidesIn}
-use Rattle.sync_crash.specs.Rounds.Steps.{Reaches, Closer, reaches_true, true_reaches, by_close, knows_now, decision_now, decision_stays}
+use Rattle.sync_crash.proofs.Rounds.Steps.{Reaches, Closer, reaches_true, true_reaches, by_close, knows_now, decision_now, decision_stays}
 
 -- v is announced to e in round k + 1; the value of the lowest-numbered announcer counts
 pub record Announcement (S : Instance) (k e v : ℕ) : Type 0 where

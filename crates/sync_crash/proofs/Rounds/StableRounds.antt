@@ -10,10 +10,10 @@ use Rattle.drive_sets.specs.Bools.Laws.{by_test, and_left, and_right, beq_eq, sa
 use Rattle.drive_sets.specs.Lists.{range, any}
 use Rattle.drive_sets.specs.Lists.Laws.{all_elem, any_elem}
 use Rattle.sync_crash.specs.Rounds.{Instance, InFrame, Lawful, heard, unchanged, stable, after, knows, before, decision}
-use Rattle.sync_crash.specs.Rounds.Steps.{Sender, Closer, knows_stays, closer_active, active_sends, heard_cases, learns, learnt}
-use Rattle.sync_crash.specs.Rounds.Decisions.{StableClose, announced_none, decides_stable}
-use Rattle.sync_crash.specs.Rounds.Validity.{smallest_of_some, knows_own, knows_core}
-use Rattle.sync_crash.specs.Rounds.HeardSets.{sender_was_heard, listener_knows_less}
+use Rattle.sync_crash.proofs.Rounds.Steps.{Sender, Closer, knows_stays, closer_active, active_sends, heard_cases, learns, learnt}
+use Rattle.sync_crash.proofs.Rounds.Decisions.{StableClose, announced_none, decides_stable}
+use Rattle.sync_crash.proofs.Rounds.Validity.{smallest_of_some, knows_own, knows_core}
+use Rattle.sync_crash.proofs.Rounds.HeardSets.{sender_was_heard, listener_knows_less}
 
 module _ {S : Instance} (L : Lawful S) where
   open S use {n, core}

@@ -9,10 +9,10 @@ use Rattle.drive_sets.specs.Options.Laws.{by_option}
 use Rattle.drive_sets.specs.Lists.{range, filter}
 use Rattle.drive_sets.specs.Lists.Counts.{length_filter_lt}
 use Rattle.sync_crash.specs.Rounds.{Instance, InFrame, Lawful, decision, StaysUp, failures, DecidesIn}
-use Rattle.sync_crash.specs.Rounds.Decisions.{decision_later, decides_once, decision_round}
-use Rattle.sync_crash.specs.Rounds.Validity.{Proposed, decision_proposed}
-use Rattle.sync_crash.specs.Rounds.InvariantSteps.{invariant}
-use Rattle.sync_crash.specs.Rounds.Bound.{undecided_failures}
+use Rattle.sync_crash.proofs.Rounds.Decisions.{decision_later, decides_once, decision_round}
+use Rattle.sync_crash.proofs.Rounds.Validity.{Proposed, decision_proposed}
+use Rattle.sync_crash.proofs.Rounds.InvariantSteps.{invariant}
+use Rattle.sync_crash.proofs.Rounds.Bound.{undecided_failures}
 
 -- `correct` is the set of the drives with no CR
 pub record Agreement (S : Instance) (correct : ℕ → Bool) : Type 0 where

@@ -13,8 +13,8 @@ use Rattle.drive_sets.specs.Lists.{range, filter, elem}
 use Rattle.drive_sets.specs.Lists.Laws.{elem_filter}
 use Rattle.drive_sets.specs.Lists.Smallest.{smallest_some, smallest_elem}
 use Rattle.sync_crash.specs.Rounds.{Instance, InFrame, Lawful, start, smallest_of, after, knows, decision}
-use Rattle.sync_crash.specs.Rounds.Steps.{by_close, decision_stays, knows_stays, learnt}
-use Rattle.sync_crash.specs.Rounds.Decisions.{how_decided}
+use Rattle.sync_crash.proofs.Rounds.Steps.{by_close, decision_stays, knows_stays, learnt}
+use Rattle.sync_crash.proofs.Rounds.Decisions.{how_decided}
 
 -- v is the proposal of a core drive
 pub record Proposed (S : Instance) (v : ℕ) : Type 0 where

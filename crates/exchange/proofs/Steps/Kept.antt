@@ -21,7 +21,7 @@ use Rattle.agreement.specs.Document01.{document01, apply, apply_all, Run}
 use Rattle.agreement.proofs.Theorems.{agreement}
 use Rattle.exchange.specs.Replies.{state_after, not_opened}
 use Rattle.exchange.specs.Steps.{held, may_name, leaves, keep, keep_all}
-use Rattle.exchange.specs.Steps.Laws.{leaves_held}
+use Rattle.exchange.proofs.Steps.Laws.{leaves_held}
 
 -- ---- one call
 

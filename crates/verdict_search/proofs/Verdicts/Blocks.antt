@@ -14,7 +14,7 @@ use Rattle.drive_sets.specs.Masks.Laws.{has_none, has_union}
 use Rattle.drive_sets.specs.Masks.Outside.{outside_lt, has_outside}
 use Rattle.splits.specs.Splits.{holders}
 use Rattle.verdict_search.specs.Verdicts.{blocks_of}
-use Rattle.verdict_search.specs.Verdicts.Search.{Shared}
+use Rattle.verdict_search.specs.Sharing.{Shared}
 
 pub length_blocks : (n taken : ℕ) (named : List ℕ) → length (blocks_of n taken named) ≡ length named
 unfolding blocks_of

@@ -15,11 +15,11 @@ use Rattle.drive_sets.specs.Lists.{range, filter, all}
 use Rattle.drive_sets.specs.Lists.Laws.{all_not, any_intro}
 use Rattle.drive_sets.specs.Lists.Counts.{length_filter_le, length_filter_lt, length_filter_split}
 use Rattle.sync_crash.specs.Rounds.{Instance, InFrame, Lawful, start, announced, heard, unchanged, stable, after, before, decision, halted, StaysUp, failures}
-use Rattle.sync_crash.specs.Rounds.Steps.{Closer, before_now, awake_now, undecided_before, undecided_awake, heard_cases}
-use Rattle.sync_crash.specs.Rounds.Decisions.{undecided_other, decides_announced, reached_decides, how_decided}
-use Rattle.sync_crash.specs.Rounds.HeardSets.{closer_reaches, closer_heard, heard_was_heard}
-use Rattle.sync_crash.specs.Rounds.StableRounds.{stable_hears, stable_decides}
-use Rattle.sync_crash.specs.Rounds.Invariant.{core_sends}
+use Rattle.sync_crash.proofs.Rounds.Steps.{Closer, before_now, awake_now, undecided_before, undecided_awake, heard_cases}
+use Rattle.sync_crash.proofs.Rounds.Decisions.{undecided_other, decides_announced, reached_decides, how_decided}
+use Rattle.sync_crash.proofs.Rounds.HeardSets.{closer_reaches, closer_heard, heard_was_heard}
+use Rattle.sync_crash.proofs.Rounds.StableRounds.{stable_hears, stable_decides}
+use Rattle.sync_crash.proofs.Rounds.Invariant.{core_sends}
 
 module _ {S : Instance} (L : Lawful S) where
   open S use {n, core}

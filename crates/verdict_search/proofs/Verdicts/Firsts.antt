@@ -20,7 +20,8 @@ use Rattle.drive_sets.specs.Lists.Places.{get_or_elem, map_elem, map_same}
 use Rattle.drive_sets.specs.Masks.{has, common}
 use Rattle.drive_sets.specs.Masks.Laws.{has_none, common_lt}
 use Rattle.verdict_search.specs.Verdicts.{first_with, disjoint}
-use Rattle.verdict_search.specs.Verdicts.Search.{Shared, shared_more, shared_fewer, first_here, first_later, NoneOf, disjoint_none}
+use Rattle.verdict_search.proofs.Verdicts.Search.{shared_more, shared_fewer, first_here, first_later, NoneOf, disjoint_none}
+use Rattle.verdict_search.specs.Sharing.{Shared}
 use Rattle.verdict_search.specs.Meaning.{AllFrom, not_falling, precedes}
 
 -- the set at position q of the sets that start at position p

@@ -17,12 +17,12 @@ use Rattle.drive_sets.specs.Masks.Outside.{outside_lt, subset_outside, meets_out
 use Rattle.survivor_tables.specs.Hitting.{hits, Minimal, minimals}
 use Rattle.survivor_tables.specs.Hitting.Laws.{hits_meets, meets_hits, minimal_lt}
 use Rattle.survivor_tables.specs.Hitting.Minimality.{hitting_contains, holds_minimal_hits}
-use Rattle.survivor_tables.specs.Hitting.SearchLaws.{minimals_minimal, minimal_found}
-use Rattle.survivor_tables.specs.Hitting.Distinct.{minimals_distinct}
+use Rattle.survivor_tables.proofs.Hitting.SearchLaws.{minimals_minimal, minimal_found}
+use Rattle.survivor_tables.proofs.Hitting.Distinct.{minimals_distinct}
 use Rattle.survivor_tables.specs.Order.{by_mask, sort}
 use Rattle.survivor_tables.specs.Order.Strict.{by_mask_strict}
 use Rattle.survivor_tables.specs.Order.Sort.{sort_unique}
-use Rattle.survivor_tables.specs.Hitting.Listed.{listed_minimal, minimal_listed}
+use Rattle.survivor_tables.proofs.Hitting.Listed.{listed_minimal, minimal_listed}
 use Rattle.survivor_tables.specs.Order.Normal.{Antichain}
 
 -- `cores` lists the cores of `sets`, a family of sets of the drives 1 to n

@@ -21,10 +21,10 @@ use Rattle.survivor_tables.specs.Hitting.{hits, Minimal}
 use Rattle.survivor_tables.specs.Hitting.Laws.{hits_meets, meets_hits, hits_same_elements, minimal_lt, minimal_same_hits}
 use Rattle.survivor_tables.specs.Hitting.Critical.{critical_all}
 use Rattle.survivor_tables.specs.Hitting.Minimality.{minimal_critical, hitting_contains}
-use Rattle.survivor_tables.specs.Hitting.Duality.{back_of_minimals}
+use Rattle.survivor_tables.proofs.Hitting.Duality.{back_of_minimals}
 use Rattle.survivor_tables.specs.Order.{by_mask, by_size, normal}
 use Rattle.survivor_tables.specs.Order.Strict.{by_mask_strict, by_size_strict}
-use Rattle.survivor_tables.specs.Hitting.Listed.{listed_minimal, minimal_listed, listed_ordered, listed_unique, listed_same}
+use Rattle.survivor_tables.proofs.Hitting.Listed.{listed_minimal, minimal_listed, listed_ordered, listed_unique, listed_same}
 use Rattle.survivor_tables.specs.Order.Normal.{normal_elem, ordered_normal, antichain_normal, normal_idempotent, normal_some, length_normal}
 use Rattle.survivor_tables.specs.Hitting.Normal.{hits_normal}
 use Rattle.drive_sets.specs.Limits.{max_drives, max_sets, max_cores}

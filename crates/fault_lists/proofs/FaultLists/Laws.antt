@@ -17,12 +17,12 @@ use Rattle.survivor_tables.specs.declared.frames.MaskKind.TheVariants.{SurvivorS
 use Rattle.survivor_tables.specs.Order.{normal}
 use Rattle.survivor_tables.specs.Order.Normal.{normal_elem, normal_idempotent}
 use Rattle.survivor_tables.specs.Tables.{is_set, within_core_limit, checked_masks, normal_table, Accepted}
-use Rattle.survivor_tables.specs.Tables.Laws.{Checked, masks_checked, checked_masks_law, checked_accepted, within_limit, frame_high, mask_group, group_mask, set_mask, set_some, sets_below, table_accepted, accepted_table, accepted_frame, accepted_normal, accepted_within_limit}
+use Rattle.survivor_tables.proofs.Tables.Laws.{Checked, masks_checked, checked_masks_law, checked_accepted, within_limit, frame_high, mask_group, group_mask, set_mask, set_some, sets_below, table_accepted, accepted_table, accepted_frame, accepted_normal, accepted_within_limit}
 use Rattle.survivor_tables.specs.Tables.Numbered.{limit_numbered, masks_numbered, normal_numbered}
 use Rattle.complete_tables.specs.Complete.{Complete, with_cores, complete_table}
-use Rattle.fault_lists.specs.FaultLists.{rests, largest, table_from_faults, complete_from_faults, fault_list, faults_from_table}
+use Rattle.fault_lists.specs.FaultLists.{rests, rests_of, largest, table_from_faults, complete_from_faults, fault_list, faults_from_table}
 use Rattle.fault_lists.specs.FaultLists.Rests.{rest_number, length_rests, rests_elem, rests_below, rests_rests}
-use Rattle.fault_lists.specs.FaultLists.Largest.{largest_rests, rests_largest}
+use Rattle.fault_lists.proofs.FaultLists.Largest.{largest_rests, rests_largest}
 
 -- ---- groups that meet nothing, and their rests
 
@@ -145,9 +145,6 @@ list_again n groups e =
     )
 
 -- ---- what is given, by the table with its cores
-
-abbrev pub rests_of : Complete → Outcome (List ℕ)
-rests_of t = yields (rests t.n t.sets)
 
 -- the table of some groups is the one of their rests
 pub complete_rests : (n : ℕ) (groups : List ℕ) → and_then (checked_masks FaultGroup n groups) (λ faults. complete_table n (rests n faults)) ≡ complete_from_faults n groups

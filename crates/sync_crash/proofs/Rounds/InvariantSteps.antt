@@ -11,11 +11,11 @@ use Rattle.std.proofs.lemmas.Bool.{not-true}
 use Rattle.drive_sets.specs.Bools.Laws.{clash, by_test}
 use Rattle.drive_sets.specs.Options.Laws.{by_option, none_some, same_some, is_some_law, is_none, some_of}
 use Rattle.sync_crash.specs.Rounds.{Instance, InFrame, Lawful, start, smallest_of, after, knows, decision, StaysUp}
-use Rattle.sync_crash.specs.Rounds.Steps.{Closer, undecided_awake, decision_stays}
-use Rattle.sync_crash.specs.Rounds.Decisions.{Announcement, StableClose, undecided_other, reached_decides, how_decided, decided_stays}
-use Rattle.sync_crash.specs.Rounds.HeardSets.{closer_reaches, reaches_core}
-use Rattle.sync_crash.specs.Rounds.StableRounds.{stable_undecided, listener_knows_same, stable_knows_same}
-use Rattle.sync_crash.specs.Rounds.Invariant.{AllDecided, CoreDecided, NoneHalted, SameKnown, Invariant, SomeDecided, any_decided, agree_stays, core_sends, core_closes, none_halted_next, same_known_next}
+use Rattle.sync_crash.proofs.Rounds.Steps.{Closer, undecided_awake, decision_stays}
+use Rattle.sync_crash.proofs.Rounds.Decisions.{Announcement, StableClose, undecided_other, reached_decides, how_decided, decided_stays}
+use Rattle.sync_crash.proofs.Rounds.HeardSets.{closer_reaches, reaches_core}
+use Rattle.sync_crash.proofs.Rounds.StableRounds.{stable_undecided, listener_knows_same, stable_knows_same}
+use Rattle.sync_crash.proofs.Rounds.Invariant.{AllDecided, CoreDecided, NoneHalted, SameKnown, Invariant, SomeDecided, any_decided, agree_stays, core_sends, core_closes, none_halted_next, same_known_next}
 
 module _ {S : Instance} (L : Lawful S) where
   open S use {core, alive}

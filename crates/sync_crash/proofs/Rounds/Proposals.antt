@@ -13,7 +13,7 @@ use Rattle.drive_sets.specs.Lists.{range, filter, elem}
 use Rattle.drive_sets.specs.Lists.Laws.{elem_filter, any_elem}
 use Rattle.drive_sets.specs.Lists.Smallest.{smallest_same}
 use Rattle.sync_crash.specs.Rounds.{Instance, Lawful, View, start, smallest_of, sends, reaches, adds, known, announces, announced, heard, unchanged, stable, if_stable, decides, halts, closes, closed, step, after}
-use Rattle.sync_crash.specs.Rounds.Validity.{knows_core}
+use Rattle.sync_crash.proofs.Rounds.Validity.{knows_core}
 
 module _ {S : Instance} (L : Lawful S) (other : ℕ → ℕ) (same : (d : ℕ) → S.core d ≡ true → S.proposal d ≡ other d) where
   open S use {n, core, proposal}

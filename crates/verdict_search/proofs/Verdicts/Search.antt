@@ -15,10 +15,7 @@ use Rattle.drive_sets.specs.Masks.{has, common}
 use Rattle.drive_sets.specs.Masks.Laws.{has_common, has_some, common_lt}
 use Rattle.verdict_search.specs.Verdicts.{with_position, first_with, disjoint}
 use Rattle.verdict_search.specs.Meaning.{AllFrom}
-
--- a drive of m that each of the sets has
-abbrev pub Shared : ℕ → List ℕ → Type 0
-Shared m sets = (d : ℕ) × (has d m ≡ true) × ((s : ℕ) → elem s sets ≡ true → has d s ≡ true)
+use Rattle.verdict_search.specs.Sharing.{Shared}
 
 pub shared_more : (m s : ℕ) (l rest : List ℕ) → ((x : ℕ) → elem x l ≡ true → (x ≡ s) ⊎ (elem x rest ≡ true)) → Shared (common m s) rest → Shared m l
 shared_more m s l rest others w =

@@ -13,7 +13,7 @@ use Rattle.drive_sets.specs.Masks.Sizes.{elem_drives, drives_distinct}
 use Rattle.drive_sets.specs.Masks.OneDrive.{insert_has, insert_new}
 use Rattle.survivor_tables.specs.Hitting.{Minimal, critical, for_each, search, minimals}
 use Rattle.survivor_tables.specs.Hitting.Growth.{Grown, met, added, grown_minimal, grown_unique}
-use Rattle.survivor_tables.specs.Hitting.SearchLaws.{for_each_elem, tried, tried_elem, tried_critical, search_met, search_missed, search_grown, search_end, below_passed, below_now, below_next, none_minimal}
+use Rattle.survivor_tables.proofs.Hitting.SearchLaws.{for_each_elem, tried, tried_elem, tried_critical, search_met, search_missed, search_grown, search_end, below_passed, below_now, below_next, none_minimal}
 
 -- what is listed from two minimal hitting sets of those seen is listed from one
 pub search_unique : (seen rest : List ℕ) (m k u : ℕ) → Below 64 (seen ++ rest) → Minimal seen m → Minimal seen k

@@ -9,7 +9,7 @@ use Rattle.std.proofs.lemmas.Bool.{eqb-false}
 use Rattle.drive_sets.specs.Bools.{◌⊆◌}
 use Rattle.drive_sets.specs.Bools.Laws.{clash, by_test, and_left}
 use Rattle.sync_crash.specs.Rounds.{Instance, InFrame, Lawful, start, heard, after, knows, before}
-use Rattle.sync_crash.specs.Rounds.Steps.{Active, Sender, Reaches, Closer, Learnt, by_close, before_now, knows_stays, closer_active, active_closed, sender_active, active_sends, heard_self, heard_reaches, heard_cases, learns, learnt}
+use Rattle.sync_crash.proofs.Rounds.Steps.{Active, Sender, Reaches, Closer, Learnt, by_close, before_now, knows_stays, closer_active, active_closed, sender_active, active_sends, heard_self, heard_reaches, heard_cases, learns, learnt}
 
 module _ {S : Instance} (L : Lawful S) where
   open S use {core}

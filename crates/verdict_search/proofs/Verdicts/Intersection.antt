@@ -14,9 +14,10 @@ use Rattle.survivor_tables.specs.Tables.{Accepted}
 use Rattle.splits.specs.Splits.{fill_empty}
 use Rattle.splits.specs.Splits.Moves.{length_fill}
 use Rattle.verdict_search.specs.Verdicts.{Verdict, yes, no, set_at, sets_at, disjoint, blocks_of, verdict_with, verdict_on}
-use Rattle.verdict_search.specs.Verdicts.Search.{Shared, disjoint_none}
-use Rattle.verdict_search.specs.Verdicts.Firsts.{Names, disjoint_first}
-use Rattle.verdict_search.specs.Verdicts.Blocks.{length_blocks}
+use Rattle.verdict_search.proofs.Verdicts.Search.{disjoint_none}
+use Rattle.verdict_search.specs.Sharing.{Shared}
+use Rattle.verdict_search.proofs.Verdicts.Firsts.{Names, disjoint_first}
+use Rattle.verdict_search.proofs.Verdicts.Blocks.{length_blocks}
 use Rattle.verdict_search.specs.Meaning.{SharedDrive, AllFrom, Intersection, Positions, NoneShared, FirstNoneShared}
 
 -- ---- the verdict by what the search finds

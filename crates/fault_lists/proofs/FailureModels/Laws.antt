@@ -15,7 +15,7 @@ use Rattle.survivor_tables.specs.Order.{normal}
 use Rattle.survivor_tables.specs.Order.Normal.{normal_elem, holds_normal}
 use Rattle.fault_lists.specs.FaultLists.{rests, largest}
 use Rattle.fault_lists.specs.FaultLists.Rests.{rest_subset, elem_rests, rests_elem}
-use Rattle.fault_lists.specs.FaultLists.Largest.{largest_elem, largest_alone, alone_largest}
+use Rattle.fault_lists.proofs.FaultLists.Largest.{largest_elem, largest_alone, alone_largest}
 use Rattle.fault_lists.specs.FailureModels.{Model, Maximal, FailProne, CoreFor, CanFail, RestHolds, FailsAs}
 
 module _ (n : ℕ) (groups : List ℕ) (below : Below n groups) where

@@ -1,0 +1,2 @@
+-- The laws of failure models.
+pub mod Laws

@@ -1,0 +1,3 @@
+-- The laws of fault lists.
+pub mod Largest
+pub mod Laws

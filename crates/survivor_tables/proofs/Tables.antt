@@ -1,0 +1,2 @@
+-- The theorems of tables.
+pub mod Laws

@@ -1,0 +1,5 @@
+-- The theorems of verdicts.
+pub mod Blocks
+pub mod Firsts
+pub mod Intersection
+pub mod Search
