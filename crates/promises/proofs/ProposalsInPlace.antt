@@ -18,7 +18,7 @@ use Rattle.drive_sets.specs.Masks.{has, single, lowest}
 use Rattle.drive_sets.specs.Masks.Laws.{minus_lt}
 use Rattle.drive_sets.specs.Masks.OneDrive.{remove_keeps, remove_has}
 use Rattle.drive_sets.specs.Masks.Sizes.{lowest_from}
-use Rattle.drive_sets.specs.Refusals.{Outcome, yields, and_then, number}
+use Rattle.drive_sets.specs.Refusals.{Outcome, yields, and_then}
 use Rattle.runs.specs.CrashRecords.{is_next}
 use Rattle.proposal_lists.specs.ProposalLists.{ProposalList, no_proposal, with_proposal, ProposalRecord, record_drives}
 use Rattle.promises.specs.Listeners.{InPlace}

@@ -14,7 +14,7 @@ use Rattle.drive_sets.specs.Lists.{elem}
 use Rattle.drive_sets.specs.Lists.Laws.{elem_head, elem_none, any_false}
 use Rattle.drive_sets.specs.Refusals.Laws.{first_result}
 use Rattle.table_files.specs.Files.{read_table}
-use Rattle.runs.specs.Scenario.{crashes, has_crash}
+use Rattle.runs.specs.Scenario.{has_crash}
 use Rattle.runs.specs.Statement.{last_round}
 use Rattle.runs.specs.Scenario.Laws.{no_crash_stays}
 use Rattle.runs.specs.CrashRecords.{CrashRecord, crash_in, scenario, drives_of}

@@ -22,7 +22,7 @@ use Rattle.runs.specs.Runs.{nothing_yet}
 use Rattle.runs.specs.Runs as anyRuns
 use Rattle.agreement.specs.Instance.{instance_of}
 use Rattle.runs.specs.Statement.{Valid, Up}
-use Rattle.agreement.specs.RoundEndings.{Ending, decides, undecided, ending_after, ending_from, ending_of}
+use Rattle.agreement.specs.RoundEndings.{Ending, decides, ending_after, ending_from, ending_of}
 use Rattle.agreement.specs.Canonical.{opening_calls, canonical_rounds, ending_on, first_decision, canonical_ending, CanonicalGives}
 use Rattle.agreement.proofs.Instances.{lawful, correct_stays_up, up_in_frame, up_correct}
 use Rattle.agreement.proofs.Refinement.{Begins}

@@ -19,7 +19,7 @@ use Rattle.drive_states.specs.State.{pattern}
 use Rattle.drive_sets.specs.Counts.Laws.{is_drive_range}
 use Rattle.agreement.specs.Calls.{initial, opening, decision_on}
 use Rattle.agreement.proofs.CallLaws.{opening_accepted, opening_same_table}
-use Rattle.sync_crash.specs.Rounds.{InFrame, start, after, decision}
+use Rattle.sync_crash.specs.Rounds.{InFrame, start, after}
 use Rattle.runs.specs.World.{Call, drive_of, opened, World, nothing_open, after_call, decision_of}
 use Rattle.agreement.specs.Document01.{document01, apply, apply_all, refused_in, opening_part}
 use Rattle.runs.specs.World as worlds

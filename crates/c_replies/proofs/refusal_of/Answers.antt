@@ -1,7 +1,6 @@
 -- 0, or the refusal's number.
 use mathlib.Core.Path.{sym, ap, ◌∙◌}
 use Rattle.c_replies.specs.Replies.{refusal_in}
-use borrow.Author.Rules.{rules}
 use Rattle.c_replies.proofs.refusal_of.Goals as goal
 
 pub returns-in-Refused : goal.returns-in-Refused

@@ -1,7 +1,6 @@
 -- The refusal's number.
 use mathlib.Core.Path.{ap}
 use Prim.Native.Nat.{ℕ}
-use borrow.Author.Rules.{rules}
 use Rattle.c_replies.proofs.refused_size.Goals as goal
 
 pub returns : goal.returns

@@ -3,7 +3,6 @@ use mathlib.Core.Path.{sym, ap, ◌∙◌}
 use Rattle.lent_bytes.specs.declared.Writing.{Writing}
 use Rattle.lent_bytes.specs.LentBuffers.{writing_outcome}
 use Rattle.c_replies.specs.Replies.{size_reply}
-use borrow.Author.Rules.{rules}
 use Rattle.c_replies.proofs.written_size.Goals as goal
 
 pub returns-in-Refused : goal.returns-in-Refused

@@ -1,7 +1,6 @@
 -- The sender of an announcement, or 0.
 use mathlib.Core.Path.{sym, ap}
 use Rattle.c_states.specs.Crossing.{announced_drive}
-use borrow.Author.Rules.{rules}
 use Rattle.c_states.proofs.announced_drive.Goals as goal
 
 pub returns-in-Absent : goal.returns-in-Absent

@@ -1,7 +1,6 @@
 -- The number of a decision, or 0.
 use mathlib.Core.Path.{sym, ap}
 use Rattle.c_states.specs.Crossing.{decided_number}
-use borrow.Author.Rules.{rules}
 use Rattle.c_states.proofs.decided_number.Goals as goal
 
 pub returns-in-Undecided : goal.returns-in-Undecided

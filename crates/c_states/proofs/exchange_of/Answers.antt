@@ -1,5 +1,4 @@
 -- Two parts are read by calls, the others are the fields.
-use borrow.Author.Rules.{rules}
 use Rattle.c_states.proofs.exchange_of.Goals as goal
 
 pub returns : goal.returns

@@ -1,5 +1,4 @@
 -- Six parts are made by calls, the others are the fields.
-use borrow.Author.Rules.{rules}
 use Rattle.c_states.proofs.state_of.Goals as goal
 
 pub returns : goal.returns

@@ -1,5 +1,4 @@
 -- One return for each case of the answer.
-use borrow.Author.Rules.{rules}
 use Rattle.c_states.proofs.state_reply.Goals as goal
 
 pub returns-in-Refused : goal.returns-in-Refused

@@ -2,7 +2,6 @@
 use borrow.Author.Tests.{lt-ltb, le-ltb}
 use Rattle.runs.specs.CrashRecords.{checked_crash}
 use Rattle.drive_crashes.specs.Crashes.{crash_record}
-use borrow.Author.Rules.{rules}
 use Rattle.drive_crashes.proofs.check_crash.Goals as goal
 
 pub returns-then-not-is_next : goal.returns-then-not-is_next

@@ -1,8 +1,6 @@
 -- A drive of the frame, above the last.
 use Rattle.runs.specs.CrashRecords.{is_next}
 use mathlib.Core.Path.{sym, ◌∙◌}
-use borrow.Author.Tests.{not-true, not-false}
-use borrow.Author.Rules.{rules}
 use Rattle.drive_crashes.proofs.is_next.Goals as goal
 
 pub returns-then-not-is_drive : goal.returns-then-not-is_drive

@@ -1,7 +1,6 @@
 -- The sends that a CR may have, of a core drive and of a listener.
 use Rattle.runs.specs.CrashRecords.{most_sends}
 use Rattle.drive_crashes.proofs.Sends.{most_none}
-use borrow.Author.Rules.{rules}
 use Rattle.drive_crashes.proofs.most_sends.Goals as goal
 
 pub returns-then-n-eq0 : goal.returns-then-n-eq0

@@ -2,7 +2,6 @@
 use Rattle.drive_sets.proofs.Words.{full_above, full_shift}
 use mathlib.Core.Path.{sym, ap}
 use Rattle.drive_sets.specs.Masks.{full}
-use borrow.Author.Rules.{rules}
 use Rattle.drive_sets.proofs.full.Goals as goal
 
 pub returns-then-n-eq0 : goal.returns-then-n-eq0

@@ -3,7 +3,6 @@ use Rattle.drive_sets.proofs.Words.{has_above, has_shift}
 use Rattle.drive_sets.specs.Masks.{has}
 use Prim.Native.Nat.{ℕ}
 use mathlib.Core.Path.{sym, ap}
-use borrow.Author.Rules.{rules}
 use Rattle.drive_sets.proofs.has.Goals as goal
 
 pub returns-then-i-eq0 : goal.returns-then-i-eq0

@@ -2,7 +2,6 @@
 use Rattle.drive_sets.specs.Masks.{union}
 use lib.Bits.{bit_or}
 use mathlib.Core.Path.{ap}
-use borrow.Author.Rules.{rules}
 use Rattle.drive_sets.proofs.insert.Goals as goal
 
 pub returns : goal.returns

@@ -5,7 +5,6 @@ use borrow.Author.Tests.{le-leb, lt-leb}
 use Rattle.drive_sets.specs.Bools.Laws.{and_first, and_second}
 use Rattle.drive_sets.specs.Masks.{size}
 use Rattle.drive_sets.specs.Counts.{is_round}
-use borrow.Author.Rules.{rules}
 use Rattle.drive_sets.proofs.is_round.Goals as goal
 
 pub returns-then-q-ge1 : goal.returns-then-q-ge1

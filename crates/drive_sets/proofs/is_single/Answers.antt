@@ -2,7 +2,6 @@
 use mathlib.Core.Path.{sym, ap, ◌∙◌}
 use Prim.Native.Nat.{ℕ}
 use lib.Dec.{eqb}
-use borrow.Author.Rules.{rules}
 use Rattle.drive_sets.specs.Masks.{size}
 use Rattle.drive_sets.specs.Masks.Sizes.{size_none}
 use Rattle.drive_sets.specs.Masks.Lowest.{one_cleared}

@@ -1,6 +1,5 @@
 -- The lowest drive alone, as its definition says; of an empty set none.
 use mathlib.Core.Path.{refl}
-use borrow.Author.Rules.{rules}
 use Rattle.drive_sets.specs.Masks.{minus, lowest_alone}
 use Rattle.drive_sets.proofs.lowest_alone.Goals as goal
 

@@ -1,6 +1,5 @@
 -- The complement within n drives.
 use Rattle.drive_sets.specs.Masks.{outside}
-use borrow.Author.Rules.{rules}
 use Rattle.drive_sets.proofs.outside.Goals as goal
 
 pub returns : goal.returns

@@ -2,7 +2,6 @@
 use Rattle.drive_sets.proofs.Words.{single_above, single_shift}
 use Rattle.drive_sets.specs.Masks.{single}
 use mathlib.Core.Path.{sym, ap}
-use borrow.Author.Rules.{rules}
 use Rattle.drive_sets.proofs.single.Goals as goal
 
 pub returns-then-i-eq0 : goal.returns-then-i-eq0

@@ -1,5 +1,5 @@
 -- Reading a message that was written gives it back, whether its numbers are narrow or wide; and how long it is.
-use Rattle.std.specs.Prelude.{◌≡◌, refl, Bool, true, false, not, cond, ℕ, ◌+◌, ◌*◌, ◌^◌, ◌<◌, ◌≤◌, length, drop}
+use Rattle.std.specs.Prelude.{◌≡◌, refl, Bool, true, false, not, cond, ℕ, ◌*◌, ◌^◌, ◌<◌, ◌≤◌, length, drop}
 use Rattle.std.proofs.Math.Path.{sym, ap, ap₂}
 use Rattle.std.proofs.Common.{◌∙◌, subst, length-append, take_at, take_all, drop_at, le-ltb}
 use mathlib.Core.List.{List, [], ◌∷◌, ◌++◌, map}

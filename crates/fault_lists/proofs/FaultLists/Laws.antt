@@ -19,7 +19,7 @@ use Rattle.survivor_tables.specs.Order.Normal.{normal_elem, normal_idempotent}
 use Rattle.survivor_tables.specs.Tables.{is_set, within_core_limit, checked_masks, normal_table, Accepted}
 use Rattle.survivor_tables.proofs.Tables.Laws.{Checked, masks_checked, checked_masks_law, checked_accepted, within_limit, frame_high, mask_group, group_mask, set_mask, set_some, sets_below, table_accepted, accepted_table, accepted_frame, accepted_normal, accepted_within_limit}
 use Rattle.survivor_tables.specs.Tables.Numbered.{limit_numbered, masks_numbered, normal_numbered}
-use Rattle.complete_tables.specs.Complete.{Complete, with_cores, complete_table}
+use Rattle.complete_tables.specs.Complete.{with_cores, complete_table}
 use Rattle.fault_lists.specs.FaultLists.{rests, rests_of, largest, table_from_faults, complete_from_faults, fault_list, faults_from_table}
 use Rattle.fault_lists.specs.FaultLists.Rests.{rest_number, length_rests, rests_elem, rests_below, rests_rests}
 use Rattle.fault_lists.proofs.FaultLists.Largest.{largest_rests, rests_largest}

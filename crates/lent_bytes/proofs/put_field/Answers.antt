@@ -1,10 +1,7 @@
 -- A field written from its first byte to its last; nothing where it does not fit.
-use borrow.Author.Rules.{rules}
-use Prim.Native.Nat.{◌-◌}
 use native.Mathlib.Nat.{sub-zero}
 use native.Mathlib.Omega.{arith}
-use Rattle.drive_sets.specs.Loops.Filling.{Filling, filling_start, filling_turn}
-use Rattle.records.specs.Fields.{to_bytes}
+use Rattle.drive_sets.specs.Loops.Filling.{filling_start, filling_turn}
 use Rattle.lent_bytes.proofs.FieldWrites.{field_next, writing_end, writing_none}
 use Rattle.lent_bytes.proofs.put_field.Goals as goal
 

@@ -1,7 +1,6 @@
 -- A mark, then the field over the part behind it; nothing where they do not fit.
 use native.Mathlib.Omega.{arith}
 use Rattle.lent_bytes.proofs.Parts.{record_written, record_none}
-use borrow.Author.Rules.{rules}
 use Rattle.lent_bytes.proofs.put_record.Goals as goal
 
 pub returns-then-part-lt2 : goal.returns-then-part-lt2

@@ -2,7 +2,6 @@
 use mathlib.Core.Path.{refl}
 use Rattle.exchange.specs.Replies.{reply_of}
 use Rattle.opening.proofs.Opens.{by_core}
-use borrow.Author.Rules.{rules}
 use Rattle.opening.proofs.open.Goals as goal
 
 pub returns-then-not-is_drive : goal.returns-then-not-is_drive

@@ -3,7 +3,6 @@ use borrow.Author.Tests.{eq-eqb, ne_eqb}
 use Rattle.drive_states.specs.Messages.{message_of}
 use Rattle.agreement.specs.Calls.{admitting}
 use Rattle.exchange.proofs.Rules.{replied_as}
-use borrow.Author.Rules.{rules}
 use Rattle.receiving.proofs.admit.Goals as goal
 
 pub returns-then-outside_core : goal.returns-then-outside_core

@@ -2,7 +2,6 @@
 use Rattle.drive_states.specs.Messages.{read_message}
 use Rattle.agreement.specs.Calls.{receiving}
 use Rattle.exchange.proofs.Rules.{replied_as}
-use borrow.Author.Rules.{rules}
 use Rattle.receiving.proofs.message.Goals as goal
 
 pub returns-then-is_broken : goal.returns-then-is_broken

@@ -2,7 +2,6 @@
 use borrow.Author.Tests.{eq-eqb, ne_eqb}
 use Rattle.drive_states.specs.Messages.{message_of}
 use Rattle.agreement.specs.Calls.{outside_core}
-use borrow.Author.Rules.{rules}
 use Rattle.receiving.proofs.outside_core.Goals as goal
 
 pub returns-then-sender-own : goal.returns-then-sender-own

@@ -2,7 +2,6 @@
 use borrow.Author.Tests.{lt-ltb, le-ltb}
 use Rattle.drive_states.specs.Messages.{message_of, checked}
 use Rattle.exchange.proofs.Rules.{replied_as}
-use borrow.Author.Rules.{rules}
 use Rattle.receiving.proofs.receive.Goals as goal
 
 pub returns-then-not-is_drive : goal.returns-then-not-is_drive

@@ -1,7 +1,6 @@
 -- Stopped, undecided, or the decision with its round.
 use borrow.Author.Tests.{eq-eqb, ne_eqb}
 use Rattle.simulated_decisions.specs.Endings.{ending_by, ending_for}
-use borrow.Author.Rules.{rules}
 use Rattle.simulation_replies.proofs.ending_of.Goals as goal
 
 pub returns-then-crashes : goal.returns-then-crashes

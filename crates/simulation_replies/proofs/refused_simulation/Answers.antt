@@ -4,7 +4,6 @@ use Prim.Native.Nat.{ℕ}
 use lib.ListN.{replicate}
 use Rattle.drive_sets.specs.Limits.{max_drives}
 use Rattle.simulation_replies.specs.declared.DriveEnding.{DriveEnding}
-use borrow.Author.Rules.{rules}
 use Rattle.simulation_replies.proofs.refused_simulation.Goals as goal
 
 pub returns : goal.returns

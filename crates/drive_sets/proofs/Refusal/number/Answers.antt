@@ -1,7 +1,6 @@
 -- `Refusal::number` gives each refusal its number: every arm is told which constructor it has.
 use mathlib.Core.Path.{sym, ap}
 use Rattle.drive_sets.specs.Refusals.{number}
-use borrow.Author.Rules.{rules}
 use Rattle.drive_sets.proofs.Refusal.number.Goals as goal
 
 pub returns-in-EndsTooSoon : goal.returns-in-EndsTooSoon

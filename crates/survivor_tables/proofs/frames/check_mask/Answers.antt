@@ -1,5 +1,4 @@
 -- One mask of a list, by what the list holds: the tests in order.
-use borrow.Author.Rules.{rules}
 use borrow.Author.Tests.{eq-eqb, ne_eqb}
 use Rattle.survivor_tables.specs.Tables.{checked_mask}
 use Rattle.survivor_tables.proofs.frames.check_mask.Goals as goal

@@ -1,7 +1,6 @@
 -- A set of the frame, two tests.
 use Rattle.survivor_tables.specs.Tables.{is_set}
 use borrow.Author.Tests.{eq-eqb, ne_eqb}
-use borrow.Author.Rules.{rules}
 use Rattle.survivor_tables.proofs.frames.is_set.Goals as goal
 
 pub returns-then-s-ne0 : goal.returns-then-s-ne0

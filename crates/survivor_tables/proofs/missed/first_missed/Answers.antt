@@ -1,5 +1,4 @@
 -- The first from the front on.
-use borrow.Author.Rules.{rules}
 use Rattle.survivor_tables.proofs.missed.first_missed.Goals as goal
 
 pub returns : goal.returns

@@ -1,13 +1,6 @@
 -- Each set tested, one after the other.
 use mathlib.Core.Path.{sym, ◌∙◌}
-use Prim.Native.Nat.{◌+◌, ◌-◌}
-use lib.ListN.{length, drop}
-use borrow.Author.Tests.{not-true, not-false}
-use Rattle.drive_sets.specs.Masks.{meets}
-use Rattle.drive_sets.specs.Lists.{first_failing}
-use Rattle.drive_sets.specs.Loops.Scan.{Scan, scan_from, failing_turn, failing_found, failing_end}
-use Rattle.survivor_tables.specs.Hitting.{missed_from}
-use borrow.Author.Rules.{rules}
+use Rattle.drive_sets.specs.Loops.Scan.{scan_from, failing_turn, failing_found, failing_end}
 use Rattle.survivor_tables.proofs.missed.next_missed.Goals as goal
 
 pub loop-i-init : goal.loop-i-init
