@@ -39,21 +39,22 @@ SECONDS_TO_END = 5
 
 # Whether a program stands
 
-def cited_crates() -> dict[str, list[str]]:
-    """The lines of crates.txt: each crate and the names that it cites."""
+def crate_lines() -> dict[str, tuple[str, list[str]]]:
+    """The lines of crates.txt: for each crate what stands before the colon, its name first, and the names that it
+    cites."""
     lines = (line.split("#")[0] for line in (ROOT / "crates.txt").read_text().splitlines())
-    pairs = (line.partition(":") for line in lines if line.strip())
-    return {name.strip(): cited.split() for name, _, cited in pairs}
+    parts = (line.partition(":") for line in lines if line.strip())
+    return {head.split()[0]: (" ".join(head.split()), cited.split()) for head, _, cited in parts}
 
 
 def needed_crates(name: str) -> list[str]:
     """A crate and all that it cites, directly or not; libraries of the toolchain are left out."""
-    cited, needed, waiting = cited_crates(), set(), [name]
+    lines, needed, waiting = crate_lines(), set(), [name]
     while waiting:
         crate = waiting.pop()
-        if crate in cited and crate not in needed:
+        if crate in lines and crate not in needed:
             needed.add(crate)
-            waiting += cited[crate]
+            waiting += lines[crate][1]
     return sorted(needed)
 
 
@@ -68,9 +69,10 @@ def crate_files(crate: str) -> list[Path]:
 
 def fingerprint(name: str) -> str:
     """One word for the contents of all that a program is proved from."""
-    cited, total = cited_crates(), hashlib.sha256()
+    lines, total = crate_lines(), hashlib.sha256()
     for crate in needed_crates(name):
-        total.update(f"{crate}: {' '.join(cited[crate])}\n".encode())
+        head, cited = lines[crate]
+        total.update(f"{head}: {' '.join(cited)}\n".encode())
         for path in crate_files(crate):
             content = hashlib.sha256(path.read_bytes()).hexdigest()
             total.update(f"{content} {path.relative_to(ROOT)}\n".encode())
@@ -78,7 +80,7 @@ def fingerprint(name: str) -> str:
 
 
 class Product(NamedTuple):
-    """What `rt` makes of a crate by one of its commands, and where it leaves it."""
+    """What `rt` makes of a crate by one of its commands, given in the crate's folder, and where it leaves it."""
 
     crate: str
     command: str
@@ -89,12 +91,18 @@ class Product(NamedTuple):
         return KEPT / f"{self.made.name}-{fingerprint(self.crate)}"
 
 
+def made_of(crate: str) -> Path:
+    """The folder that `rt` makes a crate's files in."""
+    return ROOT / "crates" / crate / "out"
+
+
 def program_of(crate: str) -> Product:
-    return Product(crate, "check", TARGET / "bin" / crate)
+    """`rt run` proves and builds a program, and runs it once, here on no input."""
+    return Product(crate, "run", made_of(crate) / crate)
 
 
 def archive_of(crate: str) -> Product:
-    return Product(crate, "staticlib", TARGET / "staticlib" / f"lib{crate}.a")
+    return Product(crate, "lib", made_of(crate) / f"lib{crate}.a")
 
 
 # Building
@@ -141,21 +149,25 @@ def end_group(process: subprocess.Popen) -> None:
 
 
 def follow(lines: Iterator[bytes], count: int) -> str:
-    """Copies the prover's text to the log and says which crates are proved; gives the first that is not."""
-    done, failed = 0, ""
+    """Copies the prover's text to the log and says which crates are proved; gives the first that is not. Of a crate
+    that stands as it was `rt` says nothing, and where one is proved, those that it cites are."""
+    done: set[str] = set()
+    crate = failed = ""
     with LOG.open("wb") as log:
         for line in lines:
             log.write(line)
             log.flush()
             text = line.decode("utf-8", "replace")
-            proved = re.match(r"rt: (\w+) proved \((.*)\)", text)
-            if proved:
-                done += 1
-                if not proved[2].startswith("unchanged"):
-                    say(f"proved {proved[1]}, {done} of {count} crates")
-            wrong = re.match(r"rt: (\w+) NOT PROVED", text)
-            if wrong and not failed:
-                failed = wrong[1]
+            checked = re.match(r"crate (\w+): ", text)
+            if checked:
+                crate = checked[1]
+            if crate and text.startswith("logic=proved "):
+                done.update(needed_crates(crate))
+                say(f"proved {crate}, {len(done)} of {count} crates")
+            if crate and text.startswith("logic=not-proved") and not failed:
+                failed = crate
+            if text.startswith("logic="):
+                crate = ""
     return failed
 
 
@@ -163,17 +175,15 @@ def prove(product: Product, lock: int) -> None:
     """Has `rt` prove and build a product, or raises a Failure."""
     rt, name = shutil.which("rt"), product.crate
     if rt is None:
-        hint = "; --unproved needs none" if product.command == "check" else ""
+        hint = "; --unproved needs none" if product.command == "run" else ""
         raise cannot_build(name, f"rt, the Rattle toolchain, is not on the PATH{hint}")
     count = len(needed_crates(name))
     KEPT.mkdir(parents=True, exist_ok=True)
-    if not product.made.is_file():
-        # rt looks at its stamp alone, and would not build what was removed
-        (TARGET / "stamp" / name).unlink(missing_ok=True)
     say(f"building {name} from {count} crates, which takes minutes if none is proved yet; the prover's text goes to"
         f" {LOG.relative_to(ROOT)}")
-    process = subprocess.Popen([rt, product.command, name], cwd=ROOT, stdin=subprocess.DEVNULL, stdout=subprocess.PIPE,
-                               stderr=subprocess.STDOUT, start_new_session=True, pass_fds=(lock,))
+    process = subprocess.Popen([rt, product.command, name], cwd=ROOT / "crates" / name, stdin=subprocess.DEVNULL,
+                               stdout=subprocess.PIPE, stderr=subprocess.STDOUT, start_new_session=True,
+                               pass_fds=(lock,))
     try:
         failed = follow(iter(process.stdout.readline, b""), count)
         status = process.wait()

@@ -1,16 +1,19 @@
 """Prints crates/threshold/src/group_counts.rt: the numbers of groups of t out of n drives, for n and t from 0 to 64,
-held at 1025, each entry on a line of its own, as `rt fmt` lays out a long list. With --check it prints nothing, and
-says where the file differs, with exit status 1.
+held at 1025, as many on a line as it has room for, as `rt fmt` lays out a long list. With --check it prints nothing,
+and says where the file differs, with exit status 1.
 """
 
 import sys
-from itertools import zip_longest
+import textwrap
+from itertools import chain, zip_longest
 from pathlib import Path
 
 ROOT = Path(__file__).resolve().parent.parent
 SOURCE = "crates/threshold/src/group_counts.rt"
 MOST = 64
 HELD = 1025
+# The longest line of numbers that `rt fmt` makes.
+WIDTH = 99
 
 HEAD = f"""\
 // The numbers of groups of t out of n drives, for n and t from 0 to {MOST}, held at {HELD}, at place {MOST + 1} n + t. Row 0 is 1 and
@@ -29,7 +32,9 @@ def rows() -> list[list[int]]:
 
 
 def source_lines() -> list[str]:
-    return [*HEAD.splitlines(), *(f"    {entry}," for row in rows() for entry in row), "];"]
+    entries = " ".join(f"{entry}," for entry in chain(*rows()))
+    indent = " " * 4
+    return [*HEAD.splitlines(), *textwrap.wrap(entries, WIDTH, initial_indent=indent, subsequent_indent=indent), "];"]
 
 
 def main(words: list[str]) -> int:

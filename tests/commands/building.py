@@ -15,37 +15,45 @@ from . import FAULTS, ROOT, SECONDS, Case, example, regdulyn
 import building as tool  # noqa: E402, from tools/
 import failures  # noqa: E402
 
-# What the table program needs, beside itself.
-NEEDED = [crate for crate in tool.needed_crates("table_program") if crate != "table_program"]
+# What the table program needs, beside itself, each behind those that it cites.
+NEEDED = sorted((crate for crate in tool.needed_crates("table_program") if crate != "table_program"),
+                key=lambda crate: (len(tool.needed_crates(crate)), crate))
 
+# The crates that something is built of.
+BUILT = (*tool.LIBRARY, "table_program", "convert_program")
+
+# `rt` says nothing of a crate that stands as it was, here the first.
 STAND_IN = """\
 #!/bin/sh
+made=$PWD/out
+cd ../..
 echo "$@" >>calls
-mkdir -p target/bin target/stamp
-count=0
-for crate in $(cat needed); do
-    count=$((count + 1))
-    echo "fn $crate::some: proved"
-    case $count in
-    1) echo "rt: $crate proved (unchanged since it was last proved)" ;;
-    *) echo "rt: $crate proved (7 s)" ;;
-    esac
+mkdir -p "$made"
+proved() {
+    echo "fn $1::some: proved"
+    echo "crate $1: modules loaded=0 checked=33"
+    echo "logic=proved functions=1 sum=7"
+}
+for crate in $(tail -n +2 needed); do
+    proved "$crate"
 done
 if test -e broken; then
-    echo "rt: $2 NOT PROVED (exit 1, 3 s)"
+    echo "fn $2::some: not proved"
+    echo "crate $2: modules loaded=0 checked=33"
+    echo "logic=not-proved"
     exit 1
 fi
-if test "$1" = staticlib; then
-    mkdir -p target/staticlib
+if test "$1" = lib; then
     cat answer >"member of $2"
-    ar rc "target/staticlib/lib$2.a" "member of $2"
+    ar rc "$made/lib$2.a" "member of $2"
     exit
 fi
 test ! -e slow || { sleep 300 & echo $! >sleeper; wait; }
 test ! -e pause || { touch paused; sleep 2; }
-printf '#!/bin/sh\\ncat >/dev/null\\necho "%s"\\n' "$(cat answer)" >target/bin/$2
-chmod +x target/bin/$2
-echo "rt: $2 proved (9 s)"
+printf '#!/bin/sh\\ncat >/dev/null\\necho "%s"\\n' "$(cat answer)" >"$made/$2"
+chmod +x "$made/$2"
+proved "$2"
+exec "$made/$2"
 """
 
 
@@ -58,7 +66,7 @@ def copy_of_repository(work: Path) -> tuple[Path, dict[str, str]]:
         shutil.copy(ROOT / name, copy / name)
     for name in ("tools", "reference"):
         shutil.copytree(ROOT / name, copy / name, ignore=shutil.ignore_patterns("__pycache__"))
-    for name in ("complete_tables", "table_program", "run_listing"):
+    for name in ("complete_tables", "run_listing", *BUILT):
         (copy / "crates" / name / "src").mkdir(parents=True)
         (copy / "crates" / name / "src" / "lib.rt").write_text(name)
     (bin_ / "rt").write_text(STAND_IN)
@@ -142,7 +150,7 @@ def builds(work: Path) -> Iterator[Case]:
     (copy / "answer").write_text("third")
     (copy / "crates/complete_tables/src/more.rt").unlink()
     yield "a file is gone", (table()[1], calls(copy)), (b"third\n", 4)
-    (copy / "target/bin/table_program").unlink()
+    (copy / "crates/table_program/out/table_program").unlink()
     yield "the command keeps its program", (table()[1], calls(copy)), (b"third\n", 4)
 
     yield from interrupts(copy, env, a)
@@ -214,7 +222,7 @@ def conversions(work: Path) -> Iterator[Case]:
         yield f"convert, {answer}, built", (status, printed, said.splitlines()[0].split(" from ")[0]), (
             *expected[:2], "regdulyn: building convert_program")
         yield f"convert, {answer}", regdulyn("convert", str(FAULTS), root=copy, env=env), expected
-    yield "convert, what is built", (copy / "calls").read_text(), "check convert_program\n" * 2
+    yield "convert, what is built", (copy / "calls").read_text(), "run convert_program\n" * 2
 
 
 def libraries(work: Path) -> Iterator[Case]:

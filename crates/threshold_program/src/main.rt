@@ -4,14 +4,26 @@
 // A third byte is refused; what stands behind it is left unread.
 #![tactic(auto)]
 
-use libc::{STDIN_FILENO, STDOUT_FILENO};
+ghost use Rattle.std.specs.Prelude.{IfSome, OnOk};
+ghost use Rattle.std.specs.Io.KnownBytes.{Appends};
+ghost use Rattle.threshold_files.specs.ThresholdFiles.{threshold_program};
+
+use program_io::{read_start, write_written};
+use std::io;
+use std::io::{Read, Write};
 use text::printing::MAX_TEXT;
 
-fn main() {
+// Prints what the program gives for the whole input, of which it reads the first bytes alone.
+fn answer<R: Read, W: Write>(from: &mut R, to: &mut W) -> io::Result<()>
+    ensures { OnOk result (IfSome (R.remaining from.old) (λ input. Appends (W.contents to.old) (W.contents to.new) (threshold_program input))) }
+{
     let mut input = [0u8; 3];
-    let n = io::read_full(STDIN_FILENO, &mut input);
+    let n = read_start(from, &mut input)?;
     let mut text = [0u8; MAX_TEXT];
     let w = threshold_files::threshold_file(&input[..n], &mut text, 0);
-    let size = text::printing::written(w, &text);
-    io::write_all(STDOUT_FILENO, &text[..size]);
+    write_written(to, w, &text)
+}
+
+fn main(rt: HostRuntime) -> io::Result<()> {
+    answer(&mut rt.stdin(), &mut rt.stdout())
 }

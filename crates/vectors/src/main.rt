@@ -8,7 +8,9 @@
 ghost use Rattle.std.specs.Prelude.{◌≤◌};
 
 use lent_bytes::Writing;
-use libc::{STDIN_FILENO, STDOUT_FILENO};
+use program_io::{read_start, write_written};
+use std::io;
+use std::io::Write;
 use text::printing::MAX_TEXT;
 
 // How many bytes of stored inputs are read.
@@ -38,23 +40,23 @@ fn list(s: &[u8], text: &mut [u8]) -> Writing {
 }
 
 // Prints what the input at the start gives.
-fn print(s: &[u8]) {
+fn print<W: Write>(s: &[u8], to: &mut W) -> io::Result<()> {
     let mut text = [0u8; MAX_TEXT];
     let w = list(s, &mut text);
-    let size = text::printing::written(w, &text);
-    io::write_all(STDOUT_FILENO, &text[..size]);
+    write_written(to, w, &text)
 }
 
-fn print_all(s: &[u8]) {
+fn print_all<W: Write>(s: &[u8], to: &mut W) -> io::Result<()> {
     let mut at = 0;
     while at < s.len() {
-        print(&s[at..]);
+        print(&s[at..], to)?;
         at += 3 + width(&s[at..]);
     }
+    Ok(())
 }
 
-fn main() {
+fn main(rt: HostRuntime) -> io::Result<()> {
     let mut input = [0u8; MAX_STORED];
-    let n = io::read_full(STDIN_FILENO, &mut input);
-    print_all(&input[..n]);
+    let n = read_start(&mut rt.stdin(), &mut input)?;
+    print_all(&input[..n], &mut rt.stdout())
 }

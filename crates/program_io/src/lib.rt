@@ -1,0 +1,37 @@
+// What the programs read and write: the start of an input, and the bytes of a text, over any reader and any writer.
+#![tactic(auto)]
+
+ghost use Rattle.std.specs.Prelude.{◌≡◌, IfOk, IfSome, OnOk, take, length, min};
+ghost use Rattle.std.specs.Io.{ReadsAtMost};
+ghost use Rattle.std.specs.Io.KnownBytes.{Appends, Consumes};
+ghost use Rattle.text.specs.Printing.{bytes_in};
+
+use lent_bytes::Writing;
+use std::io;
+use std::io::{Read, Write};
+
+// Reads until the buffer is full or the input ends; how many bytes. They are the first bytes of the input, and what
+// stands behind them is left unread.
+pub fn read_start<R: Read>(from: &mut R, buf: &mut [u8]) -> io::Result<usize>
+    ensures bounds { ReadsAtMost result buf.new }
+    ensures start { IfOk result (λ n. IfSome (R.remaining from.old) (λ input. take n buf.new ≡ take (length buf.old) input)) }
+    ensures left { IfOk result (λ n. Consumes (R.remaining from.old) (R.remaining from.new) (take n buf.new)) }
+{
+    let mut done = 0;
+    while done < buf.len() {
+        let n = from.read(&mut buf[done..])?;
+        if n == 0 {
+            break;
+        }
+        done += n;
+    }
+    Ok(done)
+}
+
+// Writes what an answer says of the first bytes of a text: as many as were written there, and none on a refusal.
+pub fn write_written<W: Write>(to: &mut W, w: Writing, text: &[u8]) -> io::Result<()>
+    ensures { OnOk result (Appends (W.contents to.old) (W.contents to.new) (take (min (bytes_in w) (length text.now)) text.now)) }
+{
+    let size = text::printing::written(w, text);
+    to.write_all(&text[..size])
+}

@@ -1,0 +1,2 @@
+-- Laws behind the proofs of this crate's functions.
+mod Prefixes
