@@ -22,7 +22,7 @@ use Rattle.runs.specs.World as worlds
 use Rattle.runs.specs.World.Laws.{Gives, by_opening, by_message, by_close, call_keeps, refused_keeps}
 use Rattle.runs.specs.Scenario.{Scenario}
 use Rattle.runs.specs.Runs.{due_opening, RoundProgress, nothing_yet, joined}
-use Rattle.runs.specs.Runs as anyRuns
+use Rattle.runs.specs.Runs as any_runs
 use Rattle.runs.specs.Runs.Laws.{due_opens, done_after, NotYet, not_yet}
 use Rattle.runs.specs.Statement.{is_close_of, part_at, calls_before}
 use Rattle.runs.specs.Statement as statements
@@ -113,23 +113,23 @@ call_lasts w c is_due t none d h =
 
 module _ (s : Scenario) where
   round_lasts : (r : ℕ) (w₀ : World) (b : RoundProgress) (w : World) (cs : List Call) → round_part s r w₀ b w cs ≡ true → Lasting w cs
-  unfolding anyRuns.round_part anyRuns.due
+  unfolding any_runs.round_part any_runs.due
   round_lasts r w₀ b w [] t = tt
   round_lasts r w₀ b w (c ∷ cs) t =
       let now = due s r w₀ b w c || refused_in w c in (
         call_lasts w c (due s r w₀ b w c) (and_left now _ t) (λ i d n sets own number h is. clash (sym (ap (due s r w₀ b w) is) ∙ i) refl),
-        round_lasts r w₀ (cond (due s r w₀ b w c) (anyRuns.noted document01 s r w₀ b w c) b) (apply w c) cs (and_right now _ t),
+        round_lasts r w₀ (cond (due s r w₀ b w c) (any_runs.noted document01 s r w₀ b w c) b) (apply w c) cs (and_right now _ t),
       )
 
   rounds_last : (r : ℕ) (w : World) (ps : List (List Call)) → round_parts s r w ps ≡ true → Lasting w (joined ps)
-  unfolding anyRuns.round_parts joined
+  unfolding any_runs.round_parts joined
   rounds_last r w [] t = tt
   rounds_last r w (p ∷ ps) t =
       let now = round_part s r w nothing_yet w p in
       lasting_append w p (joined ps) (round_lasts r w nothing_yet w p (and_left now _ t)) (rounds_last (suc r) (apply_all w p) ps (and_right now _ t))
 
   opening_lasts : (done : ℕ → Bool) (w : World) (cs : List Call) → NotYet done w → opening_part s done w cs ≡ true → Lasting w cs
-  unfolding anyRuns.opening_part decision_of is_decided drive_of
+  unfolding any_runs.opening_part decision_of is_decided drive_of
   opening_lasts done w [] none t = tt
   opening_lasts done w (c ∷ cs) none t =
       let now = due_opening s done c || refused_in w c in (

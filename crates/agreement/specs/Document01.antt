@@ -7,7 +7,7 @@ use Rattle.runs.specs.Protocol.{Protocol}
 use Rattle.runs.specs.World as worlds
 use Rattle.runs.specs.World.{Call, Slot, World}
 use Rattle.runs.specs.Scenario.{Scenario, core_of}
-use Rattle.runs.specs.Runs as anyRuns
+use Rattle.runs.specs.Runs as any_runs
 use Rattle.runs.specs.Runs.{RoundProgress}
 use Rattle.runs.specs.Statement as statements
 use Rattle.runs.specs.Statement.{Valid, DecidesAfter}
@@ -35,31 +35,31 @@ refused_in = worlds.refused_in document01
 -- ---- runs
 
 abbrev pub opening_part : Scenario → (ℕ → Bool) → World → List Call → Bool
-opening_part = anyRuns.opening_part document01
+opening_part = any_runs.opening_part document01
 
 abbrev pub sending_of : Slot → ℕ → ℕ → Outcome (List ℕ)
-sending_of = anyRuns.sending_of document01
+sending_of = any_runs.sending_of document01
 
 abbrev pub undelivered : Scenario → ℕ → World → RoundProgress → ℕ → List ℕ → ℕ → Bool
-undelivered = anyRuns.undelivered document01
+undelivered = any_runs.undelivered document01
 
 abbrev pub arrived : Scenario → ℕ → World → RoundProgress → ℕ → ℕ → Bool
-arrived = anyRuns.arrived document01
+arrived = any_runs.arrived document01
 
 abbrev pub due : Scenario → ℕ → World → RoundProgress → World → Call → Bool
-due = anyRuns.due document01
+due = any_runs.due document01
 
 abbrev pub noted : Scenario → ℕ → World → RoundProgress → World → Call → RoundProgress
-noted = anyRuns.noted document01
+noted = any_runs.noted document01
 
 abbrev pub round_part : Scenario → ℕ → World → RoundProgress → World → List Call → Bool
-round_part = anyRuns.round_part document01
+round_part = any_runs.round_part document01
 
 abbrev pub round_parts : Scenario → ℕ → World → List (List Call) → Bool
-round_parts = anyRuns.round_parts document01
+round_parts = any_runs.round_parts document01
 
 abbrev pub Run : Scenario → List Call → Type 0
-Run = anyRuns.Run document01
+Run = any_runs.Run document01
 
 abbrev pub leave_undecided : ℕ → World → List Call → Bool
 leave_undecided = statements.leave_undecided document01

@@ -61,4 +61,4 @@ module _ {A : Type 0} where
 
   -- a refusal is its number alone: all else is what it is beside each such refusal
   abbrev pub Alone : (A → Answer) → (Refusal → A) → A → Type 0
-  Alone answer refusedAs a = (r : Refusal) → answer a ≡ Refused r → a ≡ refusedAs r
+  Alone answer refused_as a = (r : Refusal) → answer a ≡ Refused r → a ≡ refused_as r

@@ -20,7 +20,7 @@ use Rattle.runs.specs.Scenario.{Crash, Scenario, frame, gone_before, gone_by}
 use Rattle.agreement.proofs.SendLists.{receivers_masks}
 use Rattle.agreement.specs.Sends.{receivers, list_of, cut, reach}
 use Rattle.runs.specs.Runs.{sender, closer, joined}
-use Rattle.runs.specs.Runs as anyRuns
+use Rattle.runs.specs.Runs as any_runs
 use Rattle.agreement.specs.Canonical.{room, deliveries, message_calls, round_calls}
 use Rattle.drive_crashes.specs.declared.Crashes.{Crashes}
 use Rattle.simulated_sends.specs.States.{state_at, world_of, list_for}
@@ -58,7 +58,7 @@ module _ (n core : ℕ) (c : Crashes) (s : Scenario) (few : n ≤ 64) (within : 
 
     same_messages : (d : ℕ) → is_drive n d ≡ true
         → deliveries (sending_of (world d) room 0) (reach s r d) ≡ deliveries (sending (state_at states d) room 0) (cut (crash_at c d) r (list_for n core d))
-    unfolding reach anyRuns.sending_of
+    unfolding reach any_runs.sending_of
     same_messages d h =
         ap₂ deliveries (ap (λ (slot : Slot). sending_of slot room 0) (world_at n states d h))
         (ap₂ (λ (q : Crash) (l : List ℕ). cut q r l) (g.crash_is d) (list_for_law d h))

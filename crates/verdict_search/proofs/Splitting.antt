@@ -7,7 +7,7 @@ use native.Mathlib.Omega.{arith}
 use lib.ListN.{length, get_or, take, drop, set, length-map, drop_of_length-le}
 use lib.Seq.{get_or-take, length-take-le}
 use Rattle.drive_sets.specs.Lists.{elem}
-use Rattle.drive_sets.specs.Lists.Places.{get_or_elem, get_d_map}
+use Rattle.drive_sets.specs.Lists.Places.{get_or_elem, get_or_map}
 use Rattle.drive_sets.specs.Loops.Filling.{Filling, filling_turn, filling_end}
 use Rattle.drive_sets.specs.Loops.Scan.{drop_next}
 use Rattle.drive_sets.specs.Masks.{union, outside}
@@ -25,7 +25,7 @@ module _ (table positions : List ℕ) (k : ℕ) (room : k ≤ length positions) 
   module _ (i : ℕ) (h : i < k) where
     pub is_named : get_or (sets_at table (take k positions)) i 0 ≡ set_at table (get_or positions i 0)
     is_named =
-        get_d_map (set_at table) (take k positions) i (omega (arith, length-take-le k positions room))
+        get_or_map (set_at table) (take k positions) i (omega (arith, length-take-le k positions room))
         ∙ ap (set_at table) (get_or-take k positions i 0 h)
 
     named_elem : elem (get_or positions i 0) (take k positions) ≡ true

@@ -28,7 +28,7 @@ use Rattle.runs.specs.World as worlds
 use Rattle.runs.specs.World.Laws.{Gives, by_message, put_same, put_other, call_keeps}
 use Rattle.runs.specs.Scenario.{Scenario, core_of, frame}
 use Rattle.runs.specs.Runs.{wrote, RoundProgress, is_called, wrote_just, settled, sent_by, lacks_room, sender}
-use Rattle.runs.specs.Runs as anyRuns
+use Rattle.runs.specs.Runs as any_runs
 use Rattle.runs.specs.Runs.Laws.{same_list_true}
 use Rattle.runs.specs.Statement.{Valid}
 use Rattle.agreement.specs.Document01.{document01, sending_of, undelivered, arrived, due, noted}
@@ -60,16 +60,16 @@ module _ {s : Scenario} (ok : Valid s) {k : ℕ} (round : k < size (core_of s)) 
 
   module _ (d room start : ℕ) (t : due s (suc k) w₀ b w (sends d room start) ≡ true) where
     by_sender : Sender (instance_of s) k d
-    unfolding anyRuns.due
+    unfolding any_runs.due
     by_sender = true_sender ok round begins d (search (and_left, and_right))
 
     not_closed_yet : b.closed d ≡ false
-    unfolding anyRuns.due
+    unfolding any_runs.due
     not_closed_yet =
         false_of (b.closed d) (λ h. clash ((g.closed d h).own_sent by_sender.in_core) (search (and_left, and_right, not-true)))
 
     gave : sending_of (w d) room start ≡ yields (message_of (instance_of s) k d)
-    unfolding anyRuns.due anyRuns.sending_of lacks_room
+    unfolding any_runs.due any_runs.sending_of lacks_room
     gave =
         let message = message_of (instance_of s) k d in
         let i = delivered_round ((lawful ok).in_frame by_sender.in_core) in
@@ -84,11 +84,11 @@ module _ {s : Scenario} (ok : Valid s) {k : ℕ} (round : k < size (core_of s)) 
     sent_then = noted s (suc k) w₀ b w (sends d room start)
 
     sent_here : sent_then.sent d ≡ wrote (message_of (instance_of s) k d)
-    unfolding anyRuns.noted sent_by
+    unfolding any_runs.noted sent_by
     sent_here = cond_true _ _ (eq-eqb d d refl) ∙ ap sent_by gave
 
     sent_elsewhere : (y : ℕ) → eqb y d ≡ false → sent_then.sent y ≡ b.sent y
-    unfolding anyRuns.noted
+    unfolding any_runs.noted
     sent_elsewhere y h = cond_false _ _ h
 
     called_then : (y : ℕ) → is_called (b.sent y) ≡ true → is_called (sent_then.sent y) ≡ true
@@ -96,7 +96,7 @@ module _ {s : Scenario} (ok : Valid s) {k : ℕ} (round : k < size (core_of s)) 
     called_then y h = by_test (eqb y d) (λ e. rw (eqb-true y d e) (ap is_called sent_here)) (λ e. ap is_called (sent_elsewhere y e) ∙ h)
 
     pub follows_sends : Follows s k w₀ sent_then w
-    unfolding anyRuns.noted
+    unfolding any_runs.noted
     follows_sends = record {
       sent = λ y. by_test (eqb y d)
           (λ e. inr (subst (HasSent s k sent_then.sent) (sym (eqb-true y d e)) (record { sender = by_sender; written = sent_here })))
@@ -113,7 +113,7 @@ module _ {s : Scenario} (ok : Valid s) {k : ℕ} (round : k < size (core_of s)) 
   module _ (e : ℕ) (bytes : List ℕ) (d : ℕ) (t : undelivered s (suc k) w₀ b e bytes d ≡ true) where
     -- who wrote just these bytes has sent, and they are its message
     message_sent : HasSent s k b.sent d × (message_of (instance_of s) k d ≡ bytes)
-    unfolding anyRuns.undelivered wrote_just
+    unfolding any_runs.undelivered wrote_just
     message_sent =
         let wrote_it : wrote_just (b.sent d) bytes ≡ true = search (and_left, and_right) in
         ⊎_elim
@@ -122,11 +122,11 @@ module _ {s : Scenario} (ok : Valid s) {k : ℕ} (round : k < size (core_of s)) 
         (g.sent d)
 
     on_list : elem e (reach s (suc k) d) ≡ true
-    unfolding anyRuns.undelivered
+    unfolding any_runs.undelivered
     on_list = search (and_left, and_right)
 
     not_delivered : b.delivered d e ≡ false
-    unfolding anyRuns.undelivered
+    unfolding any_runs.undelivered
     not_delivered = search (and_right, not-true)
 
     d_reaches : reaches_in s k d e ≡ true
@@ -183,15 +183,15 @@ module _ {s : Scenario} (ok : Valid s) {k : ℕ} (round : k < size (core_of s)) 
 
   module _ (e : ℕ) (t : due s (suc k) w₀ b w (closes e) ≡ true) where
     pub close_closer : Closer (instance_of s) k e
-    unfolding anyRuns.due
+    unfolding any_runs.due
     close_closer = true_closer ok round begins e (search (and_left, and_right))
 
     pub not_closed : b.closed e ≡ false
-    unfolding anyRuns.due
+    unfolding any_runs.due
     not_closed = search (and_left, and_right, not-true)
 
     own_sent : has e (core_of s) ≡ true → is_called (b.sent e) ≡ true
-    unfolding anyRuns.due
+    unfolding any_runs.due
     own_sent i =
         ⊎_elim
         (λ h. absurd (clash (sender_true ok round begins (active_sends (lawful ok) i (closer_active (lawful ok) close_closer))) (not-true _ h)))
@@ -208,7 +208,7 @@ module _ {s : Scenario} (ok : Valid s) {k : ℕ} (round : k < size (core_of s)) 
         (g.sent d)
 
     all_came : (d : ℕ) → reaches_in s k d e ≡ true → b.delivered d e ≡ true
-    unfolding anyRuns.due anyRuns.arrived frame
+    unfolding any_runs.due any_runs.arrived frame
     all_came d h =
         let r = reaches_true (lawful ok) k d e h in
         ⊎_elim

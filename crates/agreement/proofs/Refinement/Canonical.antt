@@ -21,7 +21,7 @@ use Rattle.runs.specs.Scenario.{Scenario, frame, core_of}
 use Rattle.runs.specs.Scenario.Laws.{frame_distinct}
 use Rattle.agreement.specs.Document01.{apply, apply_all, refused_in, opening_part, sending_of, round_parts, Run}
 use Rattle.runs.specs.Runs.{due_opening, sender}
-use Rattle.runs.specs.Runs as anyRuns
+use Rattle.runs.specs.Runs as any_runs
 use Rattle.runs.specs.Runs.Laws.{is_table_law}
 use Rattle.agreement.specs.Instance.{instance_of}
 use Rattle.agreement.specs.Canonical.{room, opening_calls, round_calls, rounds_from, canonical_rounds, canonical}
@@ -50,7 +50,7 @@ module _ {s : Scenario} (ok : Valid s) where
   -- where those of the list are still to come
   openings_part : (rest : List ℕ) (done : ℕ → Bool) (w : World) → distinct rest ≡ true → ((x : ℕ) → elem x rest ≡ true → (elem x (frame s) ≡ true) × (done x ≡ false))
       → ((x : ℕ) → elem x (frame s) ≡ true → (done x || elem x rest) ≡ true) → opening_part s done w (map opening_of rest) ≡ true
-  unfolding anyRuns.opening_part drive_of elem any
+  unfolding any_runs.opening_part drive_of elem any
   openings_part [] done w o new all_done = all_intro done (frame s) (λ x h. rw (elem_none x, or_false (done x)) at (all_done x h))
   openings_part (a ∷ rest) done w o new all_done =
       let n = new a (elem_head a rest) in
@@ -69,7 +69,7 @@ module _ {s : Scenario} (ok : Valid s) where
 module _ {s : Scenario} (ok : Valid s) where
   writes_message : {k : ℕ} {w : World} → k < size (core_of s) → Begins s k w → (d : ℕ) → sender s (suc k) w d ≡ true
       → sending_of (w d) room 0 ≡ yields (message_of (instance_of s) k d)
-  unfolding anyRuns.sending_of
+  unfolding any_runs.sending_of
   writes_message {k} {w} round begins d t =
       let by = true_sender ok round begins d t in
       let at-start : InRound (instance_of s) k d (λ y. false) =
@@ -78,7 +78,7 @@ module _ {s : Scenario} (ok : Valid s) where
       ∙ sending_state (lawful ok) (bounded ok) at-start by.in_core room 0 (omega (arith, length_message (instance_of s) k d))
 
   rounds_canonical : (m k : ℕ) (w : World) → k + m ≡ size (core_of s) → Begins s k w → round_parts s (suc k) w (rounds_from s m (suc k) w) ≡ true
-  unfolding anyRuns.round_parts rounds_from
+  unfolding any_runs.round_parts rounds_from
   rounds_canonical zero k w e b = refl
   rounds_canonical (suc m) k w e b =
       let part = round_canonical s (suc k) w (message_of (instance_of s) k) (writes_message (omega arith) b) in

@@ -23,7 +23,7 @@ use Rattle.runs.specs.Scenario.Laws.{frame_rising, kept_distinct}
 use Rattle.agreement.specs.Sends.{reach}
 use Rattle.agreement.proofs.SendLists.{reach_distinct}
 use Rattle.runs.specs.Runs.{pending, wrote, RoundProgress, nothing_yet, is_called, wrote_just, settled, sent_by, lacks_room, sender, closer, complete}
-use Rattle.runs.specs.Runs as anyRuns
+use Rattle.runs.specs.Runs as any_runs
 use Rattle.runs.specs.Runs.Laws.{same_list_refl}
 use Rattle.agreement.specs.Canonical.{room, deliveries, message_calls, round_calls}
 
@@ -36,7 +36,7 @@ module _ (s : Scenario) (r : ℕ) (w₀ : World) where
   -- a due call is noted
   part_due : (b : RoundProgress) (w : World) (c : Call) (cs : List Call) → due s r w₀ b w c ≡ true
       → round_part s r w₀ b w (c ∷ cs) ≡ round_part s r w₀ (noted s r w₀ b w c) (apply w c) cs
-  unfolding anyRuns.round_part
+  unfolding any_runs.round_part
   part_due b w c cs h = rw h refl
 
   -- a's call is due where it has not been made, and is noted; `at p` is the progress in which those of p have been made
@@ -85,7 +85,7 @@ module _ (s : Scenario) (r : ℕ) (w₀ : World) where
     sent_now a w q p x = by_test (eqb x a) (λ e. rw (e, eqb-true x a e, q) refl) (λ e. rw e refl)
 
     send_step : (a : ℕ) → elem a senders ≡ true → Step Writes (λ d. sends d room 0) (λ p. progress p (λ x y. false) (λ x. false)) a
-    unfolding anyRuns.due anyRuns.noted worlds.apply is_called lacks_room
+    unfolding any_runs.due any_runs.noted worlds.apply is_called lacks_room
     send_step a i =
         let h = (kept (sender s r w₀) a (frame s) i).1 in
         record {
@@ -106,13 +106,13 @@ module _ (s : Scenario) (r : ℕ) (w₀ : World) where
         now q = progress called (λ x y. (eqb x a && q y) || D x y) (λ x. false)
 
         is_undelivered : (q : ℕ → Bool) (e : ℕ) → elem e (reach s r a) ≡ true → q e ≡ false → undelivered s r w₀ (now q) e (written a) a ≡ true
-        unfolding anyRuns.undelivered wrote_just
+        unfolding any_runs.undelivered wrote_just
         is_undelivered q e to n =
             rw (is a, here, to, n, and-false (eqb a a), new a e (elem_head a l)) (and_intro (and_intro (same_list_refl (written a)) refl) refl)
 
         -- all messages of a sender before a have been delivered
         earlier_delivered : (q : ℕ → Bool) (e x : ℕ) → x < a → undelivered s r w₀ (now q) e (written a) x ≡ false
-        unfolding anyRuns.undelivered wrote_just
+        unfolding any_runs.undelivered wrote_just
         earlier_delivered q e x lt =
             by_test (elem x senders)
             (λ i. false_of _ (λ h. clash
@@ -122,7 +122,7 @@ module _ (s : Scenario) (r : ℕ) (w₀ : World) where
             (λ i. rw (is x, i) refl)
 
         message_step : (e : ℕ) → elem e (reach s r a) ≡ true → Step (λ w. Unit {0}) (λ y. delivers y (written a)) now e
-        unfolding anyRuns.due anyRuns.noted
+        unfolding any_runs.due any_runs.noted
         message_step e to = record {
           is_due_law = λ q w n h. any_intro (undelivered s r w₀ (now q) e (written a)) (frame s) a (kept (sender s r w₀) a (frame s) here).0 (is_undelivered q e to n);
           is_noted = λ q w n h. rw (first_kept_least (undelivered s r w₀ (now q) e (written a)) (frame s) a (frame_rising s)
@@ -167,14 +167,14 @@ module _ (s : Scenario) (r : ℕ) (w₀ : World) where
         is_called_law closed d i h = rw (is d, sends_sender d i h) refl
 
         has_arrived : (closed : ℕ → Bool) (e d : ℕ) → elem d (frame s) ≡ true → arrived s r w₀ (progress called D closed) e d ≡ true
-        unfolding anyRuns.arrived settled
+        unfolding any_runs.arrived settled
         has_arrived closed e d i =
             unless (sender s r w₀ d && elem e (reach s r d)) (λ h.
             let sent = sends_sender d i (and_left (sender s r w₀ d) _ h) in
             rw (is d, sent) (came d e sent (and_right (sender s r w₀ d) _ h)))
 
         close_step : (a : ℕ) → elem a closers ≡ true → Step (λ w. Unit {0}) closes (progress called D) a
-        unfolding anyRuns.due anyRuns.noted
+        unfolding any_runs.due any_runs.noted
         close_step a i =
             let h = kept (closer s r w₀) a (frame s) i in
             record {
@@ -192,7 +192,7 @@ module _ (s : Scenario) (r : ℕ) (w₀ : World) where
             (all_intro _ (frame s) (λ d i. unless (closer s r w₀ d) (λ h. e d ∙ or_left false (elem_filter (closer s r w₀) d (frame s) ∙ and_intro i h))))
 
         closes_part : (w : World) → round_part s r w₀ (progress called D (λ x. false)) w (map closes closers) ≡ true
-        unfolding anyRuns.round_part
+        unfolding any_runs.round_part
         closes_part w =
             rw (← append-nil (map closes closers))
             (one_by_one (λ w. Unit {0}) closes (progress called D) closers [] (kept_distinct s (closer s r w₀)) close_step (λ x. false) (λ x g. refl)

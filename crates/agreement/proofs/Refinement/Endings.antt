@@ -19,7 +19,7 @@ use Rattle.runs.specs.World.{Call, World, nothing_open}
 use Rattle.agreement.specs.Document01.{apply_all, round_part, round_parts}
 use Rattle.runs.specs.Scenario.{Scenario, core_of}
 use Rattle.runs.specs.Runs.{nothing_yet}
-use Rattle.runs.specs.Runs as anyRuns
+use Rattle.runs.specs.Runs as any_runs
 use Rattle.agreement.specs.Instance.{instance_of}
 use Rattle.runs.specs.Statement.{Valid, Up}
 use Rattle.agreement.specs.RoundEndings.{Ending, decides, ending_after, ending_from, ending_of}
@@ -95,7 +95,7 @@ module _ {s : Scenario} (ok : Valid s) {d : ℕ} (u : Up s d) where
   -- the parts ps are those of rounds k + 1, ..
   parts_give : (ps : List (List Call)) (k : ℕ) (w : World) → Begins s k w → k + length ps ≤ size (core_of s) → round_parts s (suc k) w ps ≡ true
       → first_decision d (suc k) w ps ≡ ending_from (instance_of s) d k (length ps)
-  unfolding first_decision ending_from anyRuns.round_parts
+  unfolding first_decision ending_from any_runs.round_parts
   parts_give [] k w b few t = refl
   parts_give (p ∷ ps) k w b few t =
       let now = round_part s (suc k) w nothing_yet w p in

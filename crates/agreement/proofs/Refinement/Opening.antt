@@ -26,7 +26,7 @@ use Rattle.runs.specs.World as worlds
 use Rattle.runs.specs.World.Laws.{put_same, apply_other, refused_keeps}
 use Rattle.runs.specs.Scenario.{Scenario, core_of, frame}
 use Rattle.runs.specs.Runs.{due_opening}
-use Rattle.runs.specs.Runs as anyRuns
+use Rattle.runs.specs.Runs as any_runs
 use Rattle.runs.specs.Runs.Laws.{Opens, due_opens, done_after}
 use Rattle.agreement.specs.Instance.{instance_of}
 use Rattle.runs.specs.Statement.{Valid}
@@ -102,7 +102,7 @@ module _ {s : Scenario} (ok : Valid s) where
 
   all_open : (done : ℕ → Bool) (w : World) (calls : List Call) → AreOpen done w → opening_part s done w calls ≡ true → (d : ℕ) → InFrame (instance_of s) d
       → apply_all w calls d ≡ opened (state_of (instance_of s) 0 d (λ x. false))
-  unfolding anyRuns.opening_part worlds.apply_all frame
+  unfolding any_runs.opening_part worlds.apply_all frame
   all_open done w [] g t d f = g d f (all_elem done (frame s) d t f)
   all_open done w (c ∷ calls) g t d f =
       let now = due_opening s done c || refused_in w c in

@@ -20,7 +20,7 @@ use Rattle.runs.specs.World as worlds
 use Rattle.runs.specs.World.Laws.{refused_keeps}
 use Rattle.runs.specs.Scenario.{Scenario, core_of, frame}
 use Rattle.runs.specs.Runs.{RoundProgress, nothing_yet, closer, complete}
-use Rattle.runs.specs.Runs as anyRuns
+use Rattle.runs.specs.Runs as any_runs
 use Rattle.agreement.specs.Instance.{instance_of}
 use Rattle.runs.specs.Statement.{Valid}
 use Rattle.agreement.proofs.Instances.{lawful, bounded, core_round}
@@ -34,7 +34,7 @@ module _ {s : Scenario} (ok : Valid s) {k : ℕ} (round : k < size (core_of s)) 
   -- ---- one call
 
   follows_due : (b : RoundProgress) (w : World) (c : Call) → Follows s k w₀ b w → due s (suc k) w₀ b w c ≡ true → Follows s k w₀ (noted s (suc k) w₀ b w c) (apply w c)
-  unfolding anyRuns.due anyRuns.noted worlds.apply
+  unfolding any_runs.due any_runs.noted worlds.apply
   follows_due b w (opens d n sets own number) g t = absurd (clash t refl)
   follows_due b w (sends d room start) g t = follows_sends ok round begins g d room start t
   follows_due b w (delivers e bytes) g t =
@@ -77,7 +77,7 @@ module _ {s : Scenario} (ok : Valid s) {k : ℕ} (round : k < size (core_of s)) 
     is_complete : complete s (suc k) w₀ progress ≡ true
 
   part_ended : (b : RoundProgress) (w : World) (calls : List Call) → Follows s k w₀ b w → round_part s (suc k) w₀ b w calls ≡ true → Ended (apply_all w calls)
-  unfolding anyRuns.round_part worlds.apply_all
+  unfolding any_runs.round_part worlds.apply_all
   part_ended b w [] g t = record { progress = b; follows = g; is_complete = t }
   part_ended b w (c ∷ calls) g t =
       part_ended (progress_after s k w₀ b w c) (apply w c) calls (follows_call b w c g (and_left (allowed s k w₀ b w c) _ t)) (and_right (allowed s k w₀ b w c) _ t)

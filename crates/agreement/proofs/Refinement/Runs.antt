@@ -24,7 +24,7 @@ use Rattle.runs.specs.World as worlds
 use Rattle.runs.specs.World.Laws.{apply_all_append, put_same, refused_keeps}
 use Rattle.runs.specs.Scenario.{Scenario, core_of}
 use Rattle.runs.specs.Runs.{RoundProgress, nothing_yet, joined}
-use Rattle.runs.specs.Runs as anyRuns
+use Rattle.runs.specs.Runs as any_runs
 use Rattle.runs.specs.Runs.Laws.{closed_by}
 use Rattle.runs.specs.Statement.{Valid, Up, part_at, calls_before, DecidesAfter}
 use Rattle.agreement.specs.Document01.{document01, apply, apply_all, due, round_part, round_parts, Run}
@@ -76,7 +76,7 @@ module _ {s : Scenario} (ok : Valid s) where
 
     close_found : (b : RoundProgress) (w : World) (calls : List Call) (d : ℕ) → Closer (instance_of s) k d → b.closed d ≡ false → Follows s k w₀ b w
         → round_part s (suc k) w₀ b w calls ≡ true → ClosesIn s k w calls d
-    unfolding anyRuns.round_part worlds.apply_all
+    unfolding any_runs.round_part worlds.apply_all
     close_found b w [] d c o g t = absurd (clash (closer_closed ok round begins b t c) o)
     close_found b w (x ∷ calls) d c o g t =
         let b' = progress_after s k w₀ b w x in
@@ -91,7 +91,7 @@ module _ {s : Scenario} (ok : Valid s) where
         → round_part s (suc k) w₀ b w (earlier ++ (closes d ∷ later)) ≡ true
         → decision_of (apply_all w earlier d) ≡ Undecided → decision_of (apply (apply_all w earlier) (closes d) d) ≡ Decided (record { 0 = v })
         → DecidesIn (instance_of s) d v k
-    unfolding anyRuns.round_part worlds.apply_all
+    unfolding any_runs.round_part worlds.apply_all
     close_decides b w [] later d v g t o m =
         by_test (due s (suc k) w₀ b w (closes d))
         (λ i. let c = due_close g d i in record { undecided = undecided_none _ (sym c.before ∙ o); decided = decided_some _ (sym c.after ∙ m) })
@@ -110,7 +110,7 @@ module _ {s : Scenario} (ok : Valid s) where
 
   rounds_at : (ps : List (List Call)) (k : ℕ) (w : World) → Begins s k w → k + length ps ≡ size (core_of s) → round_parts s (suc k) w ps ≡ true
       → (j m : ℕ) → m ≡ k + j → j ≤ length ps → At m (apply_all w (joined (take j ps))) (get_or ps j [])
-  unfolding anyRuns.round_parts joined worlds.apply_all
+  unfolding any_runs.round_parts joined worlds.apply_all
   rounds_at [] k w b h t zero m e l = let is : m ≡ k = omega arith in rw is (record { begins = b; part = λ less. absurd (omega arith) })
   rounds_at (p ∷ ps) k w b h t zero m e l =
       let is : m ≡ k = omega arith in rw is (record { begins = b; part = λ less. and_left (round_part s (suc k) w nothing_yet w p) _ t })

@@ -11,7 +11,7 @@ use Rattle.drive_states.specs.declared.Decision.TheVariants.{Decided}
 use Rattle.drive_states.specs.State.{pattern}
 use Rattle.runs.specs.World as worlds
 use Rattle.runs.specs.World.{Call, opens, sends, delivers, closes, drive_of, Slot, unopened, opened, is_refused, decision_of}
-use Rattle.runs.specs.Runs as anyRuns
+use Rattle.runs.specs.Runs as any_runs
 use Rattle.runs.specs.Statement.{Agreement}
 use Rattle.agreement.specs.Calls.{opening, sending, receiving, closing}
 use Rattle.agreement.specs.Document01.{refused_by, sending_of}
@@ -62,7 +62,7 @@ module _ (store : Store) (calls : List Call) where
 
   open_sends : (d : ℕ) (x : Exchange) → world_after calls d ≡ opened x → (room start : ℕ)
       → sending (exchange_of (kept_from store calls d)) room start ≡ sending_of (world_after calls d) room start
-  unfolding anyRuns.sending_of
+  unfolding any_runs.sending_of
   open_sends d x there room start =
       ap (λ (y : Exchange). sending y room start) (open_back d x there) ∙ sym (ap (λ (slot : Slot). sending_of slot room start) there)
 

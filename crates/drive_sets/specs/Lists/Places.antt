@@ -46,10 +46,10 @@ module _ (f : ℕ → ℕ) where
       (λ q. let w = map_elem y l q in (w.0, elem_tail w.0 x l w.1, w.2))
       (elem_cases y (f x) (map f l) e)
 
-  pub get_d_map : (l : List ℕ) (i : ℕ) → i < length l → get_or (map f l) i 0 ≡ f (get_or l i 0)
-  get_d_map [] i h = absurd (omega arith)
-  get_d_map (x ∷ l) zero h = refl
-  get_d_map (x ∷ l) (suc i) h = get_d_map l i (omega arith)
+  pub get_or_map : (l : List ℕ) (i : ℕ) → i < length l → get_or (map f l) i 0 ≡ f (get_or l i 0)
+  get_or_map [] i h = absurd (omega arith)
+  get_or_map (x ∷ l) zero h = refl
+  get_or_map (x ∷ l) (suc i) h = get_or_map l i (omega arith)
 
 -- functions that agree on the list have the same image
 module _ {A : Type 0} where

@@ -52,11 +52,11 @@ pub same_refusal : {q r : Refusal} → Refused q ≡ Refused r → q ≡ r
 same_refusal e = cc
 
 -- a value that its refusal makes, or that is accepted, is the one that the refusal makes wherever it is refused
-module _ {A : Type 0} (answer : A → Answer) (refusedAs : Refusal → A) (is : (q : Refusal) → answer (refusedAs q) ≡ Refused q) where
-  pub refused_alone : {a : A} {q : Refusal} → a ≡ refusedAs q → Alone answer refusedAs a
-  refused_alone {q = q} e r h = e ∙ ap refusedAs (same_refusal (sym (is q) ∙ (ap answer (sym e) ∙ h)))
+module _ {A : Type 0} (answer : A → Answer) (refused_as : Refusal → A) (is : (q : Refusal) → answer (refused_as q) ≡ Refused q) where
+  pub refused_alone : {a : A} {q : Refusal} → a ≡ refused_as q → Alone answer refused_as a
+  refused_alone {q = q} e r h = e ∙ ap refused_as (same_refusal (sym (is q) ∙ (ap answer (sym e) ∙ h)))
 
-  pub accepted_alone : {a : A} → answer a ≡ Accepted → Alone answer refusedAs a
+  pub accepted_alone : {a : A} → answer a ≡ Accepted → Alone answer refused_as a
   accepted_alone e r h = absurd (accepted_not_refused (sym e ∙ h))
 
 -- two steps that make the same of a result

@@ -14,7 +14,7 @@ use Rattle.drive_states.specs.declared.Exchange.{Exchange}
 use Rattle.runs.specs.World as worlds
 use Rattle.runs.specs.World.{Call, opens, sends, delivers, closes, drive_of, Slot, unopened, opened, World, after_call, on_state, is_refused}
 use Rattle.runs.specs.World.Laws.{put_same}
-use Rattle.runs.specs.Runs as anyRuns
+use Rattle.runs.specs.Runs as any_runs
 use Rattle.agreement.specs.Calls.{opening, sending, receiving, closing}
 use Rattle.agreement.specs.Document01.{apply, refused_by, sending_of}
 use Rattle.exchange.specs.declared.Reply.{Reply}
@@ -73,7 +73,7 @@ size_refused (yields bytes) = refl
 -- a send that is handed the state kept writes what the world has the drive send, and is refused where the world says so
 send_held : (slot : Slot) (d room start : ℕ) → may_name slot (sends d room start) ≡ true
     → (sending (held slot) room start ≡ sending_of slot room start) × (is_refused (size_written (sending (held slot) room start)) ≡ refused_by slot (sends d room start))
-unfolding held may_name anyRuns.sending_of worlds.refused_by
+unfolding held may_name any_runs.sending_of worlds.refused_by
 send_held unopened d room start h = absurd (clash h refl)
 send_held (opened x) d room start h = (refl, size_refused (sending x room start))
 

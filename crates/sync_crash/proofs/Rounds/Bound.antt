@@ -84,13 +84,13 @@ module _ {S : Instance} (L : Lawful S) where
 
       pub undecided_failures : (correct : ℕ → Bool) → ((d : ℕ) → correct d ≡ true → StaysUp S d)
           → (k : ℕ) → decision S k e ≡ none → k ≤ failures S correct
-      undecided_failures correct All-stay k o =
+      undecided_failures correct all_stay k o =
           omega (
             arith,
             lost_each_round k o,
             length_filter_split core correct (range 1 n),
             length_filter_le (λ d. core d && correct d) (before S k e) (range 1 n)
-                (λ d g t. was_heard (and_left (core d) _ t) (All-stay d (and_right (core d) _ t)) k o),
+                (λ d g t. was_heard (and_left (core d) _ t) (all_stay d (and_right (core d) _ t)) k o),
           )
 
 -- ---- not too late
