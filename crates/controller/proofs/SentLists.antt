@@ -115,13 +115,13 @@ unbroken_list x h =
     let sets = subset x.before x.core && subset x.heard x.core && subset x.known x.core && subset x.start x.core in
     let two = not frame || not core in
     let four = two || own || not drive in
-    let to-four = or_false_left four (not rounds) (or_false_left (four || not rounds) (not sets) h) in
-    let to-two = or_false_left two own (or_false_left (two || own) (not drive) to-four) in
-    let in_frame = not-false frame (or_false_left (not frame) (not core) to-two) in
+    let to_four = or_false_left four (not rounds) (or_false_left (four || not rounds) (not sets) h) in
+    let to_two = or_false_left two own (or_false_left (two || own) (not drive) to_four) in
+    let in_frame = not-false frame (or_false_left (not frame) (not core) to_two) in
     receivers_masks x.n x.core x.own.0
     (leb-true x.n 64 (and_right (leb 1 x.n) (leb x.n 64) in_frame))
-    (set_lt x.n x.core (not-false core (or_false_right (not frame) (not core) to-two)))
-    (not-false drive (or_false_right (two || own) (not drive) to-four))
+    (set_lt x.n x.core (not-false core (or_false_right (not frame) (not core) to_two)))
+    (not-false drive (or_false_right (two || own) (not drive) to_four))
 
 -- what is put of the two masks is the list
 pub list_given : (x : Exchange) (old : List ℕ) → broken x ≡ false → {others listeners : ℕ} → others ≡ minus x.core (single x.own.0) → listeners ≡ outside x.n x.core

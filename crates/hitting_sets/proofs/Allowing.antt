@@ -26,7 +26,7 @@ use Rattle.hitting_sets.specs.LookAhead.Forbidden.{in_all_has, in_all_lacks}
 use Rattle.hitting_sets.specs.Marks.{Marked, Columns, InMarked, Apart}
 
 module _ (sets : List ℕ) (next m : ℕ) (words : ℕ) (columns once : List ℕ) (m_lt : m < 2 ^ 64) (inside : next < length sets) (few : words ≤ 16) (enough : length sets ≤ 64 * words)
-    (by_drive : Columns columns sets) (marked : Marked words once sets (λ s. eqb (size (common s m)) 1)) (once-lt : (i : ℕ) → get_or once i 0 < 2 ^ 64) where
+    (by_drive : Columns columns sets) (marked : Marked words once sets (λ s. eqb (size (common s m)) 1)) (once_lt : (i : ℕ) → get_or once i 0 < 2 ^ 64) where
   abbrev seen : List ℕ
   seen = take (next - 0) sets
 
@@ -39,7 +39,7 @@ module _ (sets : List ℕ) (next m : ℕ) (words : ℕ) (columns once : List ℕ
       → Apart seen once far c
   apart_is c far c_lt f b h =
       let w = f b h in
-      let bounds = has_bounds 64 b (get_or once 0 0) (once-lt 0) w.0 in (
+      let bounds = has_bounds 64 b (get_or once 0 0) (once_lt 0) w.0 in (
         w.0,
         omega (arith, w.1, bounds.0, seen_length),
         λ x i.
@@ -52,7 +52,7 @@ module _ (sets : List ℕ) (next m : ℕ) (words : ℕ) (columns once : List ℕ
             ∙ (ap (has b) (get_or-drop k columns 0 0 ∙ ap (λ (p : ℕ). get_or columns p 0) same) ∙ w.2 x i)),
       )
 
-  module _ (d : ℕ) (low : 1 ≤ d) (high : d ≤ 64) (i-m : has d m ≡ true) (column : List ℕ) (column-is : column ≡ drop (16 * (d - 1)) columns) where
+  module _ (d : ℕ) (low : 1 ≤ d) (high : d ≤ 64) (i_m : has d m ≡ true) (column : List ℕ) (column_is : column ≡ drop (16 * (d - 1)) columns) where
     abbrev word : ℕ → ℕ
     word i = common (get_or once i 0) (get_or column i 0)
 
@@ -60,22 +60,22 @@ module _ (sets : List ℕ) (next m : ℕ) (words : ℕ) (columns once : List ℕ
     private_test s =
         same_test (eqb (size (common s m)) 1 && has d s) (eqb (common s m) (single d))
         (λ h. sym (has_lone d low high (common s m) (common_lt_right 64 s m m_lt) (eqb-true (size (common s m)) 1 (and_left (eqb (size (common s m)) 1) (has d s) h)))
-        ∙ (has_common d s m ∙ and_intro (and_right (eqb (size (common s m)) 1) (has d s) h) i-m))
+        ∙ (has_common d s m ∙ and_intro (and_right (eqb (size (common s m)) 1) (has d s) h) i_m))
         (λ h. let e = eqb-true (common s m) (single d) h in
         and_intro (eq-eqb (size (common s m)) 1 (ap size e ∙ size_single d low high)) (shared_has d low high s m e).0)
 
     -- the marks in both are the private sets of d
     marks_private : (i b : ℕ) → 1 ≤ b → b ≤ 64 → 64 * i + b - 1 < next → has b (word i) ≡ eqb (common (get_or seen (64 * i + b - 1) 0) m) (single d)
-    marks_private i b b-low b-high lt =
+    marks_private i b b_low b_high lt =
         has_common b (get_or once i 0) (get_or column i 0)
-        ∙ (ap₂ (λ (x y : Bool). x && y) (marked.each i b (omega arith) b-low b-high) (ap (λ (l : List ℕ). has b (get_or l i 0)) column-is ∙ (by_drive d low high).each i b (omega arith) b-low b-high)
+        ∙ (ap₂ (λ (x y : Bool). x && y) (marked.each i b (omega arith) b_low b_high) (ap (λ (l : List ℕ). has b (get_or l i 0)) column_is ∙ (by_drive d low high).each i b (omega arith) b_low b_high)
         ∙ (private_test (get_or sets (64 * i + b - 1) 0) ∙ ap (λ (s : ℕ). eqb (common s m) (single d)) (sym (get_or-take (next - 0) sets (64 * i + b - 1) 0 (omega arith)))))
 
-    module _ (x : ℕ) (x-low : 1 ≤ x) (x-high : x ≤ 64) where
+    module _ (x : ℕ) (x_low : 1 ≤ x) (x_high : x ≤ 64) where
       in_marked : has x (in_all (privates seen m d)) ≡ true → (i : ℕ) → InMarked seen (64 * i) (word i) x
       unfolding privates
       in_marked h i b mark lt =
-          let bounds = has_bounds 64 b (word i) (common_lt 64 (get_or once i 0) (get_or column i 0) (once-lt i)) mark in
+          let bounds = has_bounds 64 b (word i) (common_lt 64 (get_or once i 0) (get_or column i 0) (once_lt i)) mark in
           let s = get_or seen (64 * i + b - 1) 0 in
           in_all_has x s (privates seen m d) h
           (elem_filter (λ y. eqb (common y m) (single d)) s seen
@@ -84,7 +84,7 @@ module _ (sets : List ℕ) (next m : ℕ) (words : ℕ) (columns once : List ℕ
       marked_in : ((i : ℕ) → InMarked seen (64 * i) (word i) x) → has x (in_all (privates seen m d)) ≡ true
       unfolding privates
       marked_in f = true_of (has x (in_all (privates seen m d))) (λ h.
-          let w = in_all_lacks x x-low x-high (privates seen m d) h in
+          let w = in_all_lacks x x_low x_high (privates seen m d) h in
           let both = sym (elem_filter (λ y. eqb (common y m) (single d)) w.0 seen) ∙ w.1 in
           let g = elem_get_or w.0 seen (and_left (elem w.0 seen) (eqb (common w.0 m) (single d)) both) in
           let i = g.0 / 64 in
@@ -97,10 +97,10 @@ module _ (sets : List ℕ) (next m : ℕ) (words : ℕ) (columns once : List ℕ
     -- of the drives of c, what the marked sets share is what the private sets share
     pub shared_is : (c all : ℕ) → ((x : ℕ) → (has x all ≡ true) ↔ ((has x c ≡ true) × ((i : ℕ) → InMarked seen (64 * i) (word i) x)))
         → (x : ℕ) → 1 ≤ x → x ≤ 64 → has x c ≡ true → has x all ≡ has x (in_all (privates seen m d))
-    shared_is c all each x x-low x-high h =
+    shared_is c all each x x_low x_high h =
         same_test (has x all) (has x (in_all (privates seen m d)))
-        (λ e. marked_in x x-low x-high ((each x).0 e).1)
-        (λ e. (each x).1 (h, in_marked x x-low x-high e))
+        (λ e. marked_in x x_low x_high ((each x).0 e).1)
+        (λ e. (each x).1 (h, in_marked x x_low x_high e))
 
 -- all the sets before `next`, as a part of the slice
 pub seen_from : (sets : List ℕ) (next s m : ℕ) → minus s (forbidden (take (next - 0) sets) m (drives m)) ≡ minus s (forbidden (take next sets) m (drives m))

@@ -48,7 +48,7 @@ module _ {old columns : List ℕ} {s i bit rest : ℕ} (y : Marking old columns 
 
     stored : (d j b : ℕ) → 1 ≤ d → j < 16
         → has b (get_or columns' (16 * (d - 1) + j) 0) ≡ (has b (get_or columns (16 * (d - 1) + j) 0) || (eqb d e && (eqb j i && has b bit)))
-    stored d j b low j-lt =
+    stored d j b low j_lt =
         let p = 16 * (d - 1) + j in
         let x = get_or columns p 0 in
         let v = union (get_or columns k 0) bit in
@@ -57,9 +57,9 @@ module _ {old columns : List ℕ} {s i bit rest : ℕ} (y : Marking old columns 
         (λ q. let same : 16 * (d - 1) + j ≡ k = eqb-true p k q in
         let de : d ≡ e = omega (arith, same, at, bounds.0) in
         let ji : j ≡ i = omega (arith, same, at, bounds.0) in
-        let in-range : k < length columns = omega (arith, bounds.0, bounds.1) in
+        let in_range : k < length columns = omega (arith, bounds.0, bounds.1) in
         ap (λ (z : ℕ). has b (get_or columns' z 0)) same
-        ∙ (ap (has b) (get_or-set_same columns k v 0 in-range)
+        ∙ (ap (has b) (get_or-set_same columns k v 0 in_range)
         ∙ (has_union b (get_or columns k 0) bit
         ∙ (ap (λ (z : ℕ). has b (get_or columns z 0) || has b bit) (sym same)
         ∙ sym (ap₂ (λ (u w : Bool). has b x || (u && (w && has b bit))) (eq-eqb d e de) (eq-eqb j i ji))))))
@@ -97,7 +97,7 @@ pub filling_start : (sets columns : List ℕ) → columns ≡ replicate 1024 0 �
 filling_start sets columns e = record {
   few = omega arith;
   room = ap length e;
-  each = λ d i b low high i_lt b-low b-high.
+  each = λ d i b low high i_lt b_low b_high.
       ap (λ (l : List ℕ). has b (get_or l (16 * (d - 1) + i) 0)) e
       ∙ (ap (has b) (get_or-replicate 1024 (16 * (d - 1) + i) 0 0 (omega arith))
       ∙ (has_none b ∙ sym (ap (has d) (get_or-eq_default [] 0 {n = 64 * i + b - 1} (omega arith)) ∙ has_none d)));
@@ -140,21 +140,21 @@ module _ {sets columns : List ℕ} {at : ℕ} (f : Filling sets columns at) wher
   filling_turn lt columns' bit e same more = record {
     few = omega arith;
     room = same ∙ f.room;
-    each = λ d i b low high i_lt b-low b-high.
+    each = λ d i b low high i_lt b_low b_high.
         more d i b low high i_lt
-        ∙ (ap₂ (λ (x : Bool) (y : ℕ). x || (has d (get_or sets at 0) && (eqb i (at / 64) && has b y))) (f.each d i b low high i_lt b-low b-high) e
+        ∙ (ap₂ (λ (x : Bool) (y : ℕ). x || (has d (get_or sets at 0) && (eqb i (at / 64) && has b y))) (f.each d i b low high i_lt b_low b_high) e
         ∙ by_test (eqb (64 * i + b - 1) at)
-        (λ q. here sets at d i b b-low b-high (eqb-true (64 * i + b - 1) at q))
-        (λ q. elsewhere sets at d i b b-low b-high (eqb-false (64 * i + b - 1) at q)));
+        (λ q. here sets at d i b b_low b_high (eqb-true (64 * i + b - 1) at q))
+        (λ q. elsewhere sets at d i b b_low b_high (eqb-false (64 * i + b - 1) at q)));
   }
 
   -- all sets, or as many as have places
   filling_end : ((q : ℕ) → q < 1024 → get_or (take at sets) q 0 ≡ get_or sets q 0) → Columns columns sets
   filling_end all d low high = record {
     room = omega (arith, length-drop (16 * (d - 1)) columns, f.room);
-    each = λ i b i_lt b-low b-high.
+    each = λ i b i_lt b_low b_high.
         ap (has b) (get_or-drop (16 * (d - 1)) columns i 0)
-        ∙ (f.each d i b low high i_lt b-low b-high ∙ ap (has d) (all (64 * i + b - 1) (omega arith)));
+        ∙ (f.each d i b low high i_lt b_low b_high ∙ ap (has d) (all (64 * i + b - 1) (omega arith)));
   }
 
   pub filling_all : length sets ≤ at → Columns columns sets

@@ -29,7 +29,7 @@ module _ (sets : List ℕ) (m : ℕ) where
   MetBefore p = (q : ℕ) → q < p → q < length sets → meets (get_or sets q 0) m ≡ true
 
   pub met_seen : (seen p : ℕ) → seen ≤ length sets → hits (take seen sets) m ≡ true → p ≤ seen → MetBefore p
-  met_seen seen p le h p-le q lt inside =
+  met_seen seen p le h p_le q lt inside =
       ap (λ (s : ℕ). meets s m) (sym (get_or-take seen sets q 0 (omega arith)))
       ∙ hits_meets (take seen sets) m (get_or (take seen sets) q 0) h (get_or_elem (take seen sets) q (omega (arith, length-take seen sets)))
 
@@ -63,7 +63,7 @@ module _ (sets : List ℕ) (m : ℕ) where
 
     -- no bit of the word before place r is set
     met_more : (r : ℕ) → r ≤ 64 → ((b : ℕ) → has b word ≡ true → r < b) → MetBefore (64 * i + r)
-    met_more r high none q q-lt inside =
+    met_more r high none q q_lt inside =
         by_test (ltb q (64 * i))
         (λ t. met q (ltb-true q (64 * i) t) inside)
         (λ t. let from : 64 * i ≤ q = ltb-false q (64 * i) t in
@@ -77,16 +77,16 @@ module _ (sets : List ℕ) (m : ℕ) where
     met_word z = subst MetBefore (omega arith) (met_more 64 (omega arith) (λ b h. absurd (clash h (ap (has b) z ∙ has_none b))))
 
     -- `at` is the place of the lowest bit
-    module _ (w-lt : get_or missed i 0 < 2 ^ 64) (some : word ≡ 0 → ⊥) (d at : ℕ) (d-is : d ≡ lowest word) (at-is : at ≡ 64 * i + (d - 1)) where
+    module _ (w_lt : get_or missed i 0 < 2 ^ 64) (some : word ≡ 0 → ⊥) (d at : ℕ) (d_is : d ≡ lowest word) (at_is : at ≡ 64 * i + (d - 1)) where
       pub met_to : MetBefore at
       met_to =
-          let b = lowest_bounds w-lt some d-is in
-          subst MetBefore (sym at-is) (met_more (d - 1) (omega (arith, b.1)) (λ x h. let least = lowest_least x word w-lt h in omega (arith, least, d-is, b.0)))
+          let b = lowest_bounds w_lt some d_is in
+          subst MetBefore (sym at_is) (met_more (d - 1) (omega (arith, b.1)) (λ x h. let least = lowest_least x word w_lt h in omega (arith, least, d_is, b.0)))
 
       pub missed_there : meets (get_or sets at 0) m ≡ false
       missed_there =
-          let b = lowest_bounds w-lt some d-is in
-          let there : 64 * i + d - 1 ≡ at = omega (arith, at-is, b.0) in
+          let b = lowest_bounds w_lt some d_is in
+          let there : 64 * i + d - 1 ≡ at = omega (arith, at_is, b.0) in
           not-true (meets (get_or sets at 0) m)
           (ap (λ (x : ℕ). not (meets (get_or sets x 0) m)) (sym there)
-          ∙ (sym (k.each i d lt b.0 b.1) ∙ (ap (λ (x : ℕ). has x word) d-is ∙ lowest_has word w-lt some)))
+          ∙ (sym (k.each i d lt b.0 b.1) ∙ (ap (λ (x : ℕ). has x word) d_is ∙ lowest_has word w_lt some)))

@@ -27,7 +27,7 @@ cutting_start sets base word c h = record { left = h; each = λ x. (λ w. w, λ 
 
 module _ {sets : List ℕ} {base word c rest all : ℕ} (y : Cutting sets base word c rest all) where
   -- `at` is the place of the lowest mark
-  module _ {e others : ℕ} (t : Taken rest e others) (at : ℕ) (at-is : at ≡ base + (e - 1)) where
+  module _ {e others : ℕ} (t : Taken rest e others) (at : ℕ) (at_is : at ≡ base + (e - 1)) where
     pub cutting_turn : at < length sets → Cutting sets base word c others (common all (get_or sets at 0))
     cutting_turn lt = record {
       left = taken_lt t 64 y.left;
@@ -35,7 +35,7 @@ module _ {sets : List ℕ} {base word c rest all : ℕ} (y : Cutting sets base w
     }
       where
         here : base + e - 1 ≡ at
-        here = omega (arith, at-is, (taken_bounds t).0)
+        here = omega (arith, at_is, (taken_bounds t).0)
 
         back : (x : ℕ) → (has x (common all (get_or sets at 0)) ≡ true) × InMarked sets base others x → (has x all ≡ true) × InMarked sets base rest x
         back x w =
@@ -60,9 +60,9 @@ module _ {sets : List ℕ} {base word c rest all : ℕ} (y : Cutting sets base w
   -- the lowest mark is behind the last set, or there is none, or no drive is left
   pub cutting_past : {e others : ℕ} → Taken rest e others → (at : ℕ) → at ≡ base + (e - 1) → length sets ≤ at
       → (x : ℕ) → (has x all ≡ true) ↔ ((has x c ≡ true) × InMarked sets base word x)
-  cutting_past {e} t at at-is le = cutting_done (λ x h k i inside.
+  cutting_past {e} t at at_is le = cutting_done (λ x h k i inside.
       let low : e ≤ k = ap_least k i in
-      absurd (omega (arith, low, at-is, (taken_bounds t).0)))
+      absurd (omega (arith, low, at_is, (taken_bounds t).0)))
     where
       ap_least : (k : ℕ) → has k rest ≡ true → e ≤ k
       ap_least k i = omega (arith, lowest_least k rest y.left i, t.first)

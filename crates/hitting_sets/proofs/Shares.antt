@@ -52,7 +52,7 @@ module _ (sets : List ℕ) (m i : ℕ) (of : List ℕ) (h : Sharing sets m i of)
     -- y is put at its place j
     pub sharing_one : (j y : ℕ) → j ≡ k - 1 → y ≡ common (get_or sets (i - 1) 0) (get_or of j 0) → Sharing sets m (i - 1) (set of j y)
     unfolding privates in_all
-    sharing_one j y j-is q = record {
+    sharing_one j y j_is q = record {
       within = omega (arith, h.within);
       places = length-set of j y ∙ h.places;
       each = λ d low high.

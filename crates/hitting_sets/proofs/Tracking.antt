@@ -152,31 +152,31 @@ pub tracked_more : {n : ℕ} {columns sets : List ℕ} {m : ℕ} {missed once : 
     → ((i : ℕ) → i < n → get_or left i 0 ≡ minus (get_or missed i 0) (get_or column i 0))
     → ((i : ℕ) → i < n → get_or alone i 0 ≡ union (minus (get_or once i 0) (get_or column i 0)) (common (get_or missed i 0) (get_or column i 0)))
     → (t : ℕ) → t ≡ union m (single d) → Tracked n columns sets t left alone
-tracked_more {n} {columns} {sets} {m} {missed} {once} k d low high word new column e left alone left-room alone-room left_is alone-is t t-is =
-    subst (λ (x : ℕ). Tracked n columns sets x left alone) (sym t-is) (record {
+tracked_more {n} {columns} {sets} {m} {missed} {once} k d low high word new column e left alone left_room alone_room left_is alone_is t t_is =
+    subst (λ (x : ℕ). Tracked n columns sets x left alone) (sym t_is) (record {
       few = k.few;
       by_drive = k.by_drive;
       misses = record {
-        room = left-room;
-        each = λ i b i_lt b-low b-high.
+        room = left_room;
+        each = λ i b i_lt b_low b_high.
             ap (has b) (left_is i i_lt)
             ∙ (has_minus b (get_or missed i 0) (get_or column i 0)
-            ∙ (ap₂ (λ (x y : Bool). x && not y) (k.misses.each i b i_lt b-low b-high) (held i b i_lt b-low b-high)
+            ∙ (ap₂ (λ (x y : Bool). x && not y) (k.misses.each i b i_lt b_low b_high) (held i b i_lt b_low b_high)
             ∙ misses_more m d (get_or sets (64 * i + b - 1) 0) word low high new));
       };
       shares_one = record {
-        room = alone-room;
-        each = λ i b i_lt b-low b-high.
+        room = alone_room;
+        each = λ i b i_lt b_low b_high.
             let s = get_or sets (64 * i + b - 1) 0 in
             let here = get_or column i 0 in
-            ap (has b) (alone-is i i_lt)
+            ap (has b) (alone_is i i_lt)
             ∙ (has_union b (minus (get_or once i 0) here) (common (get_or missed i 0) here)
             ∙ (ap₂ (λ (x y : Bool). x || y) (has_minus b (get_or once i 0) here) (has_common b (get_or missed i 0) here)
-            ∙ (ap₂ (λ (x y : Bool). (x && not (has b here)) || (y && has b here)) (k.shares_one.each i b i_lt b-low b-high) (k.misses.each i b i_lt b-low b-high)
-            ∙ (ap (λ (x : Bool). (eqb (size (common s m)) 1 && not x) || (not (meets s m) && x)) (held i b i_lt b-low b-high)
+            ∙ (ap₂ (λ (x y : Bool). (x && not (has b here)) || (y && has b here)) (k.shares_one.each i b i_lt b_low b_high) (k.misses.each i b i_lt b_low b_high)
+            ∙ (ap (λ (x : Bool). (eqb (size (common s m)) 1 && not x) || (not (meets s m) && x)) (held i b i_lt b_low b_high)
             ∙ once_more m d s word low high new))));
       };
     })
   where
     held : (i b : ℕ) → i < n → 1 ≤ b → b ≤ 64 → has b (get_or column i 0) ≡ has d (get_or sets (64 * i + b - 1) 0)
-    held i b i_lt b-low b-high = ap (λ (l : List ℕ). has b (get_or l i 0)) e ∙ (k.by_drive d low high).each i b (omega (arith, k.few)) b-low b-high
+    held i b i_lt b_low b_high = ap (λ (l : List ℕ). has b (get_or l i 0)) e ∙ (k.by_drive d low high).each i b (omega (arith, k.few)) b_low b_high

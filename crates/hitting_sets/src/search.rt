@@ -1,5 +1,5 @@
 // The search for the minimal hitting sets: Berge's method, depth first, with fuel and, where asked, with look-ahead.
-// Each is found once; a call goes one drive deeper, so the calls are at most 65 deep, and no list of candidates grows.
+// Each is found once; a call goes one drive deeper, so the calls are at most 64 deep, and no list of candidates grows.
 ghost use Rattle.std.specs.Prelude.{◌≡◌, true, false, not, ◌&&◌, ℕ, ◌+◌, ◌-◌, ◌≤◌, ◌<◌, eqb, leb, ltb, length, get_or, take, drop, set};
 ghost use Rattle.drive_sets.specs.Lists.{filter};
 ghost use Rattle.drive_sets.specs.Masks.{has, common, minus, meets, size, drives};
@@ -217,7 +217,7 @@ fn note(ends: &mut [u64], i: usize, drives: u64) {
 // The minimal hitting sets that the search lists from m on, a minimal hitting set of the sets before `next` that misses
 // that one, put into `out` behind those found; one more than the room says that there are more. Where no fuel is left
 // some may be missing. The marks, of n words, are of the sets that m misses and of those that it meets once. A set at
-// which no branch goes on is a dead end, and counted as one. A call goes one drive deeper, so the calls are at most 65
+// which no branch goes on is a dead end, and counted as one. A call goes one drive deeper, so the calls are at most 64
 // deep; where no set is missed there is no call.
 fn search_from(
     mode: Mode,

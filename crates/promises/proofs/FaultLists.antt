@@ -191,10 +191,10 @@ unfolding TablesSameModel
 tables_same_model n sets list e f =
     let a = (table_given n sets list e).0 in
     let below = sets_below n sets a in
-    let list-normal = (table_given n sets list e).1 ∙ rests_largest n a.high sets below in
-    let table = ap (rests n) list-normal ∙ rests_rests n a.high (normal sets) (sets_below n (normal sets) (accepted_normal n sets a)) in
+    let list_normal = (table_given n sets list e).1 ∙ rests_largest n a.high sets below in
+    let table = ap (rests n) list_normal ∙ rests_rests n a.high (normal sets) (sets_below n (normal sets) (accepted_normal n sets a)) in
     let one : CanFail list f ↔ RestHolds n (normal sets) f =
-    subst (λ (s : List ℕ). CanFail list f ↔ RestHolds n s f) table (one_model n list (subst (Below n) (sym list-normal) (rests_below n (normal sets))) a.high f) in
+    subst (λ (s : List ℕ). CanFail list f ↔ RestHolds n s f) table (one_model n list (subst (Below n) (sym list_normal) (rests_below n (normal sets))) a.high f) in
     let normal_table_law = rest_normal n sets a.high below f in
     ((λ can. normal_table_law.0 (one.0 can)), (λ r. one.1 (normal_table_law.1 r)))
 

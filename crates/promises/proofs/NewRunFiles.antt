@@ -58,14 +58,14 @@ pub new_run_files : NewRunFiles
 unfolding NewRunFiles proposals_end read_list
 new_run_files n sets a ps fit places =
     let t = read n sets a (suc n) ps fit places in
-    let none-owed = none_has 64 t.end.owed t.word (λ d. false_of (has d t.end.owed) (λ h. let w = t.none_below d h in omega (arith, w.1, has_bounds n d (chosen (normal sets)) (chosen_core_law n sets a).within w.0))) in
+    let none_owed = none_has 64 t.end.owed t.word (λ d. false_of (has d t.end.owed) (λ h. let w = t.none_below d h in omega (arith, w.1, has_bounds n d (chosen (normal sets)) (chosen_core_law n sets a).within w.0))) in
     record {
       numbers = t.end.numbers;
       own = (said_own n a.high ps (no_proposal n (chosen (normal sets))) (length-replicate n 0) t.says_end kept_all).0;
       reads = λ rest h.
           behind_records_law n sets a (suc n) ps fit places rest
           ∙ ap (λ (o : Outcome (ReadList ProposalList)). and_then o (behind_records n (chosen (normal sets)) sets))
-          (read_complete_law (proposal_list n) (length rest) t.end rest (and_intro (eq-eqb t.end.owed 0 none-owed) (or_right (leb n t.end.last) (ap not h))));
+          (read_complete_law (proposal_list n) (length rest) t.end rest (and_intro (eq-eqb t.end.owed 0 none_owed) (or_right (leb n t.end.last) (ap not h))));
     }
 
 -- a record above one that is owed
@@ -77,28 +77,28 @@ unfolding MissingRecords proposals_end says_all
 missing_records n sets a c inside ps fit places =
     let t = read n sets a c ps fit places in
     let owed = t.still_owed c inside (omega arith) in
-    let some-owed = ne_eqb t.end.owed 0 (λ e. clash (subst (λ (m : ℕ). has c m ≡ true) e owed) (has_none c)) in
+    let some_owed = ne_eqb t.end.owed 0 (λ e. clash (subst (λ (m : ℕ). has c m ≡ true) e owed) (has_none c)) in
     record {
       mark = λ rest long wrong.
           behind_records_law n sets a c ps fit places rest
-          ∙ ap (λ (o : Outcome (ReadList ProposalList)). and_then o (behind_records n (chosen (normal sets)) sets)) (read_wrong (proposal_list n) t.end rest (and_fails_left _ some-owed) long wrong);
+          ∙ ap (λ (o : Outcome (ReadList ProposalList)). and_then o (behind_records n (chosen (normal sets)) sets)) (read_wrong (proposal_list n) t.end rest (and_fails_left _ some_owed) long wrong);
       later = λ p one above rest.
           behind_record n sets a c ps fit places p one rest
-          (above_owed n t.end p some-owed (lt-ltb (lowest t.end.owed) p.drive (omega (arith, lowest_least c t.end.owed t.word owed))));
+          (above_owed n t.end p some_owed (lt-ltb (lowest t.end.owed) p.drive (omega (arith, lowest_least c t.end.owed t.word owed))));
     }
 
 pub out_of_order : OutOfOrder
 unfolding OutOfOrder is_next
-out_of_order n sets a c ps fit places no-n p one place rest =
+out_of_order n sets a c ps fit places no_n p one place rest =
     let t = read n sets a c ps fit places in
     let k = said_last n a.high ps (no_proposal n (chosen (normal sets))) t.says_end in
     let more : t.end.last < n =
     ⊎_elim (λ e. omega (arith, a.low))
     (λ h. let b = drive_bounds n t.end.last (and_left (is_drive n t.end.last) _ (all_elem (λ d. is_drive n d && ltb d c) (record_drives ps) t.end.last places.in_frame h)) in
-    let other : t.end.last ≡ n → ⊥ = λ e. clash (subst (λ (d : ℕ). elem d (record_drives ps) ≡ true) e h) no-n in
+    let other : t.end.last ≡ n → ⊥ = λ e. clash (subst (λ (d : ℕ). elem d (record_drives ps) ≡ true) e h) no_n in
     omega (arith, b.1, other))
     (elem_cases t.end.last 0 (record_drives ps) k.0) in
-    let not-next : is_next n t.end.last p.drive ≡ false = false_of (is_next n t.end.last p.drive) (λ h.
+    let not_next : is_next n t.end.last p.drive ≡ false = false_of (is_next n t.end.last p.drive) (λ h.
     let up = ltb-true t.end.last p.drive (and_right (is_drive n p.drive) _ h) in
     clash (and_intro (and_left (is_drive n p.drive) _ h) (all_intro (λ d. ltb d p.drive) (record_drives ps) (λ d i. lt-ltb d p.drive (omega (arith, k.2 d i))))) place) in
-    behind_record n sets a c ps fit places p one rest (rw (and_fails_right (eqb t.end.owed 0) (lt-leb n t.end.last more), not-next))
+    behind_record n sets a c ps fit places p one rest (rw (and_fails_right (eqb t.end.owed 0) (lt-leb n t.end.last more), not_next))

@@ -134,5 +134,5 @@ module _ (t : TableWithCores) (s old rest : List ℕ) (e : complete_outcome t �
   unfolding read_with_cores read_complete with_cores
   table_behind h =
       let w = read_accepted t (read_table s) table_of h in
-      let behind-it = f ∙ ap (λ (o : Outcome ReadTable). rest_after (and_then o read_with_cores) old) w.1 in
-      w.1 ∙ ap₂ (λ (c : Complete) (r : List ℕ). yields (record { n = c.n; sets = c.sets; rest = r })) w.2 (sym behind-it)
+      let behind_it = f ∙ ap (λ (o : Outcome ReadTable). rest_after (and_then o read_with_cores) old) w.1 in
+      w.1 ∙ ap₂ (λ (c : Complete) (r : List ℕ). yields (record { n = c.n; sets = c.sets; rest = r })) w.2 (sym behind_it)

@@ -64,17 +64,17 @@ module _ (k n : ℕ) (table : List ℕ) (few : k ≤ 4) where
   answer_none : disjoint k 1 table (full n) ≡ none → answer_of yes ≡ answer_of (verdict_on k n table)
   answer_none e = ap answer_of (sym (none_yes k n table e))
 
-  module _ (m : ℕ) (is-full : m ≡ full n) where
+  module _ (m : ℕ) (is_full : m ≡ full n) where
     -- a drive that every set has is in any sets named
     pub answer_every : (c : ℕ) → c ≡ in_every m table → (c ≡ 0 → ⊥) → answer_of yes ≡ answer_of (verdict_on k n table)
     answer_every c e ne =
-        let d = has_some 64 (in_every (full n) table) (every_lt 64 (full n) table (full_word n)) (λ z. ne (e ∙ (ap (λ (x : ℕ). in_every x table) is-full ∙ z))) in
+        let d = has_some 64 (in_every (full n) table) (every_lt 64 (full n) table (full_word n)) (λ z. ne (e ∙ (ap (λ (x : ℕ). in_every x table) is_full ∙ z))) in
         let all = in_every_law d.0 (full n) table d.1 in
         answer_none (share_none table k 0 (full n) (full_word n) (λ sets count from. (d.0, all.0, λ s i. all.1 s (from s i))))
 
     module _ (found : Named) (is_found : found ≡ found_in (disjoint k 1 table m)) where
       search_is : found ≡ found_in (disjoint k 1 table (full n))
-      search_is = is_found ∙ ap (λ (x : ℕ). found_in (disjoint k 1 table x)) is-full
+      search_is = is_found ∙ ap (λ (x : ℕ). found_in (disjoint k 1 table x)) is_full
 
       pub answer_yes : found.any ≡ false → answer_of yes ≡ answer_of (verdict_on k n table)
       answer_yes a = answer_none (found_none found (disjoint k 1 table (full n)) search_is a)

@@ -72,10 +72,10 @@ module _ {s : Scenario} (ok : Valid s) where
   unfolding any_runs.sending_of
   writes_message {k} {w} round begins d t =
       let by = true_sender ok round begins d t in
-      let at-start : InRound (instance_of s) k d (λ y. false) =
+      let at_start : InRound (instance_of s) k d (λ y. false) =
       record { in_frame = (lawful ok).in_frame by.in_core; round = core_round ok round; from_core = λ y h. absurd (clash h refl) } in
       ap (λ slot. sending_of slot room 0) (begins.going round d (sender_active (lawful ok) by))
-      ∙ sending_state (lawful ok) (bounded ok) at-start by.in_core room 0 (omega (arith, length_message (instance_of s) k d))
+      ∙ sending_state (lawful ok) (bounded ok) at_start by.in_core room 0 (omega (arith, length_message (instance_of s) k d))
 
   rounds_canonical : (m k : ℕ) (w : World) → k + m ≡ size (core_of s) → Begins s k w → round_parts s (suc k) w (rounds_from s m (suc k) w) ≡ true
   unfolding any_runs.round_parts rounds_from

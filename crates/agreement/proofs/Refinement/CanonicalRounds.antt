@@ -149,10 +149,10 @@ module _ (s : Scenario) (r : ℕ) (w₀ : World) where
           (fun_ext (λ x. fun_ext (λ y. ap (λ (t : Bool). t || D x y) (sym (and-false (eqb x a))))))
           ∙ one_by_one (λ w. Unit {0}) (λ y. delivers y (written a)) (now a l here first D new old) (reach s r a) (message_calls s r w₀ l ++ cs) (reach_distinct s a r)
           (message_step a l here first D new old) (λ x. false) (λ x g. refl)
-          (λ q all-q v u. messages_part writes l cs (λ x g. i x (elem_tail x a l g)) (and_right (all (ltb a) l) _ o) (λ x y. (eqb x a && q y) || D x y)
+          (λ q all_q v u. messages_part writes l cs (λ x g. i x (elem_tail x a l g)) (and_right (all (ltb a) l) _ o) (λ x y. (eqb x a && q y) || D x y)
           (λ x y g. rw (apart x g) (new x y (elem_tail x a l g)))
           (λ x y g out to. by_test (eqb x a)
-          (λ e. rw e (or_left (D x y) (all-q y ∙ or_left false (rw (eqb-true x a e) at to))))
+          (λ e. rw e (or_left (D x y) (all_q y ∙ or_left false (rw (eqb-true x a e) at to))))
           (λ e. rw e (old x y g (false_of (elem x (a ∷ l)) (λ c. ⊎_elim (eqb-false x a e) (λ d. clash d out) (elem_cases x a l c))) to)))
           rest v) w tt)
 

@@ -111,9 +111,9 @@ module _ {s : Scenario} (ok : Valid s) where
   pub opening_begins : (calls : List Call) → opening_part s (λ d. false) nothing_open calls ≡ true → Begins s 0 (apply_all nothing_open calls)
   unfolding decision_of state_of after start
   opening_begins calls t =
-      let open-now = all_open (λ d. false) nothing_open calls (λ d f h. absurd (clash h refl)) t in
+      let open_now = all_open (λ d. false) nothing_open calls (λ d f h. absurd (clash h refl)) t in
       record {
-        going = λ h e a. open-now e a.in_frame;
+        going = λ h e a. open_now e a.in_frame;
         idle = λ e f u h. absurd (clash h refl);
-        decided = λ e f u. ap decision_of (open-now e f);
+        decided = λ e f u. ap decision_of (open_now e f);
       }

@@ -30,8 +30,8 @@ module _ {A : Type 0} {old out whole rest : List A} {k : ℕ} (f : Filling old o
 
   pub filling_end : rest ≡ [] → out ≡ whole ++ drop (length whole) old
   filling_end e =
-      let all-filled : k ≡ length whole = omega (arith, ap length (filling_done e), length-take k out, f.same, f.within) in
-      sym (take-append-drop k out) ∙ ap₂ (λ (l m : List A). l ++ m) (filling_done e) (f.behind ∙ ap (λ (n : ℕ). drop n old) all-filled)
+      let all_filled : k ≡ length whole = omega (arith, ap length (filling_done e), length-take k out, f.same, f.within) in
+      sym (take-append-drop k out) ∙ ap₂ (λ (l m : List A). l ++ m) (filling_done e) (f.behind ∙ ap (λ (n : ℕ). drop n old) all_filled)
 
   pub filling_behind : (n : ℕ) → k ≤ n → drop n out ≡ drop n old
   filling_behind n h =

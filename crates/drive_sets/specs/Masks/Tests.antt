@@ -103,13 +103,13 @@ module _ (n : ℕ) (frame : n ≤ 64) where
 
   -- two sets are equal just if the tests agree
   pub set_of_equal : (p q : ℕ → Bool) → p ⊆ up_to n → q ⊆ up_to n → eqb (set_of p) (set_of q) ≡ all (λ d. beq (p d) (q d)) (range 1 n)
-  set_of_equal p q within-p within-q =
+  set_of_equal p q within_p within_q =
       same_test (eqb (set_of p) (set_of q)) (all agree (range 1 n))
       (λ e. all_intro agree (range 1 n) (λ d h. eq_beq (p d) (q d)
-      (sym (has_set_of p within-p d) ∙ (ap (has d) (eqb-true (set_of p) (set_of q) e) ∙ has_set_of q within-q d))))
+      (sym (has_set_of p within_p d) ∙ (ap (has d) (eqb-true (set_of p) (set_of q) e) ∙ has_set_of q within_q d))))
       (λ a. eq-eqb (set_of p) (set_of q) (ap set_of (fun_ext (λ d. same_test (p d) (q d)
-      (λ t. sym (beq_eq (p d) (q d) (all_elem agree (range 1 n) d a (within-p d t))) ∙ t)
-      (λ t. beq_eq (p d) (q d) (all_elem agree (range 1 n) d a (within-q d t)) ∙ t)))))
+      (λ t. sym (beq_eq (p d) (q d) (all_elem agree (range 1 n) d a (within_p d t))) ∙ t)
+      (λ t. beq_eq (p d) (q d) (all_elem agree (range 1 n) d a (within_q d t)) ∙ t)))))
     where
       agree : ℕ → Bool
       agree d = beq (p d) (q d)

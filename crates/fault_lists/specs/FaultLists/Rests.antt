@@ -95,6 +95,6 @@ module _ (n : ℕ) (frame : n ≤ 64) where
     where
       less : (x y s : ℕ) → elem s l ≡ true → x ≡ outside n s → y ≡ outside n m → by_mask x y ≡ true
       less x y s e p q =
-          let below-s = below s (elem_tail s m l e) in
-          let falls = rest_falls n frame m s (below m (elem_head m l)) below-s (ltb-true m s (all_elem (by_mask m) l s (and_left (all (by_mask m) l) (ordered by_mask l) o) e)) in
+          let below_s = below s (elem_tail s m l e) in
+          let falls = rest_falls n frame m s (below m (elem_head m l)) below_s (ltb-true m s (all_elem (by_mask m) l s (and_left (all (by_mask m) l) (ordered by_mask l) o) e)) in
           lt-ltb x y (omega (arith, p, q, falls))

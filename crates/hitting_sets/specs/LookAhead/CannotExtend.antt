@@ -76,14 +76,14 @@ module _ (sets : List ℕ) (t u : ℕ) (below : Below 64 sets) (part : subset t 
   pub cannot_extend_none : cannot_extend sets t ≡ true → ⊥
   unfolding cannot_extend
   cannot_extend_none h =
-      let open-to : ℕ → Bool = λ s. not (covered sets t (forbidden sets t (drives t)) s) in
-      let kept = filter open-to sets in
+      let open_to : ℕ → Bool = λ s. not (covered sets t (forbidden sets t (drives t)) s) in
+      let kept = filter open_to sets in
       let w = not_all_critical kept t t_lt (eqb-false (critical kept t) t (not-true (eqb (critical kept t) t) h)) in
       let d = w.0 in
       let i = w.1 in
       let s = (own d i).0 in
       let stays = false_of (covered sets t (forbidden sets t (drives t)) s) (not_covered d i) in
-      clash (private_critical d (low d i) (high d i) kept t t_lt (s, elem_filter open-to s sets ∙ and_intro (own d i).1 (ap not stays), own_in_t d i)) w.2
+      clash (private_critical d (low d i) (high d i) kept t t_lt (s, elem_filter open_to s sets ∙ and_intro (own d i).1 (ap not stays), own_in_t d i)) w.2
 
 pub cannot_extend_search : (seen rest : List ℕ) (t : ℕ) → Below 64 (seen ++ rest) → Minimal seen t → cannot_extend (seen ++ rest) t ≡ true → search seen rest t ≡ []
 cannot_extend_search seen rest t b min h =

@@ -55,7 +55,7 @@ pub record Opens (s : Scenario) (done : ℕ → Bool) (c : Call) (d : ℕ) : Typ
 pub due_opens : (s : Scenario) (done : ℕ → Bool) (c : Call) → due_opening s done c ≡ true → Opens s done c (drive_of c)
 unfolding due_opening drive_of
 due_opens s done (opens d n sets own number) t =
-    let n-is : n ≡ s.n = eqb-true n s.n (search (and_left, and_right)) in
+    let n_is : n ≡ s.n = eqb-true n s.n (search (and_left, and_right)) in
     let accepted = table_is (normal_table n sets) (normal s.sets) (search (and_left, and_right)) in
     let own_is : own ≡ d = eqb-true own d (search (and_left, and_right)) in
     let number_is : number ≡ s.proposal d = eqb-true number (s.proposal d) (search and_right) in
@@ -63,7 +63,7 @@ due_opens s done (opens d n sets own number) t =
       in_frame = search (and_left, and_right);
       new = not-true (done d) (search (and_left, and_right));
       listing = sets;
-      table = ap (λ (m : ℕ). normal_table m sets) (sym n-is) ∙ accepted;
+      table = ap (λ (m : ℕ). normal_table m sets) (sym n_is) ∙ accepted;
       is = cc;
     }
 due_opens s done (sends d room start) t = absurd (clash t refl)
@@ -83,7 +83,7 @@ pub not_yet : (P : Protocol) (s : Scenario) (done : ℕ → Bool) (w : World) (c
 not_yet P s done w c none t d h =
     ⊎_elim
     (λ is_due_law. apply_other P w c d (and_not (due_opening s done c) (eqb d (drive_of c)) is_due_law (or_false_left (due_opening s done c && eqb d (drive_of c)) (done d) h)))
-    (λ is-refused. refused_keeps P w c is-refused d)
+    (λ is_refused. refused_keeps P w c is_refused d)
     (or_cases (due_opening s done c) (refused_in P w c) t)
     ∙ none d (or_false_right (due_opening s done c && eqb d (drive_of c)) (done d) h)
 

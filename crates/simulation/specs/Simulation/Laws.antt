@@ -76,12 +76,12 @@ found n core (c ∷ cs) all d round sends e =
   where
     here : c.drive ≡ d → crashes c.round c.sends ≡ crashes round sends → Checked n core (record { drive = d; round = round; sends = sends })
     here t f =
-        let same-round : c.round ≡ round = cc in
-        let same-sends : c.sends ≡ sends = cc in
+        let same_round : c.round ≡ round = cc in
+        let same_sends : c.sends ≡ sends = cc in
         record {
           drive = subst (λ (x : ℕ). is_drive n x ≡ true) t all.0.drive;
-          round = subst (λ (x : ℕ). is_round core x ≡ true) same-round all.0.round;
-          sends = subst (λ (x : ℕ). x ≤ most_sends n core d) same-sends (subst (λ (x : ℕ). c.sends ≤ most_sends n core x) t all.0.sends);
+          round = subst (λ (x : ℕ). is_round core x ≡ true) same_round all.0.round;
+          sends = subst (λ (x : ℕ). x ≤ most_sends n core d) same_sends (subst (λ (x : ℕ). c.sends ≤ most_sends n core x) t all.0.sends);
         }
 
 -- a drive that no record names has no CR

@@ -59,13 +59,13 @@ movable : (blocks : List ℕ) {from to : ℕ} → first_large blocks ≡ At from
 movable blocks {from = from} {to = to} q p =
     let e = failing_at (λ b. not (eqb b 0)) 1 blocks to p in
     let l = failing_at (λ b. leb (size b) 1) 1 blocks from q in
-    let to-place : to - 1 ≡ e.place = omega (arith, e.at) in
+    let to_place : to - 1 ≡ e.place = omega (arith, e.at) in
     let from_place : from - 1 ≡ l.place = omega (arith, l.at) in
     record {
       from = omega (arith, l.within);
       to = omega (arith, e.within);
       large = leb-false (size (get_or blocks (from - 1) 0)) 1 (ap (λ (x : ℕ). leb (size (get_or blocks x 0)) 1) from_place ∙ l.there);
-      empty = eqb-true (get_or blocks (to - 1) 0) 0 (not-false _ (ap (λ (x : ℕ). not (eqb (get_or blocks x 0) 0)) to-place ∙ e.there));
+      empty = eqb-true (get_or blocks (to - 1) 0) 0 (not-false _ (ap (λ (x : ℕ). not (eqb (get_or blocks x 0) 0)) to_place ∙ e.there));
     }
 
 length_moved : (blocks : List ℕ) → length (moved blocks) ≡ length blocks

@@ -65,19 +65,19 @@ search_distinct seen (s ∷ sets) m b min =
     let lt = below_next seen s sets b in
     by_test (meets s m)
     (λ h. ap distinct (search_met seen s sets m h) ∙ search_distinct now sets m more (grown_minimal seen s upto m m min (met h refl)))
-    (λ h. let in-s : (d : ℕ) → elem d (drives s) ≡ true → has d s ≡ true = λ d i. sym (elem_drives d s lt) ∙ i in
+    (λ h. let in_s : (d : ℕ) → elem d (drives s) ≡ true → has d s ≡ true = λ d i. sym (elem_drives d s lt) ∙ i in
     let grows : (d : ℕ) → elem d (drives s) ≡ true → critical now (union m (single d)) ≡ union m (single d) → Minimal now (union m (single d)) =
-    λ d i a. grown_minimal seen s upto m (union m (single d)) min (added d (in-s d i) h refl a) in
+    λ d i a. grown_minimal seen s upto m (union m (single d)) min (added d (in_s d i) h refl a) in
     ap distinct (search_missed seen s sets m h)
     ∙ for_each_distinct (tried now sets) m (drives s) (drives_distinct s)
     (λ d i. tried_distinct now sets (union m (single d)) (λ a. search_distinct now sets (union m (single d)) more (grows d i a)))
     (λ d c u i j p q.
     let x = tried_elem now sets (union m (single d)) u p in
     let y = tried_elem now sets (union m (single c)) u q in
-    let db = has_bounds 64 d s lt (in-s d i) in
-    let cb = has_bounds 64 c s lt (in-s c j) in
+    let db = has_bounds 64 d s lt (in_s d i) in
+    let cb = has_bounds 64 c s lt (in_s c j) in
     let same = search_unique now sets (union m (single d)) (union m (single c)) u more (grows d i x.0) (grows c j y.0) x.1 y.1 in
-    insert_new c cb.0 cb.1 d m (meets_not d s m h (in-s d i)) (ap (has d) (sym same) ∙ insert_has d db.0 db.1 m)))
+    insert_new c cb.0 cb.1 d m (meets_not d s m h (in_s d i)) (ap (has d) (sym same) ∙ insert_has d db.0 db.1 m)))
 
 pub minimals_distinct : (sets : List ℕ) → Below 64 sets → distinct (minimals sets) ≡ true
 unfolding minimals

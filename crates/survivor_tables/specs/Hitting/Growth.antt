@@ -79,9 +79,9 @@ module _ (seen : List ℕ) (s : ℕ) (below : Below 64 (seen ++ (s ∷ []))) whe
 
       -- the only private set of u is s: t without u is minimal for `seen`
       from : (u : ℕ) → has u t ≡ true → has u (critical seen t) ≡ false → (m : ℕ) × Minimal seen m × Grown (seen ++ (s ∷ [])) s m t
-      from u i not-critical = (
+      from u i not_critical = (
         rest,
-        critical_minimal seen rest rest_lt (remove_hits seen u t lt i hit not-critical) (all_critical seen rest rest_lt keeps),
+        critical_minimal seen rest rest_lt (remove_hits seen u t lt i hit not_critical) (all_critical seen rest rest_lt keeps),
         added u (shared_has u low high s t private_s).0 misses (sym (insert_remove u low high t lt i)) (minimal_critical (seen ++ (s ∷ [])) t lt min),
       )
         where
@@ -92,7 +92,7 @@ module _ (seen : List ℕ) (s : ℕ) (below : Below 64 (seen ++ (s ∷ []))) whe
           high = (has_bounds 64 u t lt i).1
 
           private_s : common s t ≡ single u
-          private_s = ⊎_elim (λ w. absurd (clash (private_critical u low high seen t lt w) not-critical)) (λ e. e) (own u i)
+          private_s = ⊎_elim (λ w. absurd (clash (private_critical u low high seen t lt w) not_critical)) (λ e. e) (own u i)
 
           rest : ℕ
           rest = minus t (single u)

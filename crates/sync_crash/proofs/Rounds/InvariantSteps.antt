@@ -73,13 +73,13 @@ module _ {S : Instance} (L : Lawful S) where
 
     -- ---- no core drive has decided: nobody announces
 
-    module _ {p : ℕ} (pc : core p ≡ true) (stays : StaysUp S p) (core-undecided : (d : ℕ) → core d ≡ true → alive k d ≡ true → decision S k d ≡ none) where
+    module _ {p : ℕ} (pc : core p ≡ true) (stays : StaysUp S p) (core_undecided : (d : ℕ) → core d ≡ true → alive k d ≡ true → decision S k d ≡ none) where
       only_stable : (e : ℕ) {w : ℕ} → decision S k e ≡ none → decision S (suc k) e ≡ some w → StableClose S k e × (smallest_of S (knows S (suc k) e) ≡ some w)
       only_stable e o m =
-          ⊎_elim (λ t. let s = t.reached.sender in absurd (none_some (core-undecided t.from s.in_core s.up) t.made)) (λ t. t) (how_decided L k e o m)
+          ⊎_elim (λ t. let s = t.reached.sender in absurd (none_some (core_undecided t.from s.in_core s.up) t.made)) (λ t. t) (how_decided L k e o m)
 
       awake_next : NoneHalted S (suc k)
-      awake_next = none_halted_next L awake (λ d i u. core-undecided d i (no_return u))
+      awake_next = none_halted_next L awake (λ d i u. core_undecided d i (no_return u))
 
       p_closes : Closer S k p
       p_closes = core_closes L awake pc (stays (suc k))
@@ -99,10 +99,10 @@ module _ {S : Instance} (L : Lawful S) where
           }
 
       -- nobody at all has decided
-      module _ (all-undecided : (d : ℕ) → InFrame S d → alive k d ≡ true → decision S k d ≡ none) where
+      module _ (all_undecided : (d : ℕ) → InFrame S d → alive k d ≡ true → decision S k d ≡ none) where
         first_stable : (d : ℕ) {w : ℕ} → InFrame S d → alive (suc k) d ≡ true → decision S (suc k) d ≡ some w
             → StableClose S k d × (smallest_of S (knows S (suc k) d) ≡ some w)
-        first_stable d f u m = only_stable d (all-undecided d f (no_return u)) m
+        first_stable d f u m = only_stable d (all_undecided d f (no_return u)) m
 
         -- e is one of those that decide
         first_next : (e : ℕ) {w : ℕ} → InFrame S e → alive (suc k) e ≡ true → decision S (suc k) e ≡ some w → Invariant S (suc k) w
@@ -113,11 +113,11 @@ module _ {S : Instance} (L : Lawful S) where
                   same_some t.1 (ap (smallest_of S) (stable_knows_same L pc p_closes t.0 r.0) ∙ r.1);
               phase = inr awake_next;
               lock = λ d g l b q. let t = first_stable d g b q in
-                  let known-to : (x : ℕ) → core x ≡ true → alive (suc k) x ≡ true → knows S (suc k) x ≡ knows S (suc k) d =
+                  let known_to : (x : ℕ) → core x ≡ true → alive (suc k) x ≡ true → knows S (suc k) x ≡ knows S (suc k) d =
                   λ x i ux. sym (listener_knows_same L t.0 i (core_closes L awake i ux) l) in
                   inr (record {
-                    equal = λ x y i ux j uy. known-to x i ux ∙ sym (known-to y j uy);
-                    value = λ x i ux. ap (smallest_of S) (known-to x i ux ∙ stable_knows_same L pc p_closes t.0 r.0) ∙ r.1;
+                    equal = λ x y i ux j uy. known_to x i ux ∙ sym (known_to y j uy);
+                    value = λ x i ux. ap (smallest_of S) (known_to x i ux ∙ stable_knows_same L pc p_closes t.0 r.0) ∙ r.1;
                   });
             }
 
@@ -140,10 +140,10 @@ module _ {S : Instance} (L : Lawful S) where
           ⊎_elim
           (λ b. (
             v,
-            ⊎_elim (λ c. absurd (clash (c p pc (stays k)) (is_none (core-undecided p pc (stays k))))) locked_next
+            ⊎_elim (λ c. absurd (clash (c p pc (stays k)) (is_none (core_undecided p pc (stays k))))) locked_next
                 (I.lock b.drive b.in_frame (not-true (core b.drive) b.is_among) b.up b.made),
           ))
-          (λ no-listener. undecided_next (λ d f u. by_test (core d) (λ i. core-undecided d i u) (λ l. no-listener d f (ap not l) u)))
+          (λ no_listener. undecided_next (λ d f u. by_test (core d) (λ i. core_undecided d i u) (λ l. no_listener d f (ap not l) u)))
           (any_decided L (λ d. not (core d)) k k)
 
   -- ---- the invariant
@@ -155,7 +155,7 @@ module _ {S : Instance} (L : Lawful S) where
         (λ all. (v, all_decided_next I all))
         (λ awake. ⊎_elim
         (λ a. (v, announced_next awake I a))
-        (λ core-undecided. stable_next awake I pc stays (λ d i u. core-undecided d (in_frame i) i u))
+        (λ core_undecided. stable_next awake I pc stays (λ d i u. core_undecided d (in_frame i) i u))
         (any_decided L core k k))
         I.phase
 

@@ -55,10 +55,10 @@ module _ (k n : ℕ) (table : List ℕ) (accepted : Accepted n table) where
     outside_share_none split sets w d =
         let j = block d.drive in
         let s = w.one j (range_elem j 1 k (split.low d.drive d.low d.high) (omega (arith, split.high d.drive d.low d.high))) in
-        let in-outside = subset_has d.drive s.0 (outside n (block_of n block j)) s.2 (d.in_each s.0 s.1) in
+        let in_outside = subset_has d.drive s.0 (outside n (block_of n block j)) s.2 (d.in_each s.0 s.1) in
         clash
         (has_block_of n accepted.high block j d.drive ∙ and_intro (full_has d.drive n accepted.high d.low d.high) (eq-eqb j j refl))
-        (not-true (has d.drive (block_of n block j)) (and_right (has d.drive (full n)) _ (sym (has_outside d.drive n (block_of n block j)) ∙ in-outside)))
+        (not-true (has d.drive (block_of n block j)) (and_right (has d.drive (full n)) _ (sym (has_outside d.drive n (block_of n block j)) ∙ in_outside)))
 
   -- ---- k-Partition
 
