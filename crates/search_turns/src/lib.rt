@@ -15,17 +15,17 @@ use set_orders::sorting::Order;
 use set_orders::{slices, sorting};
 use survivor_tables::MAX_CORES;
 
-// The turns of a round: level order; twice the dead ends first; by size; the dead ends first, twice and then once with
-// look-ahead; by mask.
+// The turns of a round, of which each second looks ahead: level order, without look-ahead and with it; by size, with it;
+// by mask, without; and between these, and at the end, the sets with most dead ends first.
 const ROUND: usize = 8;
 
 const BY_LEVEL: usize = 0;
 
+const BY_LEVEL_AHEAD: usize = 1;
+
 const BY_SIZE: usize = 3;
 
-const LOOKING_AHEAD: usize = 6;
-
-const BY_MASK: usize = 7;
+const BY_MASK: usize = 6;
 
 // Sixteen rounds: so many that no search is known to come to their end.
 const TURNS: usize = 16 * ROUND;
@@ -36,7 +36,7 @@ fn arrange(turn: usize, sets: &mut [u64], ends: &[u64])
 {
     let n = sets.len();
     match turn % ROUND {
-        BY_LEVEL => levels::level_order(sets),
+        BY_LEVEL | BY_LEVEL_AHEAD => levels::level_order(sets),
         BY_SIZE => sorting::sort(Order::BySize, sets, n),
         BY_MASK => sorting::sort(Order::ByMask, sets, n),
         _ => dead_ends::put_first(sets, ends),
@@ -63,18 +63,17 @@ fn fuel_for(work: usize, n: usize) -> usize
     work / (n + OTHER_WORK) + n
 }
 
-// The fuel of a turn: level order and look-ahead, which most often do best, have four times that of the others.
+// The fuel of a turn: level order without look-ahead, which most often does best, has four times that of the others.
 fn fuel_of(turn: usize, fuel: usize) -> usize {
-    let place = turn % ROUND;
-    if fuel < MOST_FUEL && (place == BY_LEVEL || place == LOOKING_AHEAD) {
+    if fuel < MOST_FUEL && turn % ROUND == BY_LEVEL {
         return 4 * fuel;
     }
     fuel
 }
 
-// Each round has twice the fuel of the one before; the last turn of a round has that of the next.
+// Each round has twice the fuel of the one before.
 fn next_fuel(turn: usize, fuel: usize) -> usize {
-    if fuel < MOST_FUEL && turn % ROUND == LOOKING_AHEAD {
+    if fuel < MOST_FUEL && turn % ROUND == ROUND - 1 {
         return 2 * fuel;
     }
     fuel
@@ -89,7 +88,7 @@ fn in_turns(order: Order, sets: &mut [u64], list: &mut [u64], ends: &mut [u64]) 
     while turn < TURNS {
         arrange(turn, sets, ends);
         let mode = Mode {
-            look_ahead: turn % ROUND == LOOKING_AHEAD,
+            look_ahead: turn % 2 == 1,
             limited: true,
         };
         let tried = search_once(turn + 1, mode, order, sets, list, fuel_of(turn, fuel), ends);

@@ -7,5 +7,5 @@ use Rattle.search_turns.proofs.arrange.Goals as goal
 pub returns-in-3 : goal.returns-in-3
 returns-in-3 c x = ap (times x) c.sort.ensures ∙ times_sort_first _ x _ _
 
-pub returns-in-7 : goal.returns-in-7
-returns-in-7 c x = ap (times x) c.sort-in-7.ensures ∙ times_sort_first _ x _ _
+pub returns-in-6 : goal.returns-in-6
+returns-in-6 c x = ap (times x) c.sort-in-6.ensures ∙ times_sort_first _ x _ _
