@@ -28,10 +28,6 @@ module _ {limited : Bool} {fuel : ℕ} (before : ℕ → ℕ → Bool) (sets out
     listed = λ _ p. absurd (omega arith);
   }
 
-  -- a search without limit does not give up
-  pub unlimited_all : left ≡ 0 → limited ≡ false → 0 < fuel → ⊥
-  unlimited_all e u lt = omega (arith, s.unspent u)
-
   -- all, put in order
   pub tried_all : (new : List ℕ) → r ≤ length mid → (left ≡ 0 → ⊥) → new ≡ sort_first before r mid → Attempted before sets (length out) new true r
   tried_all new h some e = record {
