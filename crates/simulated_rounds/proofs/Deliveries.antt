@@ -1,5 +1,5 @@
--- The messages of one sender, one drive of its list after the other.
-use mathlib.Core.Path.{◌≡◌, sym, ap, ap₂, ◌∙◌, subst}
+-- The messages of one sender, one drive of its list after the other. A state that a refusal keeps need not be stored.
+use mathlib.Core.Path.{◌≡◌, sym, ap, ◌∙◌, subst}
 use mathlib.Core.Bool.{true}
 use mathlib.Core.Logic.{⊎_elim}
 use mathlib.Core.List.{List, [], ◌∷◌, map}
@@ -7,6 +7,11 @@ use Prim.Native.Nat.{ℕ, ◌-◌, ◌^◌, ◌≤◌, ◌<◌}
 use native.Mathlib.Omega.{arith}
 use lib.Pow.{pow_mono}
 use lib.ListN.{length, drop, get_or, set, length-set}
+use lib.Seq.{set-get_or}
+use Rattle.drive_sets.specs.declared.Refusal.{Refusal}
+use Rattle.drive_sets.specs.declared.Answer.{Answer}
+use Rattle.drive_sets.specs.declared.Answer.TheVariants.{Refused}
+use Rattle.drive_sets.specs.Refusals.{Outcome, outcome_of}
 use Rattle.drive_sets.specs.Lists.{elem}
 use Rattle.drive_sets.specs.Lists.Laws.{elem_head, elem_tail, elem_append_cases}
 use Rattle.drive_sets.specs.Masks.{single, minus, outside, drives}
@@ -17,7 +22,8 @@ use Rattle.drive_sets.specs.Counts.{is_drive}
 use Rattle.drive_sets.specs.Counts.Laws.{is_drive_law, drive_bounds}
 use Rattle.drive_states.specs.declared.Exchange.{Exchange}
 use Rattle.agreement.specs.Calls.{receiving}
-use Rattle.exchange.specs.Replies.{state_after}
+use Rattle.exchange.specs.declared.Reply.{Reply}
+use Rattle.exchange.specs.Replies.{reply_of, state_after, Replied}
 use Rattle.runs.specs.World.{Call, delivers, World}
 use Rattle.agreement.specs.Document01.{apply, apply_all}
 use Rattle.runs.specs.World as worlds
@@ -60,19 +66,27 @@ module _ {n : ℕ} {bytes : List ℕ} {before all : List Exchange} {whole : List
   deliver_fewer [] g more = absurd (more g.first)
   deliver_fewer (e ∷ es) g more = omega arith
 
+  -- the states once the message is taken
   pub deliver_turn : n ≤ 64 → (rest : List ℕ) {to : ℕ} → Delivering n bytes before all whole rest to → (to ≡ 0 → ⊥)
-      → {y : Exchange} → y ≡ state_after (get_or all (to - 1) blank) (receiving (get_or all (to - 1) blank) bytes)
-      → {rest' : List ℕ} → rest' ≡ drop 1 rest → {to' : ℕ} → to' ≡ get_or rest' 0 0 → Delivering n bytes before (set all (to - 1) y) whole rest' to'
+      → {told : List Exchange} → told ≡ set all (to - 1) (state_after (get_or all (to - 1) blank) (receiving (get_or all (to - 1) blank) bytes))
+      → {rest' : List ℕ} → rest' ≡ drop 1 rest → {to' : ℕ} → to' ≡ get_or rest' 0 0 → Delivering n bytes before told whole rest' to'
   unfolding worlds.apply_all state_at
   deliver_turn few [] g more f r t = absurd (more g.first)
-  deliver_turn few (e ∷ es) {to} g more {y} f r t = rw r (record {
-    long = length-set all (to - 1) y ∙ g.long;
+  deliver_turn few (e ∷ es) {to} g more {told} f r t = rw r (record {
+    long = ap length f ∙ (length-set all (to - 1) _ ∙ g.long);
     first = t ∙ ap (λ (l : List ℕ). get_or l 0 0) r;
     drives = λ d h. g.drives d (elem_tail d e es h);
     same = ap (λ (w : World). apply_all w (messages bytes es)) put ∙ g.same;
   })
     where
-      put : world_of n (set all (to - 1) y) ≡ apply (world_of n all) (delivers e bytes)
+      put : world_of n told ≡ apply (world_of n all) (delivers e bytes)
       put =
-          ap₂ (λ (d : ℕ) (x : Exchange). world_of n (set all (d - 1) x)) g.first (f ∙ ap (λ (d : ℕ). state_after (state_at all d) (receiving (state_at all d) bytes)) g.first)
+          ap (world_of n) (f ∙ ap (λ (d : ℕ). set all (d - 1) (state_after (state_at all d) (receiving (state_at all d) bytes))) g.first)
           ∙ world_deliver n all e (g.drives e (elem_head e es)) (omega (arith, few, g.long)) bytes
+
+-- a refusal keeps the state, and nothing is stored
+pub kept_at : (all : List Exchange) (at : ℕ) {told : List Exchange} {due : Outcome Exchange} {r : Reply} {k : Refusal} → Replied due (get_or all at blank) r → r.answer ≡ Refused k → told ≡ all
+    → told ≡ set all at (state_after (get_or all at blank) due)
+unfolding reply_of
+kept_at all at {r = r} p e same =
+    same ∙ (sym (set-get_or all at blank) ∙ ap (set all at) (ap (λ (a : Answer). state_after (get_or all at blank) (outcome_of a r.state)) (sym e) ∙ ap (state_after (get_or all at blank)) p.answer))

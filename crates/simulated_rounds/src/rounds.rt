@@ -13,7 +13,7 @@ ghost use Rattle.simulated_rounds.specs.Rounds.{crash_at, messages_of, Says};
 
 use crate::{closing, crashes};
 use drive_crashes::Crashes;
-use drive_sets::{Drive, MAX_DRIVES, Round};
+use drive_sets::{Answer, Drive, MAX_DRIVES, Round};
 use drive_states::Exchange;
 use message_writing::LONGEST;
 use simulated_sends::lists;
@@ -56,7 +56,7 @@ fn sent_by(
 }
 
 // The messages of all drives, each as it knew when the round began. The two loops are one function, so that the states
-// stay where they are: an array that goes from function to function is copied.
+// stay where they are: an array that goes from function to function is copied. A state that a refusal keeps is not stored.
 fn send_all(
     states: [Exchange; 64],
     n: u8,
@@ -81,8 +81,11 @@ fn send_all(
             let at = (e - 1) as usize;
             let y = all[at];
             let reply = receiving::message(y, &buf[0..size]);
-            let z = reply.state;
-            all[at] = z;
+            let answer = reply.answer;
+            if let Answer::Accepted = answer {
+                let z = reply.state;
+                all[at] = z;
+            }
             due = lists::rest(due);
             to = lists::first(due);
         }

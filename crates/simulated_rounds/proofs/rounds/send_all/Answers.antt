@@ -1,19 +1,20 @@
 -- The drives one after the other, each with the drives of its list; one that is no sender changes nothing.
 use mathlib.Core.Path.{refl, sym, ap, ◌∙◌}
 use mathlib.Core.List.{map}
-use Prim.Native.Nat.{ℕ}
+use Prim.Native.Nat.{ℕ, ◌-◌}
 use native.Mathlib.Nat.{sub-zero}
 use native.Mathlib.Omega.{arith}
-use lib.ListN.{take}
+use lib.ListN.{take, set}
 use Rattle.runs.specs.World.{delivers}
 use Rattle.runs.specs.World as worlds
 use Rattle.agreement.specs.Document01.{apply_all}
 use Rattle.simulated_sends.specs.States.{world_of, due_of}
-use Rattle.simulated_rounds.proofs.Deliveries.{list_drives, deliver_end, deliver_bounds, deliver_fewer, deliver_turn}
+use Rattle.simulated_rounds.proofs.Deliveries.{list_drives, deliver_end, deliver_bounds, deliver_fewer, deliver_turn, kept_at}
 use Rattle.simulated_rounds.proofs.SenderCalls.{send_turn, send_end}
 use Rattle.simulated_rounds.proofs.Walks.{walk_start}
 use borrow.Author.Rules.{rules}
 use Rattle.simulated_rounds.proofs.rounds.send_all.Goals as goal
+use Rattle.simulated_rounds.proofs.rounds.send_all.Goals.{in-Accepted, in_default}
 
 pub loop-i-init : goal.loop-i-init
 unfolding worlds.apply_all
@@ -52,13 +53,13 @@ pub slice_bounds-message-end : goal.slice_bounds-message-end
 unfolding worlds.apply_all
 slice_bounds-message-end c = let sent = c.sent_by-sent in omega (arith, sent.ensures.within, sent.auto.buf, c.loop-i.invariant.1)
 
-pub offset_bounds-all-at-in-loop-to : goal.offset_bounds-all-at-in-loop-to
+pub offset_bounds-all-at-in-Accepted : goal.offset_bounds-all-at-in-Accepted
 unfolding worlds.apply_all
-offset_bounds-all-at-in-loop-to c = let b = deliver_bounds (due_of c.loop-to.due) c.loop-to.invariant c.loop-to-test.true in omega (arith, b.1, c.requires.0)
+offset_bounds-all-at-in-Accepted c = let b = deliver_bounds (due_of c.loop-to.due) c.loop-to.invariant c.loop-to-test.true in omega (arith, b.1, c.requires.0)
 
-pub bounds-all-at-in-loop-to : goal.bounds-all-at-in-loop-to
+pub bounds-all-at-in-Accepted : goal.bounds-all-at-in-Accepted
 unfolding worlds.apply_all
-bounds-all-at-in-loop-to c = let b = deliver_bounds (due_of c.loop-to.due) c.loop-to.invariant c.loop-to-test.true in omega (arith, b.0, b.1, c.requires.0)
+bounds-all-at-in-Accepted c = let b = deliver_bounds (due_of c.loop-to.due) c.loop-to.invariant c.loop-to-test.true in omega (arith, b.0, b.1, c.requires.0)
 
 pub loop-to-smaller : goal.loop-to-smaller
 unfolding worlds.apply_all
@@ -66,7 +67,13 @@ loop-to-smaller c = let l = c.loop-to in rw c.rest-due.ensures (deliver_fewer (d
 
 pub loop-to-preserved : goal.loop-to-preserved
 unfolding worlds.apply_all
-loop-to-preserved c = let l = c.loop-to in deliver_turn c.requires.0 (due_of l.due) l.invariant c.loop-to-test.true c.message-reply.ensures.state c.rest-due.ensures c.first-to-in-loop-to.ensures
+loop-to-preserved c = let l = c.loop-to in let m = c.message-reply.ensures in
+    deliver_turn c.requires.0 (due_of l.due) l.invariant c.loop-to-test.true
+    (elim c.match-answer.branch [
+      | in-Accepted w ↦ w.all-is ∙ ap (set l.all (l.to.0 - 1)) m.state
+      | in_default w ↦ kept_at l.all (l.to.0 - 1) m w.in_default.is w.all-is
+    ])
+    c.rest-due.ensures c.first-to-in-loop-to.ensures
 
 pub loop-i-preserved : goal.loop-i-preserved
 unfolding worlds.apply_all
