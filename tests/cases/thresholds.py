@@ -87,5 +87,6 @@ def accepted_cases(n: int, t: int) -> Iterator[Case]:
 
 def count_cases() -> Iterator[Case]:
     yield "counts", COUNTS, [[min(comb(n, t), 1025) for t in range(65)] for n in range(65)]
-    entries = [line.strip(" ,") for line in group_counts.source_lines() if line.startswith("    ")]
+    lines = [line for line in group_counts.source_lines() if line.startswith("    ")]
+    entries = [entry for line in lines for entry in line.strip(" ,").split(", ")]
     yield "counts as printed", list(map(int, entries)), [entry for row in COUNTS for entry in row]
