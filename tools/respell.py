@@ -156,4 +156,5 @@ def main():
     print(len(table), "names turned in", len(changes), "files;", bad, "to look at")
 
 
-main()
+if __name__ == "__main__":
+    main()
