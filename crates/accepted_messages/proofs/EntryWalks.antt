@@ -2,27 +2,12 @@
 -- are left.
 use mathlib.Core.Path.{◌≡◌, sym, ap, ◌∙◌}
 use mathlib.Core.List.{List, [], ◌∷◌}
-use Prim.Native.Nat.{ℕ, ◌-◌, min}
-use native.Mathlib.Omega.{arith}
-use lib.Dec.{leb}
-use lib.ListN.{length, take, drop}
-use borrow.Author.Tests.{leb-true, leb-false}
-use Rattle.drive_sets.specs.Bools.Laws.{by_test}
+use Prim.Native.Nat.{ℕ}
+use lib.ListN.{drop}
 use Rattle.drive_sets.specs.Masks.{drives}
 use Rattle.drive_sets.specs.Loops.Drives.{Taken, Walk, walk_next, walk_turn, walk_end}
 use Rattle.records.specs.Fields.{field_at}
-use Rattle.records.proofs.Parts.{rest_is, rest_past}
 use Rattle.drive_states.specs.Messages.{Entry, entries_from}
-
--- a part of the bytes: those behind the first k, or behind all
-pub behind : (k : ℕ) (s : List ℕ) {j : ℕ} → j ≡ min k (length s) → take (length s - j) (drop j s) ≡ drop k s
-behind k s {j} e =
-    by_test (leb k (length s))
-    (λ t. let most = leb-true k (length s) t in part (omega (arith, most, e)) ∙ rest_is s k)
-    (λ t. let past = leb-false k (length s) t in part (omega (arith, past, e)) ∙ rest_past s k past)
-  where
-    part : {i : ℕ} → j ≡ i → take (length s - j) (drop j s) ≡ take (length s - i) (drop i s)
-    part = ap (λ (i : ℕ). take (length s - i) (drop i s))
 
 module _ {A : Type 0} (width : ℕ) where
   -- what f makes of the entries that are left is the whole

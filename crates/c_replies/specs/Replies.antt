@@ -1,17 +1,11 @@
 -- Replies as structs of numbers, from what the library's definitions give: the values of a result with refusal 0, and
 -- beside a refusal zeros.
 use Rattle.std.specs.Prelude.{Bool, true, false, ℕ}
-use Rattle.drive_sets.specs.declared.Answer.{Answer}
-use Rattle.drive_sets.specs.declared.Answer.TheVariants.{Accepted, Refused}
-use Rattle.drive_sets.specs.Refusals.{Outcome, refused, yields, number}
+use Rattle.drive_sets.specs.Refusals.{Outcome, refused, yields}
 use Rattle.c_replies.specs.declared.SizeReply.{SizeReply}
 pub mod Laws
 
 -- ---- refusals: 0 for none
-
-abbrev pub refusal_in : Answer → ℕ
-refusal_in Accepted = 0
-refusal_in (Refused r) = number r
 
 module _ {A : Type 0} where
   abbrev pub refusal_of : Outcome A → ℕ

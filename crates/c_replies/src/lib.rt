@@ -2,12 +2,10 @@
 #![tactic(auto)]
 
 ghost use Rattle.std.specs.Prelude.{◌≡◌};
-ghost use Rattle.drive_sets.specs.Refusals.{refused, number};
-ghost use Rattle.lent_bytes.specs.LentBuffers.{writing_outcome};
-ghost use Rattle.c_replies.specs.Replies.{refusal_in, size_reply, flag_of};
+ghost use Rattle.drive_sets.specs.Refusals.{refused, outcome, number};
+ghost use Rattle.c_replies.specs.Replies.{size_reply, flag_of};
 
-use drive_sets::{Answer, Refusal};
-use lent_bytes::Writing;
+use drive_sets::Refusal;
 
 // How many sets or bytes were put into lent memory.
 #[repr(C)]
@@ -17,32 +15,22 @@ pub struct SizeReply {
     pub refusal: u32,
 }
 
-// The number of a refusal, and 0 where there is none.
-pub fn refusal_of(answer: Answer) -> u32
-    ensures { result ≡ refusal_in answer }
-{
-    match answer {
-        Answer::Accepted => 0,
-        Answer::Refused(r) => r.number() as u32,
-    }
-}
-
 pub fn refused_size(r: Refusal) -> SizeReply
     ensures { result ≡ size_reply (refused (number r)) }
 {
     SizeReply {
         size: 0,
-        refusal: r.number() as u32,
+        refusal: u32::from(r.number()),
     }
 }
 
 // What a writer answers.
-pub fn written_size(w: Writing) -> SizeReply
-    ensures { result ≡ size_reply (writing_outcome w) }
+pub fn written_size(w: Result<usize, Refusal>) -> SizeReply
+    ensures { result ≡ size_reply (outcome w) }
 {
     match w {
-        Writing::Refused(r) => refused_size(r),
-        Writing::Wrote(size) => SizeReply { size, refusal: 0 },
+        Err(r) => refused_size(r),
+        Ok(size) => SizeReply { size, refusal: 0 },
     }
 }
 
@@ -50,5 +38,5 @@ pub fn written_size(w: Writing) -> SizeReply
 pub fn flag(b: bool) -> u8
     ensures { result ≡ flag_of b }
 {
-    if b { 1 } else { 0 }
+    u8::from(b)
 }

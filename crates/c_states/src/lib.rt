@@ -5,7 +5,7 @@ ghost use Rattle.std.specs.Prelude.{◌≡◌};
 ghost use Rattle.drive_sets.specs.Refusals.{outcome_of};
 ghost use Rattle.c_states.specs.Crossing.{announcement_in, decision_in, exchange_of, announced_flag, announced_drive, announced_number, decided_flag, decided_number, state_of, answered};
 
-use drive_sets::{Answer, Drive, Pattern, Round};
+use drive_sets::{Drive, Pattern, Refusal, Round};
 use drive_states::{Announcement, Decision, Exchange};
 
 // The state of one drive, without gaps between its numbers. A flag is set where it is not 0; a call that is accepted
@@ -64,9 +64,7 @@ fn announcement_in(s: State) -> Announcement
     if s.announced == 0 {
         return Announcement::Absent;
     }
-    let by = s.by;
-    let told = s.told;
-    Announcement::By(by, told)
+    Announcement::By(s.by, s.told)
 }
 
 fn decision_in(s: State) -> Decision
@@ -75,31 +73,26 @@ fn decision_in(s: State) -> Decision
     if s.decided == 0 {
         return Decision::Undecided;
     }
-    let decision = s.decision;
-    Decision::Decided(decision)
+    Decision::Decided(s.decision)
 }
 
 // The state that the numbers say.
 pub fn exchange_of(s: State) -> Exchange
     ensures { result ≡ exchange_of s }
 {
-    let own = s.own;
-    let round = s.round;
     let numbers = s.numbers;
-    let announced = announcement_in(s);
-    let decision = decision_in(s);
     Exchange {
         n: s.n,
-        own,
+        own: s.own,
         core: s.core,
-        round,
+        round: s.round,
         before: s.before,
         heard: s.heard,
         known: s.known,
         start: s.start,
         numbers,
-        announced,
-        decision,
+        announced: announcement_in(s),
+        decision: decision_in(s),
         halted: s.halted != 0,
     }
 }
@@ -152,52 +145,43 @@ fn decided_number(d: Decision) -> Pattern
 }
 
 // The state as numbers; what does not count is 0.
-pub fn state_of(x: Exchange) -> State
-    ensures { result ≡ state_of x }
+pub fn state_of(x: &Exchange) -> State
+    ensures { result ≡ state_of x.now }
 {
-    let own = x.own;
-    let round = x.round;
-    let numbers = x.numbers;
-    let a = x.announced;
-    let d = x.decision;
-    let told = announced_number(a);
-    let by = announced_drive(a);
-    let decision = decided_number(d);
-    let reserved = [0u8; 1];
     State {
         core: x.core,
         before: x.before,
         heard: x.heard,
         known: x.known,
         start: x.start,
-        numbers,
-        told,
-        decision,
+        numbers: x.numbers,
+        told: announced_number(x.announced),
+        decision: decided_number(x.decision),
         n: x.n,
-        own,
-        round,
-        announced: announced_flag(a),
-        by,
-        decided: decided_flag(d),
+        own: x.own,
+        round: x.round,
+        announced: announced_flag(x.announced),
+        by: announced_drive(x.announced),
+        decided: decided_flag(x.decision),
         halted: c_replies::flag(x.halted),
-        reserved,
+        reserved: [0u8; 1],
     }
 }
 
 // ---- replies
 
 // A refusal hands the state back as it came, whatever its flags and its reserved bytes are.
-pub fn state_reply(s: State, answer: Answer, y: Exchange) -> StateReply
-    ensures { result ≡ answered s (outcome_of answer y) }
+pub fn state_reply(s: State, r: Result<(), Refusal>, y: &Exchange) -> StateReply
+    ensures { result ≡ answered s (outcome_of r y.now) }
 {
-    match answer {
-        Answer::Refused(r) => StateReply {
+    match r {
+        Err(r) => StateReply {
             state: s,
-            refusal: r.number() as u32,
+            refusal: u32::from(r.number()),
         },
-        Answer::Accepted => {
-            let state = state_of(y);
-            StateReply { state, refusal: 0 }
-        }
+        Ok(()) => StateReply {
+            state: state_of(y),
+            refusal: 0,
+        },
     }
 }

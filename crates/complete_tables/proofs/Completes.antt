@@ -1,63 +1,43 @@
 -- The normal table and its cores, as the code finds them, are those of the definitions.
-use mathlib.Core.Path.{◌≡◌, refl, sym, ap, ap₂, ◌∙◌}
-use mathlib.Core.Bool.{Bool, true, false}
-use mathlib.Core.List.{List, [], ◌∷◌}
-use Prim.Native.Nat.{ℕ, ◌-◌, ◌≤◌, ◌<◌}
-use native.Mathlib.Nat.{sub-zero}
-use native.Mathlib.Omega.{arith}
-use lib.Dec.{ltb}
-use lib.ListN.{length, take, drop, replicate, length-drop, length-replicate}
-use borrow.Author.Tests.{lt-ltb, le-ltb}
-use Rattle.drive_sets.specs.declared.Refusal.TheVariants.{TooManyCores}
-use Rattle.drive_sets.specs.declared.Refusal.{Refusal}
-use Rattle.drive_sets.specs.declared.Answer.{Answer}
-use Rattle.drive_sets.specs.declared.Answer.TheVariants as answers
-use Rattle.drive_sets.specs.Refusals.{Outcome, refused, yields, and_then, number, outcome_of}
-use Rattle.drive_sets.specs.Refusals.Laws.{refused_no_result, same_result, then_refuse, then_assoc}
-use Rattle.normal_forms.specs.declared.NormalForm.{NormalForm}
-use Rattle.normal_forms.specs.declared.NormalForm.TheVariants as forms
-use Rattle.set_orders.specs.declared.sorting.Order.TheVariants.{BySize}
-use Rattle.survivor_tables.specs.Hitting.{minimals}
-use Rattle.core_search.specs.Found.{Found}
-use Rattle.core_search.specs.Found.Laws.{found_listed}
+use Rattle.std.specs.Prelude.{◌≡◌, refl, Bool, List, [], ◌∷◌, ℕ, ◌+◌, ◌≤◌, ◌<◌, ◌==◌, true, false, ltb, length, get_or, take, drop}
+use Rattle.std.proofs.Common.{sym, ap, ◌∙◌, arith, ne_eqb, le-ltb, lt-ltb, length-drop}
+use Rattle.std.proofs.lemmas.List.{at_drop_more}
 use Rattle.drive_sets.specs.Lent.{size_written, buffer_after}
 use Rattle.drive_sets.specs.Lent.Laws.{first_places}
-use Rattle.survivor_tables.specs.Order.{sort, by_size, normal}
-use Rattle.set_orders.specs.Sorting.{precedes}
-use Rattle.normal_forms.specs.NormalForms.{normal_list, form_outcome}
-use Rattle.survivor_tables.specs.Order.Sort.{length_sort}
-use Rattle.normal_forms.specs.NormalForms.Laws.{normal_list_result}
-use Rattle.survivor_tables.specs.Order.Normal.{length_normal}
-use Rattle.survivor_tables.specs.declared.frames.MaskKind.{MaskKind}
-use Rattle.survivor_tables.specs.declared.frames.MaskKind.TheVariants.{SurvivorSet}
-use Rattle.survivor_tables.specs.declared.frames.Table.{Table}
 use Rattle.drive_sets.specs.Limits.{max_sets, max_cores}
-use Rattle.survivor_tables.specs.Tables.{is_empty, cores, within_core_limit, checked_masks, checked_sets, normal_table}
-use Rattle.survivor_tables.proofs.Tables.Laws.{masks_checked}
-use Rattle.complete_tables.specs.Complete.{sets_of, with_cores, complete_normal, complete_sets, complete_table}
+use Rattle.drive_sets.specs.Refusals.{Outcome, refused, yields, and_then, number}
+use Rattle.drive_sets.specs.Refusals.Laws.{refused_no_result, same_result, then_refuse}
+use Rattle.drive_sets.specs.declared.Refusal.TheVariants.{TooManyCores}
+use Rattle.normal_forms.specs.NormalForms.{normal_list}
+use Rattle.normal_forms.specs.NormalForms.Laws.{normal_list_result}
+use Rattle.core_search.specs.Found.{Found}
+use Rattle.core_search.specs.Found.Laws.{found_listed}
+use Rattle.set_orders.specs.Sorting.{precedes}
+use Rattle.set_orders.specs.declared.sorting.Order.TheVariants.{BySize}
+use Rattle.survivor_tables.specs.Hitting.{minimals}
+use Rattle.survivor_tables.specs.Order.{by_size, sort, normal}
+use Rattle.survivor_tables.specs.Order.Normal.{length_normal}
+use Rattle.survivor_tables.specs.Order.Sort.{length_sort}
+use Rattle.survivor_tables.specs.Tables.{is_empty, cores, within_core_limit, checked_mask, each_mask}
+use Rattle.survivor_tables.specs.declared.frames.MaskKind.{MaskKind}
+use Rattle.complete_tables.specs.Complete.{with_cores, complete_normal, complete_sets}
 
 -- ---- the normal table
 
-abbrev zeros : List ℕ
-zeros = replicate max_sets 0
+-- the normal form of at most 128 sets has room in an array of 128
+module _ {room : ℕ} (sets : List ℕ) (most : length sets ≤ max_sets) (e : room ≡ max_sets) where
+  is_normal : normal_list room sets ≡ yields (normal sets)
+  is_normal = normal_list_result room sets most (omega arith)
 
--- the normal form of at most 128 sets, in an array of as many zeros
-module _ (sets : List ℕ) (most : length sets ≤ max_sets) (form : NormalForm) (says : form_outcome form ≡ size_written (normal_list max_sets sets)) where
-  is_normal : normal_list max_sets sets ≡ yields (normal sets)
-  is_normal = normal_list_result max_sets sets most most
+  pub form_given : {q : ℕ} → refused q ≡ size_written (normal_list room sets) → ⊥
+  form_given says = refused_no_result (says ∙ ap size_written is_normal)
 
-  pub form_given : {r : Refusal} → form ≡ forms.Refused r → ⊥
-  form_given e = refused_no_result (ap form_outcome (sym e) ∙ (says ∙ ap size_written is_normal))
-
-  module _ {count : ℕ} (e : form ≡ forms.Sets count) where
-    count_is : count ≡ length (normal sets)
-    count_is = same_result (ap form_outcome (sym e) ∙ (says ∙ ap size_written is_normal))
-
-    pub count_le : count ≤ max_sets
-    count_le = omega (arith, count_is, length_normal sets)
-
-    pub normal_taken : {new : List ℕ} → new ≡ buffer_after (normal_list max_sets sets) 0 zeros → take count new ≡ normal sets
-    normal_taken f = ap (take count) (f ∙ ap (λ (o : Outcome (List ℕ)). buffer_after o 0 zeros) is_normal) ∙ first_places zeros (normal sets) count (sym count_is) (omega (arith, length_normal sets, length-replicate {A = ℕ} max_sets 0))
+  pub normal_taken : {count : ℕ} (old : List ℕ) {new : List ℕ} → yields count ≡ size_written (normal_list room sets)
+      → length old ≡ room → new ≡ buffer_after (normal_list room sets) 0 old → take count new ≡ normal sets
+  normal_taken {count} old says f after =
+      let count_is = same_result (says ∙ ap size_written is_normal) in
+      ap (take count) (after ∙ ap (λ (o : Outcome (List ℕ)). buffer_after o 0 old) is_normal)
+      ∙ first_places old (normal sets) count (sym count_is) (omega (arith, length_normal sets))
 
 -- ---- the cores
 
@@ -65,11 +45,11 @@ by_size_law : precedes BySize ≡ by_size
 unfolding precedes
 by_size_law = refl
 
-module _ (n : ℕ) {part out out' : List ℕ} {found : ℕ} (table : List ℕ) (e : part ≡ table) (room : length out ≡ max_cores)
-    (f : Found (precedes BySize) part out out' found) where
-  core_count : length (cores table) ≡ length (minimals part)
+module _ (n : ℕ) {table out out' : List ℕ} {found : ℕ} (room : length out ≡ max_cores)
+    (f : Found (precedes BySize) table out out' found) where
+  core_count : length (cores table) ≡ length (minimals table)
   unfolding cores
-  core_count = length_sort by_size (minimals table) ∙ ap (λ (l : List ℕ). length (minimals l)) (sym e)
+  core_count = length_sort by_size (minimals table)
 
   pub too_many : max_cores < found → refused (number TooManyCores) ≡ complete_normal n table
   unfolding complete_normal
@@ -79,7 +59,7 @@ module _ (n : ℕ) {part out out' : List ℕ} {found : ℕ} (table : List ℕ) (
   unfolding complete_normal with_cores cores
   completed h =
       ap (λ (c : List ℕ). yields (record { n = n; sets = table; cores = c }))
-      (found_listed f (omega arith) ∙ ap₂ (λ (b : ℕ → ℕ → Bool) (l : List ℕ). sort b (minimals l)) by_size_law e)
+      (found_listed f (omega arith) ∙ ap (λ (b : ℕ → ℕ → Bool). sort b (minimals table)) by_size_law)
       ∙ rw (le-ltb max_cores (length (cores table)) (omega (arith, f.total, core_count)))
 
 pub complete_normal_law : (n : ℕ) (sets : List ℕ) → complete_normal n (normal sets) ≡ complete_sets n sets
@@ -87,24 +67,14 @@ unfolding complete_normal complete_sets within_core_limit
 complete_normal_law n sets =
     sym (then_refuse (ltb max_cores (length (cores (normal sets)))) TooManyCores (normal sets) (λ table. yields (with_cores n table)))
 
--- the answer of the check, then the rest
-module _ (kind : MaskKind) (n : ℕ) (masks : List ℕ) (answer : Answer) (e : outcome_of answer masks ≡ checked_masks kind n masks) where
-  pub check_said : (a : Answer) → answer ≡ a → outcome_of a masks ≡ checked_masks kind n masks
-  check_said a f = ap (λ (b : Answer). outcome_of b masks) (sym f) ∙ e
+-- ---- masks, one after the other
 
-  -- at most 128 pass
-  pub said_most : answer ≡ answers.Accepted → length masks ≤ max_sets
-  said_most f = (masks_checked kind n masks (sym (check_said answers.Accepted f))).0.most
-
-module _ (n : ℕ) (sets : List ℕ) (answer : Answer) (e : outcome_of answer sets ≡ checked_sets n sets) where
-  pub complete_said : (a : Answer) → answer ≡ a → and_then (outcome_of a sets) (complete_sets n) ≡ complete_table n sets
-  unfolding complete_table complete_sets normal_table
-  complete_said a f = ap (λ (o : Outcome (List ℕ)). and_then o (complete_sets n)) (check_said SurvivorSet n sets answer e a f) ∙ sym (then_assoc (checked_sets n sets) within_core_limit (λ table. yields (with_cores n table)))
-
--- a table's sets, as a part of its array from the start on
-pub first_taken : (t : Table) → take (t.count - 0) t.sets ≡ sets_of t
-unfolding sets_of
-first_taken t = ap (λ (k : ℕ). take k t.sets) (sub-zero t.count)
+-- what the masks from a place on meet is what the one at the place meets, and then the others
+pub each_next : {A : Type 0} (kind : MaskKind) (n : ℕ) (masks : List ℕ) (next : Outcome A) (i : ℕ) → i < length masks
+    → each_mask kind n (drop i masks) next
+    ≡ and_then (checked_mask kind n (get_or masks i 0)) (λ good. each_mask kind n (drop (i + 1) masks) next)
+unfolding each_mask
+each_next kind n masks next i h = at_drop_more (λ l. each_mask kind n l next) masks i 0 h
 
 -- ---- is there any
 
@@ -117,6 +87,12 @@ pub some_elements : (l : List ℕ) → (length l ≡ 0 → ⊥) → is_empty l �
 unfolding is_empty
 some_elements [] ne = absurd (ne refl)
 some_elements (x ∷ l) ne = refl
+
+-- as a slice's own test says
+pub empty_law : (l : List ℕ) → is_empty l ≡ (length l == 0)
+unfolding is_empty
+empty_law [] = refl
+empty_law (x ∷ l) = sym (ne_eqb _ 0 (λ e. omega arith))
 
 -- ---- nothing behind, or something
 

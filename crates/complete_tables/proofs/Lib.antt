@@ -1,4 +1,3 @@
--- What the functions' proofs share, and what an answer says of those who ask for a table.
+-- What the functions' proofs share, and what an accepted table says to those who ask for one.
 pub mod Accepts
-pub mod Checks
 pub mod Completes

@@ -1,17 +1,16 @@
--- A normal table with its cores, and what an answer with both says.
-use Rattle.std.specs.Prelude.{List, ℕ, ◌≤◌, ltb, length, take, replicate}
-use Rattle.drive_sets.specs.declared.Answer.TheVariants.{Refused}
+-- A normal table with its cores, and what the result of a call says that gives both.
+use Rattle.std.specs.Prelude.{List, ℕ, ltb, length, Result}
 use Rattle.drive_sets.specs.declared.Refusal.{Refusal}
 use Rattle.drive_sets.specs.declared.Refusal.TheVariants.{TooManyCores}
-use Rattle.drive_sets.specs.Refusals.{Outcome, yields, refuse_if, and_then, outcome_of, Alone}
+use Rattle.drive_sets.specs.Refusals.{Outcome, yields, refuse_if, and_then, outcome_by}
 use Rattle.complete_tables.specs.declared.TableWithCores.{TableWithCores}
-use Rattle.drive_sets.specs.Limits.{max_sets, max_cores}
+use Rattle.drive_sets.specs.Limits.{max_cores}
 use Rattle.survivor_tables.specs.Tables.{cores, within_core_limit, normal_table}
 use Rattle.survivor_tables.specs.declared.frames.Table.{Table}
 
--- the sets of a table as it is held: the first `count` of its array
-unfoldable pub sets_of : Table → List ℕ
-sets_of t = take t.count t.sets
+-- the sets of a table as it is held
+abbrev pub sets_of : Table → List ℕ
+sets_of t = t.sets.items
 
 pub record Complete : Type 0 where
   pub n : ℕ
@@ -34,17 +33,9 @@ complete_sets n sets = and_then (within_core_limit sets) (λ table. yields (with
 unfoldable pub complete_table : ℕ → List ℕ → Outcome Complete
 complete_table n sets = and_then (normal_table n sets) (λ table. yields (with_cores n table))
 
--- what an answer says
-unfoldable pub complete_outcome : TableWithCores → Outcome Complete
-complete_outcome r = outcome_of r.answer (record { n = r.table.n; sets = sets_of r.table; cores = take r.found r.cores })
+-- what a table that is held says, and what the result of a call says that gives one
+abbrev pub complete_of : TableWithCores → Complete
+complete_of t = record { n = t.table.n; sets = sets_of t.table; cores = t.cores.items }
 
--- the answer with a refusal, and zeros
-unfoldable pub refused_table : Refusal → TableWithCores
-refused_table r =
-    record { answer = Refused r; table = record { n = 0; count = 0; sets = replicate max_sets 0 }; found = 0; cores = replicate max_cores 0 }
-
--- an answer's counts stay within the arrays, and a refusal is its number alone: all else is zero
-pub record CompleteWithin (t : TableWithCores) : Type 0 where
-  pub sets : t.table.count ≤ max_sets
-  pub cores : t.found ≤ max_cores
-  pub alone : Alone (λ (u : TableWithCores). u.answer) refused_table t
+abbrev pub complete_outcome : Result TableWithCores Refusal → Outcome Complete
+complete_outcome r = outcome_by complete_of r

@@ -1,6 +1,7 @@
 -- The list of a drive's sends in lent memory: the drives of a mask put one behind the other, those of two masks, and
 -- the list as those of two masks.
-use mathlib.Core.Path.{◌≡◌, sym, ap, ap₂, ◌∙◌, subst}
+use Rattle.std.specs.Prelude.{Err, Ok, Result}
+use mathlib.Core.Path.{◌≡◌, sym, ap, ap₂, ◌∙◌}
 use mathlib.Core.Bool.{false, not, ◌&&◌, ◌||◌}
 use mathlib.Core.List.{List, ◌++◌}
 use Prim.Native.Nat.{ℕ, ◌+◌, ◌-◌, ◌^◌, ◌≤◌, ◌<◌}
@@ -12,14 +13,17 @@ use borrow.Rule.Slice.PartMut.{put_mid}
 use Rattle.drive_sets.specs.declared.Refusal.TheVariants.{NoRoom}
 use Rattle.drive_sets.specs.Bools.Laws.{and_right, or_false_left, or_false_right}
 use Rattle.drive_sets.specs.Counts.{is_drive, is_round}
-use Rattle.drive_sets.specs.Lent.{written, fitting, size_written, buffer_after}
-use Rattle.drive_sets.specs.Lent.Laws.{written_fits, written_none, written_at_start, has_room, no_room, after_none}
+use Rattle.drive_sets.specs.Lent.{written, fitting}
+use Rattle.drive_sets.specs.Lent.Laws.{written_fits, written_none, written_at_start, has_room, no_room}
 use Rattle.drive_sets.specs.Lists.{range}
 use Rattle.drive_sets.specs.Loops.Drives.{taken, taken_lt, taken_drives}
 use Rattle.drive_sets.specs.Loops.Filling.{Filling, filling_start, filling_turn, filling_end}
 use Rattle.drive_sets.specs.Masks.{has, single, minus, outside, subset, size, lowest, drives}
-use Rattle.drive_sets.specs.Masks.Sizes.{length_drives, drives_none, lowest_removed}
-use Rattle.drive_sets.specs.Refusals.{Outcome, refused, number}
+use Rattle.drive_sets.specs.Masks.Sizes.{size_none, none_size, length_drives, drives_none}
+use Rattle.drive_sets.specs.Refusals.{yields}
+use Rattle.drive_sets.specs.declared.Refusal.{Refusal}
+use Rattle.lent_bytes.specs.LentBuffers.{Written}
+use Rattle.lent_bytes.proofs.Buffers.{written_as, written_refused}
 use Rattle.lent_bytes.proofs.Parts.{part_then}
 use Rattle.survivor_tables.specs.Tables.{is_frame, is_set}
 use Rattle.survivor_tables.proofs.Tables.Laws.{set_lt}
@@ -27,8 +31,6 @@ use Rattle.drive_states.specs.declared.Exchange.{Exchange}
 use Rattle.drive_states.specs.State.{in_core, broken}
 use Rattle.agreement.specs.Sends.{receivers}
 use Rattle.agreement.proofs.SendLists.{receivers_masks}
-use Rattle.c_replies.specs.declared.SizeReply.{SizeReply}
-use Rattle.c_replies.specs.Replies.{size_reply}
 
 -- ---- the drives of a mask over the first places
 
@@ -51,32 +53,23 @@ placing_start m old k word e h = record {
 }
 
 module _ {m : ℕ} {old part : List ℕ} {rest i : ℕ} (p : Placing m old part rest i) where
-  pub placing_room : (rest ≡ 0 → ⊥) → i < length old
-  placing_room ne = omega (arith, p.count, p.room, lowest_removed rest p.word ne)
-
-  pub placing_place : (rest ≡ 0 → ⊥) → i < length part
-  placing_place ne = omega (arith, placing_room ne, p.filling.same)
-
-  pub placing_turn : (rest ≡ 0 → ⊥) → (d others : ℕ) → d ≡ lowest rest → others ≡ minus rest (single (lowest rest))
+  pub placing_turn : i < size m → (d others : ℕ) → d ≡ lowest rest → others ≡ minus rest (single (lowest rest))
       → Placing m old (set part i d) others (i + 1)
-  placing_turn ne d others e g =
-      let t = taken p.word ne e g in
+  placing_turn h d others e g =
+      let t = taken p.word (λ z. omega (arith, p.count, ap size z, size_none)) e g in
       record {
         word = taken_lt t 64 p.word;
         count = omega (arith, p.count, length_drives rest, ap length (taken_drives t), length_drives others);
         room = p.room;
-        filling = filling_turn p.filling (placing_room ne) d (drives others) (taken_drives t);
+        filling = filling_turn p.filling (omega (arith, p.room)) d (drives others) (taken_drives t);
       }
 
-  pub placing_end : rest ≡ 0 → part ≡ written (drives m) old
-  placing_end z =
-      filling_end p.filling (ap drives z ∙ drives_none) ∙ sym (written_fits (drives m) old (omega (arith, p.room, length_drives m)))
+  pub placing_end : size m ≤ i → part ≡ written (drives m) old
+  placing_end h =
+      filling_end p.filling (ap drives (none_size rest p.word (omega (arith, p.count))) ∙ drives_none)
+      ∙ sym (written_fits (drives m) old (omega (arith, p.room, length_drives m)))
 
 -- ---- those of two masks, one behind the other
-
--- a reply and a lent slice say what is due
-abbrev pub Listed : Outcome (List ℕ) → List ℕ → SizeReply → List ℕ → Type 0
-Listed due old r new = record { value : r ≡ size_reply (size_written due); out_after : new ≡ buffer_after due 0 old }
 
 module _ (a b k l : ℕ) (old : List ℕ) (e : k ≡ size a) (f : l ≡ size b) where
   abbrev both : List ℕ
@@ -85,21 +78,18 @@ module _ (a b k l : ℕ) (old : List ℕ) (e : k ≡ size a) (f : l ≡ size b) 
   length_both : length both ≡ k + l
   length_both = omega (arith, length-append (drives a) (drives b), length_drives a, length_drives b)
 
-  pub both_full : length old < k + l → (r : SizeReply) → r ≡ size_reply (refused (number NoRoom)) → Listed (fitting 0 (length old) both) old r old
-  both_full h r g = record {
-    value = g ∙ ap (λ (q : Outcome (List ℕ)). size_reply (size_written q)) (sym (no_room 0 (length old) both (omega (arith, length_both))));
-    out_after = after_none old both (length old) (omega (arith, length_both));
-  }
+  pub both_full : length old < k + l → Written (fitting 0 (length old) both) 0 old old (Err NoRoom)
+  both_full h = written_refused 0 old (no_room 0 (length old) both (omega (arith, length_both)))
 
   pub both_put : k + l ≤ length old → (first back : List ℕ) → first ≡ written (drives a) old
       → back ≡ written (drives b) (take (length first - k) (drop k first))
-      → Listed (fitting 0 (length old) both) old (record { size = k + l; refusal = 0 }) (put_mid k (length first - k) first back)
+      → Written (fitting 0 (length old) both) 0 old (put_mid k (length first - k) first back) (Ok (k + l))
   both_put h first back g p =
-      let fits = has_room 0 (length old) both (omega (arith, length_both)) in record {
-        value = ap (λ (n : ℕ). record { size = n; refusal = 0 }) (sym length_both) ∙ ap (λ (q : Outcome (List ℕ)). size_reply (size_written q)) (sym fits);
-        out_after = part_then old (drives a) (drives b) first back k g (e ∙ sym (length_drives a)) (omega (arith, length_drives a, length_drives b)) p
-            ∙ (sym (written_at_start both old) ∙ ap (λ (q : Outcome (List ℕ)). buffer_after q 0 old) (sym fits));
-      }
+      written_as (sym (has_room 0 (length old) both (omega (arith, length_both)))) (record {
+        answer = ap (λ (n : ℕ). yields n) (sym length_both);
+        buffer = part_then old (drives a) (drives b) first back k g (e ∙ sym (length_drives a)) (omega (arith, length_drives a, length_drives b)) p
+            ∙ sym (written_at_start both old);
+      })
 
 -- ---- the list of a state that keeps the rules
 
@@ -125,8 +115,7 @@ unbroken_list x h =
 
 -- what is put of the two masks is the list
 pub list_given : (x : Exchange) (old : List ℕ) → broken x ≡ false → {others listeners : ℕ} → others ≡ minus x.core (single x.own.0) → listeners ≡ outside x.n x.core
-    → (r : SizeReply) (new : List ℕ) → Listed (fitting 0 (length old) (drives others ++ drives listeners)) old r new
-    → Listed (fitting 0 (length old) (receivers (range 1 x.n) x.core x.own.0)) old r new
-list_given x old h e f r new p =
-    subst (λ (l : List ℕ). Listed (fitting 0 (length old) l) old r new)
-    (ap₂ (λ (a b : ℕ). drives a ++ drives b) e f ∙ sym (unbroken_list x h)) p
+    → {new : List ℕ} {r : Result ℕ Refusal} → Written (fitting 0 (length old) (drives others ++ drives listeners)) 0 old new r
+    → Written (fitting 0 (length old) (receivers (range 1 x.n) x.core x.own.0)) 0 old new r
+list_given x old h e f p =
+    written_as (ap (fitting 0 (length old)) (ap₂ (λ (a b : ℕ). drives a ++ drives b) e f ∙ sym (unbroken_list x h))) p

@@ -1,3 +1,2 @@
 -- Laws behind the proofs of this crate's functions.
-pub mod Converts
 pub mod Prints

@@ -8,20 +8,16 @@ ghost use Rattle.std.specs.Prelude.{IfSome, OnOk};
 ghost use Rattle.std.specs.Io.KnownBytes.{Appends};
 ghost use Rattle.convert_files.specs.ConvertFiles.{convert_program};
 
-use program_io::{read_start, write_written};
+use convert_files::convert_file;
 use std::io;
 use std::io::{Read, Write};
-use text::printing::{MAX_INPUT, MAX_TEXT};
+use text::printing::MAX_INPUT;
 
 // Prints what the program gives for the whole input, of which it reads the first bytes alone.
 fn answer<R: Read, W: Write>(from: &mut R, to: &mut W) -> io::Result<()>
     ensures { OnOk result (IfSome (R.remaining from.old) (λ input. Appends (W.contents to.old) (W.contents to.new) (convert_program input))) }
 {
-    let mut input = [0u8; MAX_INPUT];
-    let n = read_start(from, &mut input)?;
-    let mut text = [0u8; MAX_TEXT];
-    let w = convert_files::convert_file(&input[..n], &mut text, 0);
-    write_written(to, w, &text)
+    program_io::answer::<MAX_INPUT, _, _, _>(|input, text| convert_file(input, text, 0), from, to)
 }
 
 fn main(rt: HostRuntime) -> io::Result<()> {

@@ -1,6 +1,5 @@
 // All minimal hitting sets, each once, in an order, in the first places of a lent slice.
-ghost use Rattle.std.specs.Prelude.{◌≡◌, true, min, length};
-ghost use Rattle.drive_sets.specs.Limits.{max_cores};
+ghost use Rattle.std.specs.Prelude.{◌≡◌, length};
 ghost use Rattle.set_orders.specs.Sorting.{precedes};
 ghost use Rattle.core_search.specs.Found.{room_in, Found};
 
@@ -10,39 +9,25 @@ use set_orders::slices;
 use set_orders::sorting::Order;
 use survivor_tables::MAX_CORES;
 
-// How many sets so many places have room for: no more than 1024.
-fn room_in(places: usize) -> usize
-    ensures { result ≡ min max_cores places }
-{
-    if places < MAX_CORES {
-        return places;
-    }
-    MAX_CORES
-}
-
 // The search in a list that has as much room as out; what is found is copied into out, and nothing where there are too
 // many.
 fn search_into(order: Order, sets: &[u64], list: &mut [u64], out: &mut [u64]) -> Attempt
     requires { length list.old ≡ room_in out.old }
-    ensures found { Found (precedes order) sets.now out.old out.new result.found }
-    ensures done { result.done ≡ true }
+    ensures { Found (precedes order) sets.now out.old out.new result.found }
 {
     let r = search_until_done(order, sets, list);
-    let found = r.found;
-    if list.len() < found {
-        return r;
+    if r.found <= list.len() {
+        slices::copy(&list[0..r.found], out);
     }
-    slices::copy(&list[0..found], out);
     r
 }
 
 // The same as `minimal_hitting_sets`, with how far the search had to go: `turn` and `left` are free, since they decide
 // no result.
 pub fn measured_search(order: Order, sets: &[u64], out: &mut [u64]) -> Attempt
-    ensures found { Found (precedes order) sets.now out.old out.new result.found }
-    ensures done { result.done ≡ true }
+    ensures { Found (precedes order) sets.now out.old out.new result.found }
 {
-    let room = room_in(out.len());
+    let room = out.len().min(MAX_CORES);
     let mut list = [0u64; MAX_CORES];
     search_into(order, sets, &mut list[0..room], out)
 }
@@ -52,6 +37,5 @@ pub fn measured_search(order: Order, sets: &[u64], out: &mut [u64]) -> Attempt
 pub fn minimal_hitting_sets(order: Order, sets: &[u64], out: &mut [u64]) -> usize
     ensures { Found (precedes order) sets.now out.old out.new result }
 {
-    let r = measured_search(order, sets, out);
-    r.found
+    measured_search(order, sets, out).found
 }

@@ -2,3 +2,4 @@
 -- equate the two.
 pub mod CrashLists
 pub mod Reading
+pub mod Held

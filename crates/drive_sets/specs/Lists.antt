@@ -1,9 +1,8 @@
 -- Lists of numbers: a range, those that pass a test, tests of all and of some, the smallest value on a list and the
 -- first. All of it computes on numerals.
-use Rattle.std.specs.Prelude.{Bool, true, false, not, ◌&&◌, ◌||◌, cond, List, [], ◌∷◌, ℕ, zero, suc, ◌+◌, min, eqb}
+use Rattle.std.specs.Prelude.{Bool, true, false, not, ◌&&◌, ◌||◌, cond, List, [], ◌∷◌, ℕ, zero, suc, ◌+◌, min, eqb, None, Some}
 use Rattle.std.proofs.Math.Option.{Option, none, some, or_else}
-use Rattle.drive_sets.specs.declared.Position.{Position}
-use Rattle.drive_sets.specs.declared.Position.TheVariants.{None, At}
+use Rattle.drive_sets.specs.Positions.{Position}
 pub mod Laws
 pub mod Distinct
 pub mod Counts
@@ -42,7 +41,7 @@ unfoldable pub first_failing : ℕ → (ℕ → Bool) → List ℕ → Position
 first_failing i p [] = None
 first_failing i p (x ∷ l) =
     let later = first_failing (i + 1) p l in
-    let here = At i in
+    let here = Some i in
     cond (p x) later here
 
 -- x stands in the list

@@ -1,9 +1,7 @@
 -- The refusals of documents 01 and 02 by number, and what a call gives: a result or a refusal.
-use Rattle.std.specs.Prelude.{◌≡◌, Bool, cond, ℕ}
+use Rattle.std.specs.Prelude.{Bool, cond, ℕ, Result, Ok, Err}
 use Rattle.drive_sets.specs.declared.Refusal.{Refusal}
 use Rattle.drive_sets.specs.declared.Refusal.TheVariants.{EndsTooSoon, WrongMark, FrameSize, BadSet, TooManySets, CountDiffers, TrailingBytes, DriveNumber, CrashRound, CrashSends, NoneUntouched, BlockCount, TooManyCores, NoRoom, KnownMask, AlreadyAccepted, OutsideCore, Halted, SenderMissing, PatternDiffers, OtherRound, ListenerSends, BrokenState, Threshold, TooManyGroups, FewDrives, AllDrives}
-use Rattle.drive_sets.specs.declared.Answer.{Answer}
-use Rattle.drive_sets.specs.declared.Answer.TheVariants.{Accepted, Refused}
 pub mod Laws
 pub mod Numbered
 
@@ -53,12 +51,19 @@ module _ {A B : Type 0} where
   and_then (refused r) f = refused r
   and_then (yields a) f = f a
 
--- what an answer says, where its result stands beside it
+-- what the result of a call says
 module _ {A : Type 0} where
-  abbrev pub outcome_of : Answer → A → Outcome A
-  outcome_of Accepted a = yields a
-  outcome_of (Refused r) a = refused (number r)
+  abbrev pub outcome : Result A Refusal → Outcome A
+  outcome (Ok a) = yields a
+  outcome (Err r) = refused (number r)
 
-  -- a refusal is its number alone: all else is what it is beside each such refusal
-  abbrev pub Alone : (A → Answer) → (Refusal → A) → A → Type 0
-  Alone answer refused_as a = (r : Refusal) → answer a ≡ Refused r → a ≡ refused_as r
+module _ {A B : Type 0} where
+  -- the same, of what the function makes of the value
+  abbrev pub outcome_by : (A → B) → Result A Refusal → Outcome B
+  outcome_by f (Ok a) = yields (f a)
+  outcome_by f (Err r) = refused (number r)
+
+  -- the same, where the value stands beside the result
+  abbrev pub outcome_of : Result A Refusal → B → Outcome B
+  outcome_of (Ok a) b = yields b
+  outcome_of (Err r) b = refused (number r)

@@ -4,14 +4,15 @@
 
 use drive_sets::{Drive, Pattern, Round};
 
-// What a drive has decided on.
+// What a drive has decided on. Its variants are words of the theorems of `agreement`, so it is an enum of its own.
 #[derive(Clone, Copy)]
 pub enum Decision {
     Undecided,
     Decided(Pattern),
 }
 
-// The decision that the lowest-numbered sender of a DC or DW announced in this round: the sender and its decision.
+// The decision that the lowest-numbered sender of a DC or DW announced in this round: the sender and its decision. Its
+// variants are words of the theorems of `agreement`, so it is an enum of its own.
 #[derive(Clone, Copy)]
 pub enum Announcement {
     Absent,

@@ -1,5 +1,4 @@
--- The rules of 28 as the code asks them: four sets as one, and what an unbroken state says of its round; and a reply to
--- what equals it.
+-- The rules of 28 as the code asks them: four sets as one, and what an unbroken state says of its round.
 use mathlib.Core.Path.{◌≡◌, sym, ap, ◌∙◌}
 use mathlib.Core.Bool.{Bool, false, not, ◌&&◌, ◌||◌}
 use mathlib.Core.Logic.{⊎_elim}
@@ -10,14 +9,11 @@ use Rattle.drive_sets.specs.Bools.Laws.{same_test, and_intro, and_left, and_righ
 use Rattle.drive_sets.specs.Masks.{has, union, subset}
 use Rattle.drive_sets.specs.Masks.Laws.{has_union, union_lt, subset_has, has_subset, subset_trans, subset_union}
 use Rattle.drive_sets.specs.Masks.Sizes.{size_le}
-use Rattle.drive_sets.specs.Refusals.{Outcome}
 use Rattle.survivor_tables.specs.Tables.{is_frame, is_set}
 use Rattle.drive_states.specs.declared.Exchange.{Exchange}
 use Rattle.drive_sets.specs.Counts.{is_drive, is_round}
 use Rattle.drive_sets.specs.Counts.Laws.{round_bounds}
 use Rattle.drive_states.specs.State.{in_core, broken}
-use Rattle.exchange.specs.declared.Reply.{Reply}
-use Rattle.exchange.specs.Replies.{state_after, Replied}
 
 -- a union is inside where both parts are
 union_inside : (a b c : ℕ) → a < 2 ^ 64 → b < 2 ^ 64 → subset (union a b) c ≡ (subset a c && subset b c)
@@ -46,7 +42,3 @@ unbroken_round x h =
     let first = not (is_frame x.n) || not (is_set x.n x.core) || own || not (is_drive x.n x.own.0) in
     let inside = or_false_right first (not range) (or_false_left (first || not range) (not sets) h) in
     omega (arith, (round_bounds x.core x.round.0 (not-false range inside)).1, size_le x.core)
-
--- a reply to one thing is one to what equals it
-pub replied_as : {due same : Outcome Exchange} {x : Exchange} {r : Reply} → same ≡ due → Replied due x r → Replied same x r
-replied_as {x = x} e p = record { answer = p.answer ∙ sym e; state = p.state ∙ sym (ap (state_after x) e) }

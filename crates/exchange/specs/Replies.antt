@@ -1,15 +1,12 @@
--- What the answer of a call that is handed a state says: a refusal, which keeps the state, or the new state.
-use Rattle.std.specs.Prelude.{◌≡◌}
+-- What a call says that is lent a state, and what it leaves there: a refusal, which keeps the state, or the new state.
+use Rattle.std.specs.Prelude.{◌≡◌, Result}
+use Rattle.drive_sets.specs.declared.Refusal.{Refusal}
 use Rattle.drive_sets.specs.Refusals.{Outcome, refused, yields, outcome_of}
 use Rattle.drive_states.specs.declared.Exchange.{Exchange}
-use Rattle.exchange.specs.declared.Reply.{Reply}
 use Rattle.agreement.specs.Calls.{initial}
 pub mod Laws
 
-unfoldable pub reply_of : Reply → Outcome Exchange
-reply_of r = outcome_of r.answer r.state
-
--- the state after a call that was handed a state
+-- the state after a call that was lent a state
 abbrev pub state_after : Exchange → Outcome Exchange → Exchange
 state_after x (refused r) = x
 state_after x (yields y) = y
@@ -18,7 +15,7 @@ state_after x (yields y) = y
 unfoldable pub not_opened : Exchange
 not_opened = initial 0 0 0 0
 
--- the answer and the state, each as its definition has it
-pub record Replied (due : Outcome Exchange) (x : Exchange) (r : Reply) : Type 0 where
-  pub answer : reply_of r ≡ due
-  pub state : r.state ≡ state_after x due
+-- the answer of a call that was lent the state `old`, and the state that it leaves, each as its definition has it
+pub record Replied {T : Type 0} (due : Outcome Exchange) (old new : Exchange) (r : Result T Refusal) : Type 0 where
+  pub answer : outcome_of r new ≡ due
+  pub state : new ≡ state_after old due

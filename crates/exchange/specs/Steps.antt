@@ -1,16 +1,15 @@
 -- A controller that makes the four calls of several drives: it keeps for each drive the state that its last call left,
 -- and hands it to the next. What one call does so, and a list of them, is what the worlds of a run have; the laws say
 -- so.
-use Rattle.std.specs.Prelude.{◌≡◌, Bool, true, false, cond, List, [], ◌∷◌, ℕ, eqb, length}
-use Rattle.drive_sets.specs.Refusals.{refused}
-use Rattle.lent_bytes.specs.declared.Writing.{Writing}
-use Rattle.lent_bytes.specs.LentBuffers.{writing_outcome, Written}
+use Rattle.std.specs.Prelude.{◌≡◌, Bool, true, false, cond, List, [], ◌∷◌, ℕ, eqb, length, Result}
+use Rattle.drive_sets.specs.declared.Refusal.{Refusal}
+use Rattle.drive_sets.specs.Refusals.{refused, outcome, outcome_of}
+use Rattle.lent_bytes.specs.LentBuffers.{Written}
 use Rattle.drive_states.specs.declared.Exchange.{Exchange}
 use Rattle.runs.specs.World.{Call, opens, sends, delivers, closes, drive_of, Slot, unopened, opened, World, is_refused}
 use Rattle.agreement.specs.Calls.{opening, receiving, closing}
 use Rattle.agreement.specs.Document01.{apply, refused_in, sending_of}
-use Rattle.exchange.specs.declared.Reply.{Reply}
-use Rattle.exchange.specs.Replies.{reply_of, state_after, not_opened}
+use Rattle.exchange.specs.Replies.{state_after, not_opened}
 
 -- ---- one call
 
@@ -27,18 +26,18 @@ may_name unopened (sends d room start) = false
 may_name unopened (delivers d bytes) = false
 may_name unopened (closes d) = false
 
--- the reply to an opening, a message or a close is the step of the world: its state is what the drive then has, and it
--- is refused where the world says so; a call that may not name its drive is refused with 28
-pub record Stepped (w : World) (c : Call) (r : Reply) : Type 0 where
-  pub state : r.state ≡ held (apply w c (drive_of c))
-  pub refuses : may_name (w (drive_of c)) c ≡ true → is_refused (reply_of r) ≡ refused_in w c
-  pub not_open : may_name (w (drive_of c)) c ≡ false → reply_of r ≡ refused 28
+-- an opening, a message or a close is the step of the world: the state that it leaves is what the drive then has, and
+-- it is refused where the world says so; a call that may not name its drive is refused with 28
+pub record Stepped {T : Type 0} (w : World) (c : Call) (new : Exchange) (r : Result T Refusal) : Type 0 where
+  pub state : new ≡ held (apply w c (drive_of c))
+  pub refuses : may_name (w (drive_of c)) c ≡ true → is_refused (outcome_of r new) ≡ refused_in w c
+  pub not_open : may_name (w (drive_of c)) c ≡ false → outcome_of r new ≡ refused 28
 
 -- a send changes no state; of an open drive it writes what the world has it send, and of another it is refused with 28
-pub record SentFrom (w : World) (d start : ℕ) (old new : List ℕ) (r : Writing) : Type 0 where
+pub record SentFrom (w : World) (d start : ℕ) (old new : List ℕ) (r : Result ℕ Refusal) : Type 0 where
   pub same : apply w (sends d (length old) start) ≡ w
   pub writes : may_name (w d) (sends d (length old) start) ≡ true → Written (sending_of (w d) (length old) start) start old new r
-  pub refuses : may_name (w d) (sends d (length old) start) ≡ true → is_refused (writing_outcome r) ≡ refused_in w (sends d (length old) start)
+  pub refuses : may_name (w d) (sends d (length old) start) ≡ true → is_refused (outcome r) ≡ refused_in w (sends d (length old) start)
   pub not_open : may_name (w d) (sends d (length old) start) ≡ false → Written (refused 28) start old new r
 
 -- ---- a list of calls

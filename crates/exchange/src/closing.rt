@@ -2,52 +2,49 @@
 ghost use Rattle.std.specs.Prelude.{◌≡◌, not, ◌&&◌, cond, ◌≤◌, ◌+◌};
 ghost use Rattle.drive_sets.specs.Lists.{smallest};
 ghost use Rattle.drive_sets.specs.Masks.{drives};
-ghost use Rattle.drive_states.specs.State.{in_core, number_in, is_decided};
+ghost use Rattle.drive_states.specs.State.{in_core, number_of, is_decided};
 ghost use Rattle.agreement.specs.Calls.{heard_at_close, decision_on, stable_decision, decision_after, halts, next, closing};
 ghost use Rattle.exchange.specs.Replies.{Replied};
 
-use crate::{Reply, is_broken, refused};
-use drive_sets::{Answer, Pattern, Refusal, Round};
+use crate::is_broken;
+use drive_sets::{Pattern, Refusal, Round};
 use drive_states::{Announcement, Decision, Exchange};
 
 // Heard at a close: the senders accepted, and oneself if in the core.
-fn heard_at_close(x: Exchange) -> u64
-    ensures { result ≡ heard_at_close x }
+#[tactic(auto, unfolding(agreement::specs::Calls::heard_at_close, drive_states::specs::State::in_core))]
+fn heard_at_close(x: &Exchange) -> u64
+    ensures { result ≡ heard_at_close x.now }
 {
-    let own = x.own;
-    let heard = x.heard;
-    if drive_sets::has(own, x.core) {
-        return drive_sets::insert(heard, own);
+    if drive_sets::has(x.own, x.core) {
+        return drive_sets::insert(x.heard, x.own);
     }
-    heard
+    x.heard
 }
 
 // The decision on the smallest pattern number known; none where none is known.
-fn smallest_known(known: u64, numbers: [Pattern; 64]) -> Decision
-    ensures { result ≡ decision_on (smallest (number_in numbers) (drives known)) }
+#[tactic(auto, using(drive_sets::specs::Loops::Drives::lowest_bounds, drive_sets::specs::Loops::Drives::taken, drive_sets::specs::Loops::Drives::taken_fewer), unfolding(drive_states::specs::State::number_of, drive_states::specs::State::number_in))]
+fn smallest_known(x: &Exchange) -> Decision
+    ensures { result ≡ decision_on (smallest (number_of x.now) (drives x.now.known)) }
 {
-    if known == 0 {
+    if x.known == 0 {
         return Decision::Undecided;
     }
-    let first = drive_sets::lowest(known);
-    let low = first.0;
-    let mut best = numbers[(low - 1) as usize];
-    let mut m = drive_sets::without_lowest(known);
+    let first = drive_sets::lowest(x.known);
+    let mut best = x.numbers[(first.0 - 1) as usize];
+    let mut m = drive_sets::without_lowest(x.known);
     while m != 0 {
         let d = drive_sets::lowest(m);
-        let i = d.0;
-        let v = numbers[(i - 1) as usize];
+        let v = x.numbers[(d.0 - 1) as usize];
         m = drive_sets::without_lowest(m);
-        if v.0 < best.0 {
-            best = v;
-        }
+        best = Pattern(best.0.min(v.0));
     }
     Decision::Decided(best)
 }
 
 // Where heard is not empty and equals the round before, the smallest pattern number known.
-fn stable_decision(x: Exchange) -> Decision
-    ensures { result ≡ stable_decision x }
+#[tactic(auto, unfolding(agreement::specs::Calls::stable_decision, agreement::specs::Calls::stable))]
+fn stable_decision(x: &Exchange) -> Decision
+    ensures { result ≡ stable_decision x.now }
 {
     let heard = heard_at_close(x);
     if heard == 0 {
@@ -56,60 +53,42 @@ fn stable_decision(x: Exchange) -> Decision
     if heard != x.before {
         return Decision::Undecided;
     }
-    let numbers = x.numbers;
-    smallest_known(x.known, numbers)
+    smallest_known(x)
 }
 
 // A decided drive keeps its number; for the others the announced decision comes first.
-fn decision_after(x: Exchange) -> Decision
-    ensures { result ≡ decision_after x }
+#[tactic(auto, unfolding(agreement::specs::Calls::decision_after, agreement::specs::Calls::decide))]
+fn decision_after(x: &Exchange) -> Decision
+    ensures { result ≡ decision_after x.now }
 {
-    let decision = x.decision;
-    let announced = x.announced;
-    match decision {
-        Decision::Decided(v) => Decision::Decided(v),
-        Decision::Undecided => match announced {
-            Announcement::By(_, v) => Decision::Decided(v),
-            Announcement::Absent => stable_decision(x),
-        },
+    match (x.decision, x.announced) {
+        (Decision::Decided(v), _) => Decision::Decided(v),
+        (Decision::Undecided, Announcement::By(_, v)) => Decision::Decided(v),
+        (Decision::Undecided, Announcement::Absent) => stable_decision(x),
     }
 }
 
+#[tactic(auto, unfolding(drive_states::specs::State::is_decided))]
 fn is_decided(d: Decision) -> bool
     ensures { result ≡ is_decided d }
 {
-    match d {
-        Decision::Undecided => false,
-        Decision::Decided(_) => true,
-    }
+    matches!(d, Decision::Decided(_))
 }
 
 // A listener halts on deciding.
-fn listener_decides(x: Exchange) -> bool
-    ensures { result ≡ (not (in_core x) && is_decided (decision_after x)) }
+#[tactic(auto, unfolding(drive_states::specs::State::in_core))]
+fn listener_decides(x: &Exchange) -> bool
+    ensures { result ≡ (not (in_core x.now) && is_decided (decision_after x.now)) }
 {
-    let own = x.own;
-    if drive_sets::has(own, x.core) {
-        return false;
-    }
-    let after = decision_after(x);
-    is_decided(after)
+    !drive_sets::has(x.own, x.core) && is_decided(decision_after(x))
 }
 
 // The drive halts at this close.
-fn halts(x: Exchange) -> bool
-    ensures { result ≡ halts x }
+#[tactic(auto, unfolding(agreement::specs::Calls::halts))]
+fn halts(x: &Exchange) -> bool
+    ensures { result ≡ halts x.now }
 {
-    let decision = x.decision;
-    let round = x.round;
-    if is_decided(decision) {
-        return true;
-    }
-    if listener_decides(x) {
-        return true;
-    }
-    let last = drive_sets::size(x.core);
-    round.0 as u32 == last
+    is_decided(x.decision) || listener_decides(x) || x.round.0 as u32 == drive_sets::size(x.core)
 }
 
 // A halted drive keeps its round number.
@@ -117,53 +96,39 @@ fn next_round(round: Round, ends: bool) -> Round
     requires { round.0 ≤ 64 }
     ensures { result.0 ≡ cond ends round.0 (round.0 + 1) }
 {
-    if ends {
-        return round;
-    }
-    Round(round.0 + 1)
+    if ends { round } else { Round(round.0 + 1) }
 }
 
 // The state after a close.
-fn next(x: Exchange) -> Exchange
-    requires { x.round.0 ≤ 64 }
-    ensures { result ≡ next x }
+#[tactic(auto, unfolding(agreement::specs::Calls::next))]
+fn next(x: &Exchange) -> Exchange
+    requires { x.now.round.0 ≤ 64 }
+    ensures { result ≡ next x.now }
 {
-    let own = x.own;
-    let round = x.round;
-    let numbers = x.numbers;
     let ends = halts(x);
-    let heard = heard_at_close(x);
-    let decision = decision_after(x);
-    let following = next_round(round, ends);
     Exchange {
-        n: x.n,
-        own,
-        core: x.core,
-        round: following,
-        before: heard,
+        round: next_round(x.round, ends),
+        before: heard_at_close(x),
         heard: 0,
-        known: x.known,
         start: x.known,
-        numbers,
         announced: Announcement::Absent,
-        decision,
+        decision: decision_after(x),
         halted: ends,
+        ..*x
     }
 }
 
 // The close of a round: 28, 23.
-pub fn close(x: Exchange) -> Reply
-    ensures { Replied (closing x) x result }
+#[tactic(auto, using(crate::proofs::Rules::unbroken_round), unfolding(agreement::specs::Calls::closing))]
+pub fn close(x: &mut Exchange) -> Result<(), Refusal>
+    ensures { Replied (closing x.old) x.old x.new result }
 {
     if is_broken(x) {
-        return refused(x, Refusal::BrokenState);
+        return Err(Refusal::BrokenState);
     }
     if x.halted {
-        return refused(x, Refusal::Halted);
+        return Err(Refusal::Halted);
     }
-    let state = next(x);
-    Reply {
-        answer: Answer::Accepted,
-        state,
-    }
+    *x = next(x);
+    Ok(())
 }

@@ -12,9 +12,8 @@ ghost use Rattle.fault_lists.specs.FaultLists.{table_from_faults, faults_from_ta
 ghost use Rattle.fault_files.specs.FaultFiles.{read_faults, write_faults};
 
 use c_replies::SizeReply;
-use drive_sets::Answer;
 use table_replies::lists;
-use table_replies::reading::{TableReply, put_table};
+use table_replies::reading::{TableReply, put_table, refused_table};
 
 // The fault list that the bytes are, its largest groups over the first places of out. Left to right 1 to 5 and 34, 6,
 // then 7, 13, 14.
@@ -23,10 +22,10 @@ pub extern "C" fn regdulyn_read_faults(s: &[u8], out: &mut [u64]) -> TableReply
     ensures value { result ≡ table_reply s.now (fitting_table out.old (read_faults s.now)) }
     ensures out_after { out.new ≡ buffer_after (sets_read (fitting_table out.old (read_faults s.now))) 0 out.old }
 {
-    let r = fault_files::read_faults(s);
-    let answer = r.answer;
-    let list = r.list;
-    put_table(answer, list, s.len(), out)
+    match fault_files::read_faults(s) {
+        Err(r) => refused_table(r),
+        Ok(list) => put_table(list.n, list.sets.as_slice(), s.len(), out),
+    }
 }
 
 // The fault list of n drives and some groups into buf, from the starting place on, its largest groups by mask rising;
@@ -41,8 +40,7 @@ pub extern "C" fn regdulyn_write_faults(
     ensures value { result ≡ size_reply (size_written (and_then (write_faults n groups.now) (fitting start (length buf.old)))) }
     ensures buf_after { buf.new ≡ buffer_after (and_then (write_faults n groups.now) (fitting start (length buf.old))) start buf.old }
 {
-    let w = fault_files::write_faults(n, groups, buf, start);
-    c_replies::written_size(w)
+    c_replies::written_size(fault_files::write_faults(n, groups, buf, start))
 }
 
 // The normal table of a fault list over the first places of out; how many sets it has. 3, 2, 5, then 4 and 34 group by
@@ -52,14 +50,9 @@ pub extern "C" fn regdulyn_table_from_faults(n: u8, groups: &[u64], out: &mut [u
     ensures value { result ≡ size_reply (size_written (and_then (table_from_faults n groups.now) (fitting 0 (length out.old)))) }
     ensures out_after { out.new ≡ buffer_after (and_then (table_from_faults n groups.now) (fitting 0 (length out.old))) 0 out.old }
 {
-    let t = fault_lists::table_from_faults(n, groups);
-    let answer = t.answer;
-    let table = t.table;
-    let sets = table.sets;
-    let count = table.count;
-    match answer {
-        Answer::Refused(r) => c_replies::refused_size(r),
-        Answer::Accepted => lists::put_list(&sets, count, out),
+    match fault_lists::table_from_faults(n, groups) {
+        Err(r) => c_replies::refused_size(r),
+        Ok(t) => lists::put_list(t.table.sets.as_slice(), out),
     }
 }
 
@@ -70,12 +63,5 @@ pub extern "C" fn regdulyn_faults_from_table(n: u8, sets: &[u64], out: &mut [u64
     ensures value { result ≡ size_reply (size_written (and_then (faults_from_table n sets.now) (fitting 0 (length out.old)))) }
     ensures out_after { out.new ≡ buffer_after (and_then (faults_from_table n sets.now) (fitting 0 (length out.old))) 0 out.old }
 {
-    let list = fault_lists::faults_from_table(n, sets);
-    let answer = list.answer;
-    let groups = list.sets;
-    let count = list.count;
-    match answer {
-        Answer::Refused(r) => c_replies::refused_size(r),
-        Answer::Accepted => lists::put_list(&groups, count, out),
-    }
+    lists::put_listed(fault_lists::faults_from_table(n, sets), out)
 }

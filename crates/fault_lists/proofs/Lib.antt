@@ -1,5 +1,3 @@
--- What the functions' proofs share.
-pub mod Fills
-pub mod Conversions
+-- The laws of fault lists and failure models.
 pub mod FailureModels
 pub mod FaultLists

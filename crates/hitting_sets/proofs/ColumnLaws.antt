@@ -2,12 +2,12 @@
 use mathlib.Core.Path.{◌≡◌, refl, sym, ap, ap₂, ◌∙◌}
 use mathlib.Core.Bool.{Bool, true, false, ◌&&◌, ◌||◌, or_self, and-true}
 use mathlib.Core.List.{List, []}
-use Prim.Native.Nat.{ℕ, ◌+◌, ◌-◌, ◌*◌, ◌/◌, ◌%◌, ◌^◌, ◌≤◌, ◌<◌}
+use Prim.Native.Nat.{ℕ, ◌+◌, ◌-◌, ◌*◌, ◌/◌, ◌%◌, ◌^◌, ◌≤◌, ◌<◌, min}
 use native.Mathlib.Omega.{arith}
-use lib.Dec.{eqb, ltb}
+use lib.Dec.{eqb, ltb, leb}
 use lib.ListN.{length, get_or, take, set, replicate, length-set, length-take, length-drop, get_or-replicate, get_or-eq_default}
 use lib.Seq.{get_or-set_same, get_or-set_other, get_or-take, get_or-drop, take_all}
-use borrow.Author.Tests.{eqb-true, eqb-false, eq-eqb, ltb-true, ltb-false}
+use borrow.Author.Tests.{eqb-true, eqb-false, eq-eqb, ltb-true, ltb-false, leb-true, leb-false}
 use Rattle.drive_sets.specs.Bools.Laws.{by_test, same_test, false_of, and_left, and_right, and_fails_right, or_false}
 use Rattle.drive_sets.specs.Masks.{has, single, union}
 use Rattle.drive_sets.specs.Masks.Laws.{has_none, has_union}
@@ -157,8 +157,8 @@ module _ {sets columns : List ℕ} {at : ℕ} (f : Filling sets columns at) wher
         ∙ (f.each d i b low high i_lt b_low b_high ∙ ap (has d) (all (64 * i + b - 1) (omega arith)));
   }
 
-  pub filling_all : length sets ≤ at → Columns columns sets
-  filling_all h = filling_end (λ q lt. ap (λ (l : List ℕ). get_or l q 0) (take_all at sets h))
-
-  pub filling_first : 1024 ≤ at → Columns columns sets
-  filling_first h = filling_end (λ q lt. get_or-take at sets q 0 (omega arith))
+  pub filling_done : min (length sets) 1024 ≤ at → Columns columns sets
+  filling_done h =
+      by_test (leb (length sets) at)
+      (λ t. filling_end (λ q lt. ap (λ (l : List ℕ). get_or l q 0) (take_all at sets (leb-true (length sets) at t))))
+      (λ t. let more = leb-false (length sets) at t in filling_end (λ q lt. get_or-take at sets q 0 (omega arith)))

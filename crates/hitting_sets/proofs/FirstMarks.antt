@@ -9,7 +9,7 @@ use lib.Dec.{ltb}
 use lib.ListN.{length, get_or, take, drop, length-drop, length-take}
 use lib.Seq.{get_or-take, get_or-drop}
 use borrow.Author.Tests.{ltb-true, ltb-false, not-true, not-false}
-use Rattle.drive_sets.specs.declared.Position.TheVariants.{None, At}
+use Rattle.std.specs.Prelude.{None, Some}
 use Rattle.drive_sets.specs.Bools.Laws.{clash, by_test, false_of}
 use Rattle.drive_sets.specs.Lists.Laws.{all_intro}
 use Rattle.drive_sets.specs.Lists.Places.{get_or_elem, elem_get_or}
@@ -34,18 +34,18 @@ module _ (sets : List ℕ) (m : ℕ) where
       ∙ hits_meets (take seen sets) m (get_or (take seen sets) q 0) h (get_or_elem (take seen sets) q (omega (arith, length-take seen sets)))
 
   -- the position of a set that is missed, where those before it are met
-  first_at : (n pos at : ℕ) → pos + n ≡ at → at < length sets → MetBefore at → meets (get_or sets at 0) m ≡ false → missed_from (pos + 1) (drop pos sets) m ≡ At (at + 1)
+  first_at : (n pos at : ℕ) → pos + n ≡ at → at < length sets → MetBefore at → meets (get_or sets at 0) m ≡ false → missed_from (pos + 1) (drop pos sets) m ≡ Some (at + 1)
   first_at zero pos at e lt met miss =
       let here : pos ≡ at = omega (arith, e) in
       ap (λ (l : List ℕ). missed_from (pos + 1) l m) (drop_next sets pos (omega (arith, here)))
-      ∙ (failing_here (λ s. meets s m) (pos + 1) (get_or sets pos 0) (drop (pos + 1) sets) (ap (λ (x : ℕ). meets (get_or sets x 0) m) here ∙ miss) ∙ ap (λ (x : ℕ). At (x + 1)) here)
+      ∙ (failing_here (λ s. meets s m) (pos + 1) (get_or sets pos 0) (drop (pos + 1) sets) (ap (λ (x : ℕ). meets (get_or sets x 0) m) here ∙ miss) ∙ ap (λ (x : ℕ). Some (x + 1)) here)
   first_at (suc n) pos at e lt met miss =
       ap (λ (l : List ℕ). missed_from (pos + 1) l m) (drop_next sets pos (omega (arith, e)))
       ∙ (failing_later (λ s. meets s m) (pos + 1) (get_or sets pos 0) (drop (pos + 1) sets) (met pos (omega (arith, e)) (omega (arith, e)))
       ∙ first_at n (pos + 1) at (omega (arith, e)) lt met miss)
 
   pub first_missed_law : (pos at : ℕ) → pos ≤ length sets → hits (take pos sets) m ≡ true → at < length sets → MetBefore at → meets (get_or sets at 0) m ≡ false
-      → At (at + 1) ≡ missed_from (pos + 1) (drop pos sets) m
+      → Some (at + 1) ≡ missed_from (pos + 1) (drop pos sets) m
   first_missed_law pos at le h lt met miss =
       by_test (ltb at pos)
       (λ t. absurd (clash (met_seen pos pos le h (le_refl pos) at (ltb-true at pos t) lt) miss))

@@ -1,5 +1,6 @@
 -- What the functions' proofs share.
 pub mod OneMore
+pub mod Backwards
 pub mod Shares
 pub mod Forbids
 pub mod Covers

@@ -10,7 +10,7 @@ use lib.ListN.{length, get_or, take, drop, drop_of_length-le, length-drop}
 use lib.Seq.{take-suc, drop-cons, get_or-drop}
 use borrow.Author.Tests.{eqb-true, eqb-false}
 use Rattle.drive_sets.specs.Bools.Laws.{by_test}
-use Rattle.drive_sets.specs.declared.Position.TheVariants.{None, At}
+use Rattle.std.specs.Prelude.{None, Some}
 use Rattle.drive_sets.specs.Lists.FirstFailing.{failing_none, failing_at}
 use Rattle.drive_sets.specs.Lists.Laws.{all_elem}
 use Rattle.drive_sets.specs.Lists.Places.{get_or_elem}
@@ -34,7 +34,7 @@ module _ (sets : List ℕ) (pos m : ℕ) where
   at_place : (j i : ℕ) → pos + j ≡ i → meets (get_or sets i 0) m ≡ meets (get_or (drop pos sets) j 0) m
   at_place j i e = ap (λ (x : ℕ). meets (get_or sets x 0) m) (sym e) ∙ ap (λ (s : ℕ). meets s m) (sym (get_or-drop pos sets j 0))
 
-  pub missed_next : (k : ℕ) → missed_from (pos + 1) (drop pos sets) m ≡ At k
+  pub missed_next : (k : ℕ) → missed_from (pos + 1) (drop pos sets) m ≡ Some k
       → (1 ≤ k) × (k - 1 < length sets) × Met sets pos m (k - 1) × (meets (get_or sets (k - 1) 0) m ≡ false)
   missed_next k h =
       let f = failing_at (λ s. meets s m) (pos + 1) (drop pos sets) k h in

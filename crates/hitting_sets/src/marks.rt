@@ -5,7 +5,7 @@ ghost use Rattle.drive_sets.specs.Masks.{has, union, common, minus, meets};
 ghost use Rattle.survivor_tables.specs.Hitting.{hits, missed_from};
 ghost use Rattle.hitting_sets.specs.Marks.{Marked, Columns, InMarked, Apart};
 
-use drive_sets::{Drive, Position};
+use drive_sets::Drive;
 use survivor_tables::MAX_CORES;
 use survivor_tables::missed::next_missed;
 
@@ -19,10 +19,7 @@ pub(crate) const COLUMNS: usize = 64 * WORDS;
 pub(crate) fn words_for(count: usize) -> usize
     ensures { result ≤ 16 }
 {
-    if MAX_CORES < count {
-        return WORDS;
-    }
-    (count + 63) / 64
+    count.div_ceil(64).min(WORDS)
 }
 
 // The place of drive d.
@@ -64,11 +61,9 @@ pub(crate) fn fill(columns: &mut [u64], sets: &[u64])
     requires { columns.old ≡ replicate 1024 0 }
     ensures { Columns columns.new sets.now }
 {
-    let mut at = 0;
-    while at < sets.len() && at < MAX_CORES {
+    for at in 0..sets.len().min(MAX_CORES) {
         let bit = drive_sets::single(Drive((at % 64 + 1) as u8));
         mark(columns, sets[at], at / 64, bit);
-        at += 1;
     }
 }
 
@@ -87,12 +82,10 @@ pub(crate) fn take_drive(
     requires { (words ≤ length column.now) × (words ≤ length missed.now) × (words ≤ length once.now) × (words ≤ length left.old) × (words ≤ length alone.old) }
     ensures { ((i : ℕ) → i < words → get_or left.new i 0 ≡ minus (get_or missed.now i 0) (get_or column.now i 0)) × ((i : ℕ) → i < words → get_or alone.new i 0 ≡ union (minus (get_or once.now i 0) (get_or column.now i 0)) (common (get_or missed.now i 0) (get_or column.now i 0))) }
 {
-    let mut i = 0;
-    while i < words {
+    for i in 0..words {
         let held = column[i];
         left[i] = drive_sets::minus(missed[i], held);
         alone[i] = drive_sets::minus(once[i], held) | (missed[i] & held);
-        i += 1;
     }
 }
 
@@ -104,26 +97,24 @@ pub(crate) fn next_marked(
     missed: &[u64],
     seen: usize,
     m: u64,
-) -> Position
+) -> Option<usize>
     requires { (seen ≤ length sets.now) × (hits (take seen sets.now) m ≡ true) × (words ≤ 16) × Marked words missed.now sets.now (λ s. not (meets s m)) }
     ensures { result ≡ missed_from (seen + 1) (drop seen sets.now) m }
 {
     if 64 * words < sets.len() {
         return next_missed(sets, seen, m);
     }
-    let mut i = seen / 64;
-    while i < words {
+    for i in seen / 64..words {
         let word = missed[i];
         if word != 0 {
             let at = 64 * i + place(drive_sets::lowest(word));
             if at < sets.len() {
-                return Position::At(at + 1);
+                return Some(at + 1);
             }
-            return Position::None;
+            return None;
         }
-        i += 1;
     }
-    Position::None
+    None
 }
 
 // ---- what marked sets share
@@ -151,6 +142,7 @@ fn shared(sets: &[u64], column: &[u64], once: &[u64], c: u64) -> u64
     requires { (length sets.now ≤ 1024) × (length sets.now ≤ 64 * length column.now) × (length sets.now ≤ 64 * length once.now) }
     ensures { (x : ℕ) → (has x result ≡ true) ↔ ((has x c ≡ true) × ((i : ℕ) → InMarked sets.now (64 * i) (common (get_or once.now i 0) (get_or column.now i 0)) x)) }
 {
+    // By a place: `for` over the words was slower, up to a tenth of the whole search.
     let mut i = 0;
     let mut all = c;
     while 64 * i < sets.len() && all != 0 {

@@ -12,33 +12,23 @@ ghost use Rattle.hitting_sets.specs.Marks.{Marked, Columns, Tracked};
 use crate::marks::{
     COLUMNS, WORDS, apart, column, fill, next_marked, place, shared_quickly, take_drive, words_for,
 };
-use drive_sets::Position;
 use set_orders::MOST_COUNT;
 
 // ---- what is forbidden
 
-// A set for each drive, at its place.
-#[derive(Clone, Copy)]
-struct ByDrive {
-    of: [u64; 64],
-}
-
-// For each drive, the drives that are in every set that is private to it in m.
-fn in_all_private(sets: &[u64], m: u64) -> ByDrive
-    ensures { (d : ℕ) → 1 ≤ d → d ≤ 64 → get_or result.of (d - 1) 0 ≡ in_all (privates sets.now m d) }
+// For each drive, at its place, the drives that are in every set that is private to it in m.
+fn in_all_private(sets: &[u64], m: u64) -> [u64; 64]
+    ensures { (d : ℕ) → 1 ≤ d → d ≤ 64 → get_or result (d - 1) 0 ≡ in_all (privates sets.now m d) }
 {
-    let mut i = sets.len();
-    let mut of = [0xffff_ffff_ffff_ffff; 64];
-    while 0 < i {
-        i -= 1;
-        let s = sets[i];
-        let met = s & m;
+    let mut all = [0xffff_ffff_ffff_ffff; 64];
+    for s in sets.iter().rev() {
+        let met = *s & m;
         if drive_sets::is_single(met) {
             let k = place(drive_sets::lowest(met));
-            of[k] = s & of[k];
+            all[k] = *s & all[k];
         }
     }
-    ByDrive { of: of }
+    all
 }
 
 // The drives outside m that are in every private set of some drive of m.
@@ -51,7 +41,7 @@ fn forbidden(sets: &[u64], m: u64) -> u64
     while rest != 0 {
         let d = drive_sets::lowest(rest);
         let k = place(d);
-        bar = bar | drive_sets::minus(all.of[k], m);
+        bar = bar | drive_sets::minus(all[k], m);
         rest = drive_sets::without_lowest(rest);
     }
     bar
@@ -64,14 +54,7 @@ fn covered(sets: &[u64], m: u64, bar: u64, p: u64) -> bool
     ensures { result ≡ covered sets.now m bar p }
 {
     let within = drive_sets::minus(bar | p, m);
-    let mut i = 0;
-    while i < sets.len() {
-        if drive_sets::subset(sets[i], within) {
-            return true;
-        }
-        i += 1;
-    }
-    false
+    sets.iter().any(|s| drive_sets::subset(*s, within))
 }
 
 // The drives of m that are critical among the sets that the sets ahead do not cover. That a set is covered is asked
@@ -79,15 +62,12 @@ fn covered(sets: &[u64], m: u64, bar: u64, p: u64) -> bool
 fn critical_uncovered(sets: &[u64], ahead: &[u64], m: u64, bar: u64) -> u64
     ensures { result ≡ critical (filter (λ s. not (covered ahead.now m bar s)) sets.now) m }
 {
-    let mut i = sets.len();
     let mut found = 0;
-    while 0 < i {
-        i -= 1;
-        let s = sets[i];
-        let shared = s & m;
+    for s in sets.iter().rev() {
+        let shared = *s & m;
         if !drive_sets::subset(shared, found)
             && drive_sets::is_single(shared)
-            && !covered(ahead, m, bar, s)
+            && !covered(ahead, m, bar, *s)
         {
             found = shared | found;
         }
@@ -219,6 +199,7 @@ fn note(ends: &mut [u64], i: usize, drives: u64) {
 // some may be missing. The marks, of n words, are of the sets that m misses and of those that it meets once. A set at
 // which no branch goes on is a dead end, and counted as one. A call goes one drive deeper, so the calls are at most 64
 // deep; where no set is missed there is no call.
+// The sets, their columns and n are parameters each: as one struct they made the search slower, up to a fifth.
 fn search_from(
     mode: Mode,
     sets: &[u64],
@@ -250,8 +231,8 @@ fn search_from(
         take_drive(held, n, missed, once, &mut left, &mut alone);
         let first = next_marked(sets, n, &left, after, t);
         match first {
-            Position::None => sum = put(out, t, sum),
-            Position::At(at) => {
+            None => sum = put(out, t, sum),
+            Some(at) => {
                 let i = at - 1;
                 sum = search_from(mode, sets, columns, n, i, t, &left, &alone, out, sum, ends);
             }
@@ -276,7 +257,7 @@ pub fn search_all(mode: Mode, sets: &[u64], out: &mut [u64], fuel: usize, ends: 
     let missed = [0xffff_ffff_ffff_ffff; WORDS];
     let once = [0u64; WORDS];
     let first = next_marked(sets, words, &missed, 0, 0);
-    let Position::At(at) = first else {
+    let Some(at) = first else {
         return put(out, 0, none);
     };
     let i = at - 1;

@@ -13,7 +13,7 @@ use drive_sets::{Drive, PATTERN_BYTES, Pattern, Round};
 use records::{WIDE_DECIDE, WIDE_KNOWN};
 
 // The pattern numbers of the mask's drives, from the lowest, over the first bytes of the part; every other byte stays.
-// Nothing where they do not fit.
+// Nothing where they do not fit. The place is counted in bytes, beside the drives.
 fn put_numbers(part: &mut [u8], mask: u64, numbers: [Pattern; 64])
     ensures { part.new ≡ written (entry_bytes pattern_width (map (entry_of (number_in numbers)) (drives mask))) part.old }
 {
@@ -33,6 +33,7 @@ fn put_numbers(part: &mut [u8], mask: u64, numbers: [Pattern; 64])
 }
 
 // A mark, the sender and the round, with which both messages start.
+#[tactic(auto, using(crate::proofs::Writes::start_none, crate::proofs::Writes::start_written))]
 fn put_start(part: &mut [u8], m: u64, sender: Drive, round: Round)
     ensures { part.new ≡ written (record_bytes m 1 sender.0 ++ to_bytes 1 round.0) part.old }
 {
@@ -44,6 +45,7 @@ fn put_start(part: &mut [u8], m: u64, sender: Drive, round: Round)
 }
 
 // KW over the first bytes of the part; every other byte stays. Nothing where it does not fit.
+#[tactic(auto, using(crate::proofs::Writes::known_none))]
 pub fn put_known(part: &mut [u8], sender: Drive, round: Round, mask: u64, numbers: [Pattern; 64])
     ensures { part.new ≡ written (message_bytes (message sender.0 round.0 (known_of mask (number_in numbers)))) part.old }
 {
@@ -56,6 +58,7 @@ pub fn put_known(part: &mut [u8], sender: Drive, round: Round, mask: u64, number
 }
 
 // DW over the first bytes of the part; every other byte stays. Nothing where it does not fit.
+#[tactic(auto, using(crate::proofs::Writes::decide_none, crate::proofs::Writes::decide_written), unfolding(records::specs::Marks::mark, records::specs::Marks::mark_text, records::specs::Marks::ascii, records::specs::Fields::from_bytes))]
 pub fn put_decide(part: &mut [u8], sender: Drive, round: Round, pattern: Pattern)
     ensures { part.new ≡ written (message_bytes (message sender.0 round.0 (decided pattern.0))) part.old }
 {

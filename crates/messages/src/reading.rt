@@ -15,12 +15,14 @@ fn byte_at(s: &[u8], at: usize) -> u8
     records::field(s, at, 1) as u8
 }
 
+#[tactic(auto, unfolding(drive_states::specs::Messages::sender_of))]
 pub fn sender_of(s: &[u8]) -> Drive
     ensures { result.0 ≡ sender_of s.now }
 {
     Drive(byte_at(s, 2))
 }
 
+#[tactic(auto, unfolding(drive_states::specs::Messages::round_of))]
 pub fn round_of(s: &[u8]) -> Round
     ensures { result.0 ≡ round_of s.now }
 {
@@ -28,6 +30,7 @@ pub fn round_of(s: &[u8]) -> Round
 }
 
 // Of a KN or KW.
+#[tactic(auto, unfolding(drive_states::specs::Messages::mask_of))]
 pub(crate) fn mask_of(s: &[u8]) -> u64
     ensures { result ≡ mask_of s.now }
 {
@@ -35,13 +38,15 @@ pub(crate) fn mask_of(s: &[u8]) -> u64
 }
 
 // The message tells numbers: a KN or KW.
+#[tactic(auto, unfolding(drive_states::specs::Messages::is_known))]
 pub fn is_known(kind: Kind) -> bool
     ensures { result ≡ is_known kind }
 {
-    records::is_kind(kind, Kind::Known) || records::is_kind(kind, Kind::WideKnown)
+    records::is_either(kind, Kind::Known, Kind::WideKnown)
 }
 
 // The drives whose numbers a message tells: a decision tells none.
+#[tactic(auto, unfolding(drive_states::specs::Messages::mask_in, drive_states::specs::Messages::content_of))]
 pub fn mask_in(kind: Kind, s: &[u8]) -> u64
     ensures { result ≡ mask_in (content_of kind s.now) }
 {
@@ -52,6 +57,7 @@ pub fn mask_in(kind: Kind, s: &[u8]) -> u64
 }
 
 // Of a DC or DW.
+#[tactic(auto, unfolding(drive_states::specs::Messages::pattern_of))]
 pub fn pattern_of(kind: Kind, s: &[u8]) -> Pattern
     ensures { result.0 ≡ pattern_of (number_width kind) s.now }
 {
@@ -59,6 +65,7 @@ pub fn pattern_of(kind: Kind, s: &[u8]) -> Pattern
 }
 
 // 15: the mask of a KN or KW lacks the sender or has a bit above n.
+#[tactic(auto, unfolding(drive_states::specs::Messages::wrong_mask, drive_states::specs::Messages::content_of))]
 pub fn wrong_mask(kind: Kind, n: u8, s: &[u8]) -> bool
     ensures { result ≡ wrong_mask n (sender_of s.now) (content_of kind s.now) }
 {
@@ -73,6 +80,7 @@ pub fn wrong_mask(kind: Kind, n: u8, s: &[u8]) -> bool
 }
 
 // How long a message of this kind is: for a KN or KW its mask says how many numbers follow.
+#[tactic(auto, unfolding(drive_states::specs::Messages::length_in, drive_states::specs::Messages::content_of))]
 pub fn length_in(kind: Kind, s: &[u8]) -> usize
     ensures { result ≡ length_in (number_width kind) (content_of kind s.now) }
 {

@@ -8,7 +8,7 @@ use native.Mathlib.Omega.{arith}
 use lib.ListN.{length, get_or, length-replicate}
 use Rattle.drive_sets.specs.Masks.Laws.{has_bounds}
 use Rattle.drive_sets.specs.declared.Refusal.TheVariants.{NoneUntouched, TrailingBytes}
-use Rattle.drive_sets.specs.Positions.{is_none}
+use Rattle.std.specs.Prelude.{is_none}
 use Rattle.survivor_tables.specs.Hitting.{first_missed}
 use Rattle.drive_sets.specs.Refusals.{Outcome, yields, refuse_if, and_then}
 use Rattle.drive_sets.specs.Refusals.Laws.{same_result, passed, first_result, then_same}

@@ -7,8 +7,8 @@ use Prim.Native.Nat.{ℕ, ◌-◌, ◌<◌}
 use native.Mathlib.Omega.{arith}
 use lib.ListN.{get_or}
 use borrow.Author.Tests.{not-false}
-use Rattle.drive_sets.specs.declared.Position.{Position}
-use Rattle.drive_sets.specs.declared.Position.TheVariants.{None}
+use Rattle.drive_sets.specs.Positions.{Position}
+use Rattle.std.specs.Prelude.{None}
 use Rattle.drive_sets.specs.Lists.{any, elem}
 use Rattle.drive_sets.specs.Lists.Laws.{any_elem, any_intro}
 use Rattle.drive_sets.specs.Lists.Places.{get_or_elem}

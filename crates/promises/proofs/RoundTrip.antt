@@ -1,5 +1,6 @@
 -- Tables read back as written: the writer's bytes stand in the buffer from the starting place on, before what stood
 -- there, and reading a normal table's bytes gives the table.
+use Rattle.std.specs.Prelude.{Result}
 use mathlib.Core.Path.{◌≡◌, refl, sym, ap, ◌∙◌, subst}
 use mathlib.Core.Bool.{not}
 use mathlib.Core.List.{List, ◌++◌}
@@ -9,13 +10,13 @@ use lib.Dec.{leb}
 use lib.ListN.{length, take, drop, length-drop}
 use lib.Seq.{length-take-le, drop-drop, take_at, drop_at}
 use borrow.Author.Tests.{leb-true, not-false}
+use Rattle.drive_sets.specs.declared.Refusal.{Refusal}
 use Rattle.drive_sets.specs.declared.Refusal.TheVariants.{NoRoom}
-use Rattle.drive_sets.specs.Refusals.{Outcome, yields, and_then}
+use Rattle.drive_sets.specs.Refusals.{Outcome, yields, and_then, outcome}
 use Rattle.drive_sets.specs.Refusals.Laws.{passed, first_result, same_result}
-use Rattle.lent_bytes.specs.declared.Writing.{Writing}
 use Rattle.drive_sets.specs.Lent.{written_at, fitting, buffer_after}
 use Rattle.drive_sets.specs.Lent.Laws.{written_fits}
-use Rattle.lent_bytes.specs.LentBuffers.{writing_outcome, WrittenIfRoom}
+use Rattle.lent_bytes.specs.LentBuffers.{WrittenIfRoom}
 use Rattle.survivor_tables.specs.Order.{normal}
 use Rattle.survivor_tables.specs.Order.Normal.{normal_idempotent}
 use Rattle.survivor_tables.specs.Tables.{normal_table, Accepted}
@@ -44,8 +45,8 @@ written_from bytes old start room =
     drop_at (take start old) _ start (length-take-le start old (omega arith))
     ∙ (written_fits bytes (drop start old) (omega (arith, length-drop start old)) ∙ ap (λ (l : List ℕ). bytes ++ l) (drop-drop (length bytes) start old))
 
-pub stands : (due : Outcome (List ℕ)) (start : ℕ) (old new : List ℕ) (r : Writing) (size : ℕ)
-    → WrittenIfRoom due start old new r → writing_outcome r ≡ yields size → Stands due start size old new
+pub stands : (due : Outcome (List ℕ)) (start : ℕ) (old new : List ℕ) (r : Result ℕ Refusal) (size : ℕ)
+    → WrittenIfRoom due start old new r → outcome r ≡ yields size → Stands due start size old new
 unfolding fitting
 stands due start old new r size w e =
     let sized = first_result (and_then due (fitting start (length old))) (λ bytes. yields (length bytes)) (sym w.answer ∙ e) in

@@ -1,12 +1,12 @@
 -- Fault lists and survivor tables, which say the same in two ways. Document 02 (vi): "Each survivor set is the rest of
 -- the frame. We convert both ways; the list written holds the largest fault groups, by mask rising. (..) Converting
 -- there and back gives the normal form of what came in, a fault list's being its largest groups."
-use Rattle.std.specs.Prelude.{◌≡◌, true, false, List, [], ◌↔◌, ℕ, take, drop}
+use Rattle.std.specs.Prelude.{◌≡◌, true, false, List, [], ◌↔◌, ℕ, take, drop, Result}
+use Rattle.drive_sets.specs.declared.Refusal.{Refusal}
 use Rattle.drive_sets.specs.Lists.{elem, ordered}
 use Rattle.drive_sets.specs.Masks.{outside, subset}
-use Rattle.drive_sets.specs.Refusals.{yields, and_then}
-use Rattle.lent_bytes.specs.declared.Writing.{Writing}
-use Rattle.lent_bytes.specs.LentBuffers.{writing_outcome, WrittenIfRoom}
+use Rattle.drive_sets.specs.Refusals.{yields, and_then, outcome}
+use Rattle.lent_bytes.specs.LentBuffers.{WrittenIfRoom}
 use Rattle.survivor_tables.specs.Order.{by_mask}
 use Rattle.survivor_tables.specs.Tables.{normal_table}
 use Rattle.complete_tables.specs.Complete.{Complete}
@@ -59,8 +59,8 @@ LargestOfTable = (n : ℕ) (sets list : List ℕ) → faults_from_table n sets �
 
 -- what the writer wrote of n and groups reads back as the fault list in normal form
 unfoldable pub WrittenFaultsReadBack : Type 0
-WrittenFaultsReadBack = (n : ℕ) (groups : List ℕ) (start : ℕ) (old new : List ℕ) (r : Writing) (size : ℕ)
-    → WrittenIfRoom (write_faults n groups) start old new r → writing_outcome r ≡ yields size
+WrittenFaultsReadBack = (n : ℕ) (groups : List ℕ) (start : ℕ) (old new : List ℕ) (r : Result ℕ Refusal) (size : ℕ)
+    → WrittenIfRoom (write_faults n groups) start old new r → outcome r ≡ yields size
     → (list : List ℕ) × (fault_list n groups ≡ yields list) × (read_faults (take size (drop start new)) ≡ yields (record { n = n; sets = list; rest = [] }))
 
 -- a fault list that was read meets no refusal of the writer's but 14, and is written as it was read

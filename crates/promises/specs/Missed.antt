@@ -1,8 +1,7 @@
 -- The first set that a group of drives misses, of the call that is given n, sets and the group. Document 02: "the first
 -- set of the normal table that is missed, by its position, and none exactly where the drives meet them all."
-use Rattle.std.specs.Prelude.{◌≡◌, true, false, ◌↔◌, List, ℕ, ◌≤◌, ◌<◌, length}
-use Rattle.drive_sets.specs.declared.Position.{Position}
-use Rattle.drive_sets.specs.declared.Position.TheVariants.{None, At}
+use Rattle.std.specs.Prelude.{◌≡◌, true, false, ◌↔◌, List, ℕ, ◌≤◌, ◌<◌, length, None, Some}
+use Rattle.drive_sets.specs.Positions.{Position}
 use Rattle.drive_sets.specs.Lists.{elem}
 use Rattle.drive_sets.specs.Masks.{has, subset}
 use Rattle.drive_sets.specs.Refusals.{yields}
@@ -23,7 +22,7 @@ pub record FirstMissed (table : List ℕ) (group p : ℕ) : Type 0 where
 
 -- a position that is given is that of the first set of the normal table that the group misses
 unfoldable pub MissedOfCall : Type 0
-MissedOfCall = (n : ℕ) (sets : List ℕ) (group p : ℕ) → missed_set n sets group ≡ yields (At p) → FirstMissed (normal sets) group p
+MissedOfCall = (n : ℕ) (sets : List ℕ) (group p : ℕ) → missed_set n sets group ≡ yields (Some p) → FirstMissed (normal sets) group p
 
 -- none is given exactly where the group meets every set of the normal table, and exactly where it meets every set that
 -- was handed over, and exactly where it holds a core

@@ -1,4 +1,3 @@
--- What the functions' proofs share: one record and the loop over them, and what the reader gives where it refuses. They
--- are laws of plain lists, so that a function's proof only answers its needs.
+-- What the functions' proofs share: one record and the loop over them. They are laws of plain lists, so that a
+-- function's proof only answers its needs.
 pub mod ProposalSteps
-pub mod Returns

@@ -1,4 +1,5 @@
 -- The loop over a list of records: what is left to read gives what the whole gives.
+use Rattle.std.specs.Prelude.{Ok}
 use mathlib.Core.Path.{◌≡◌, refl, sym, ap, ◌∙◌, subst}
 use mathlib.Core.Bool.{true, false}
 use mathlib.Core.List.{List}
@@ -58,7 +59,7 @@ module _ {S : Type 0} (f : ListFormat S) where
         reading_end = ap (λ (l : List ℕ). yields (record { list = state; rest = l })) (sym (drop-drop 3 at s)) ∙ followed (yields none) e
 
       module _ {t : S} (e : yields (some t) ≡ step_of f state (take (length s - at) (drop at s))) where
-        one : next_of (f.due state) (f.count state) (drop at s) ≡ One
+        one : next_of (f.due state) (f.count state) (drop at s) ≡ (Ok One)
         one = (step_more f state (drop at s) (step e)).0
 
         -- the record was taken

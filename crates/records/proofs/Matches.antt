@@ -1,14 +1,18 @@
--- Marks matched: the kind that was read.
-use mathlib.Core.Path.{◌≡◌, sym, ap, ◌∙◌}
-use mathlib.Core.List.{List}
-use Prim.Native.Nat.{ℕ}
-use native.Mathlib.Omega.{arith}
-use lib.ListN.{take, length-take}
-use lib.Seq.{take_all}
+-- Kinds compared.
+use mathlib.Core.Path.{◌≡◌, ap}
+use borrow.Author.Tests.{eq-eqb}
+use borrow.Author.Rules.{rules}
+use denote.Enum.Bare.{sameb, same_true, true_same}
+use Rattle.drive_sets.specs.Bools.Laws.{same_test}
+use Rattle.records.specs.contracts.Kind.{the_type}
 use Rattle.records.specs.declared.Kind.{Kind}
-use Rattle.records.specs.Fields.{from_bytes}
-use Rattle.records.specs.Marks.{kind_of, kind_at}
+use Rattle.records.specs.Marks.{mark, is_kind}
+use Rattle.records.specs.Marks.Laws.{kind_is}
 
--- the kind of the first two bytes, read as at most 8
-pub head_kind : (s : List ℕ) {m : ℕ} {k : Kind} → m ≡ from_bytes (take 8 (take 2 s)) → k ≡ kind_of m → kind_at s ≡ k
-head_kind s e p = sym (p ∙ ap kind_of (e ∙ ap from_bytes (take_all 8 (take 2 s) (omega (arith, length-take 2 s)))))
+-- kinds are equal where their marks are
+pub kind_same : (k one : Kind) → sameb the_type k one ≡ is_kind one k
+unfolding is_kind
+kind_same k one =
+    same_test (sameb the_type k one) (is_kind one k)
+    (λ e. eq-eqb (mark k) (mark one) (ap mark (same_true the_type (search rules) k one e)))
+    (λ e. true_same the_type k one (kind_is one k e))

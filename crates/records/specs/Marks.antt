@@ -1,17 +1,16 @@
 -- Marks: two letters in ASCII at the start of each record, as a number; the kind of record that a mark starts; and what
 -- is due where.
-use Rattle.std.specs.Prelude.{Bool, not, ◌||◌, cond, List, [], ◌∷◌, ◌++◌, ℕ, ◌+◌, eqb, ltb, length, take}
+use Rattle.std.specs.Prelude.{Bool, not, ◌||◌, cond, List, [], ◌∷◌, ◌++◌, ℕ, ◌+◌, eqb, ltb, length, take, Result, Ok, Err}
 use Prim.Native.String as text
 use Prim.Native.String.{String}
 use Prim.Native.Char.{code}
+use Rattle.drive_sets.specs.declared.Refusal.{Refusal}
 use Rattle.drive_sets.specs.declared.Refusal.TheVariants.{EndsTooSoon, WrongMark}
 use Rattle.drive_sets.specs.Limits.{pattern_width, narrow_width}
 use Rattle.records.specs.declared.Kind.{Kind}
 use Rattle.records.specs.declared.Kind.TheVariants.{Frame, Survivor, Fault, Proposal, Crash, End, Known, Decide, WideProposal, WideKnown, WideDecide, Unknown}
 use Rattle.records.specs.declared.Due.{Due}
 use Rattle.records.specs.declared.Due.TheVariants.{AtRecord, AtRecordOrEnd, AtProposal, AtMessage}
-use Rattle.records.specs.declared.Head.{Head}
-use Rattle.records.specs.declared.Head.TheVariants.{Record, Refused}
 use Rattle.records.specs.Fields.{from_bytes, to_bytes}
 pub mod Laws
 
@@ -112,12 +111,12 @@ width_at s = 2 + body_width (kind_at s)
 
 -- what stands at the start of the bytes: mark cut (1), unknown or in the wrong place (2), rest cut (1), or a record of
 -- some kind
-unfoldable pub head_of : Due → List ℕ → Head
+unfoldable pub head_of : Due → List ℕ → Result Kind Refusal
 head_of due s =
     let k = kind_at s in
-    cond (ltb (length s) 2) (Refused EndsTooSoon)
-    (cond (not (is_due due k)) (Refused WrongMark)
-    (cond (ltb (length s) (2 + body_width k)) (Refused EndsTooSoon) (Record k)))
+    cond (ltb (length s) 2) (Err EndsTooSoon)
+    (cond (not (is_due due k)) (Err WrongMark)
+    (cond (ltb (length s) (2 + body_width k)) (Err EndsTooSoon) (Ok k)))
 
 -- a record of a mark and one field
 unfoldable pub record_bytes : ℕ → ℕ → ℕ → List ℕ

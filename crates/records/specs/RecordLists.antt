@@ -1,15 +1,14 @@
 -- Lists of records, read from left to right: a list ends by itself, or with EN and the count of its records.
-use Rattle.std.specs.Prelude.{Bool, cond, List, [], ◌∷◌, ◌++◌, ℕ, zero, suc, ◌+◌, eqb, length, drop}
+use Rattle.std.specs.Prelude.{Bool, cond, List, [], ◌∷◌, ◌++◌, ℕ, zero, suc, ◌+◌, eqb, length, drop, Result, Ok, Err}
 use Rattle.std.proofs.Math.Option.{Option, none, some}
+use Rattle.drive_sets.specs.declared.Refusal.{Refusal}
 use Rattle.drive_sets.specs.declared.Refusal.TheVariants.{EndsTooSoon, CountDiffers}
 use Rattle.drive_sets.specs.Refusals.{Outcome, refused, yields, and_then, number}
 use Rattle.records.specs.declared.Kind.{Kind}
 use Rattle.records.specs.declared.Kind.TheVariants as kinds
 use Rattle.records.specs.declared.Due.{Due}
-use Rattle.records.specs.declared.Head.{Head}
-use Rattle.records.specs.declared.Head.TheVariants as heads
 use Rattle.records.specs.declared.Next.{Next}
-use Rattle.records.specs.declared.Next.TheVariants.{One, End, Stop}
+use Rattle.records.specs.declared.Next.TheVariants.{One, End}
 use Rattle.records.specs.Fields.{field_at}
 use Rattle.records.specs.Marks.{mark, body_width, is_kind, width_at, head_of, record_bytes}
 pub mod Laws
@@ -19,17 +18,17 @@ pub mod Prefixes
 
 -- what the function makes of the kind of record that is there
 module _ {A : Type 0} where
-  abbrev pub at_record : Head → (Kind → Outcome A) → Outcome A
-  at_record (heads.Refused r) f = refused (number r)
-  at_record (heads.Record k) f = f k
+  abbrev pub at_record : Result Kind Refusal → (Kind → Outcome A) → Outcome A
+  at_record (Err r) f = refused (number r)
+  at_record (Ok k) f = f k
 
 -- where a record of a list or its end is due, behind so many records: a refusal of the mark or of a cut record, EN,
 -- whose count must be theirs (6), or one record more
-abbrev pub next_at : Head → ℕ → List ℕ → Next
-next_at (heads.Refused r) count s = Stop r
-next_at (heads.Record k) count s = cond (is_kind kinds.End k) (cond (eqb (field_at 2 1 s) count) End (Stop CountDiffers)) One
+abbrev pub next_at : Result Kind Refusal → ℕ → List ℕ → Result Next Refusal
+next_at (Err r) count s = Err r
+next_at (Ok k) count s = cond (is_kind kinds.End k) (cond (eqb (field_at 2 1 s) count) (Ok End) (Err CountDiffers)) (Ok One)
 
-unfoldable pub next_of : Due → ℕ → List ℕ → Next
+unfoldable pub next_of : Due → ℕ → List ℕ → Result Next Refusal
 next_of due count s = next_at (head_of due s) count s
 
 -- how a list of records is read. A state is what was read so far: what is due in it, how many records are listed,
@@ -47,10 +46,10 @@ pub record ReadList (S : Type 0) : Type 0 where
 
 module _ {S : Type 0} where
   -- one step: a refusal, none at the end, or the next state
-  abbrev pub step_at : Next → Outcome S → Outcome (Option S)
-  step_at (Stop r) more = refused (number r)
-  step_at End more = yields none
-  step_at One more = and_then more (λ state. yields (some state))
+  abbrev pub step_at : Result Next Refusal → Outcome S → Outcome (Option S)
+  step_at (Err r) more = refused (number r)
+  step_at (Ok End) more = yields none
+  step_at (Ok One) more = and_then more (λ state. yields (some state))
 
   unfoldable pub step_of : ListFormat S → S → List ℕ → Outcome (Option S)
   step_of f state s = step_at (next_of (f.due state) (f.count state) s) (f.taken state s)

@@ -6,7 +6,9 @@ ghost use Rattle.table_listing.specs.TableListing.{table_program};
 ghost use Rattle.run_listing.specs.RunListing.{run_program};
 ghost use Rattle.c_replies.specs.Replies.{size_reply};
 
-use c_replies::SizeReply;
+use c_replies::{SizeReply, written_size};
+use run_listing::programs::run_listing;
+use table_listing::programs::table_listing;
 
 // The table program's text into out, from the starting place on; how many bytes.
 #[unsafe(no_mangle)]
@@ -14,8 +16,7 @@ pub extern "C" fn regdulyn_table_listing(input: &[u8], out: &mut [u8], start: us
     ensures value { result ≡ size_reply (size_written (fitting start (length out.old) (table_program input.now))) }
     ensures out_after { out.new ≡ buffer_after (fitting start (length out.old) (table_program input.now)) start out.old }
 {
-    let w = table_listing::programs::table_listing(input, out, start);
-    c_replies::written_size(w)
+    written_size(table_listing(input, out, start))
 }
 
 // The run program's text into out, from the starting place on; how many bytes.
@@ -24,6 +25,5 @@ pub extern "C" fn regdulyn_run_listing(input: &[u8], out: &mut [u8], start: usiz
     ensures value { result ≡ size_reply (size_written (fitting start (length out.old) (run_program input.now))) }
     ensures out_after { out.new ≡ buffer_after (fitting start (length out.old) (run_program input.now)) start out.old }
 {
-    let w = run_listing::programs::run_listing(input, out, start);
-    c_replies::written_size(w)
+    written_size(run_listing(input, out, start))
 }

@@ -1,5 +1,5 @@
 // The simulated exchange: how each drive of a scenario ends.
-ghost use Rattle.std.specs.Prelude.{◌≡◌, map, ◌≤◌, take};
+ghost use Rattle.std.specs.Prelude.{◌≡◌, map, ◌≤◌, OnOk, take};
 ghost use Rattle.drive_sets.specs.Limits.{max_drives};
 ghost use Rattle.drive_sets.specs.Lists.{range};
 ghost use Rattle.drive_states.specs.State.{values};
@@ -12,7 +12,8 @@ ghost use Rattle.simulation_replies.specs.Replies.{in_drives, simulation_reply};
 ghost use Rattle.run_calls.specs.Simulations.{crashes_of};
 
 use drive_crashes::Crashes;
-use drive_sets::{Answer, Drive, Pattern, Round};
+use drive_sets::{Drive, Pattern, Refusal, Round};
+use run_listing::programs::simulate_with;
 use simulation::simulating::{Simulated, simulate};
 use simulation_replies::{DriveEnding, SimulationReply, ending_of, no_ending, refused_simulation};
 
@@ -28,37 +29,27 @@ pub struct Scenario {
 }
 
 // How the drives 1 to n end, with zeros behind them.
-fn endings_of(n: u8, crashed: u64, rounds: [Round; 64], numbers: [Pattern; 64]) -> [DriveEnding; 64]
+fn endings_of(n: u8, s: &Simulated) -> [DriveEnding; 64]
     requires { n ≤ max_drives }
-    ensures { result ≡ in_drives (map (ending_at crashed rounds numbers) (range 1 n)) }
+    ensures { result ≡ in_drives (map (ending_at s.now.crashed s.now.found) (range 1 n)) }
 {
-    let none = no_ending();
-    let mut drives = [none; 64];
-    let mut i = 0u8;
-    while i < n {
-        let at = i as usize;
-        let round = rounds[at];
-        let number = numbers[at];
-        let ending = ending_of(drive_sets::has(Drive(i + 1), crashed), round, number);
-        drives[at] = ending;
-        i += 1;
+    let mut drives = [no_ending(); 64];
+    for i in 0..n {
+        let first = s.found[i as usize];
+        drives[i as usize] = ending_of(drive_sets::has(Drive(i + 1), s.crashed), first);
     }
     drives
 }
 
 // What the simulated exchange of n drives gave.
-fn simulation_reply(n: u8, s: Simulated) -> SimulationReply
-    requires { s.answer ≡ Answer.Accepted → n ≤ max_drives }
-    ensures { result ≡ simulation_reply (simulated_outcome n s) }
+fn simulation_reply(n: u8, r: Result<Simulated, Refusal>) -> SimulationReply
+    requires { OnOk r (n ≤ max_drives) }
+    ensures { result ≡ simulation_reply (simulated_outcome n r) }
 {
-    let answer = s.answer;
-    let found = s.found;
-    let rounds = found.rounds;
-    let numbers = found.numbers;
-    match answer {
-        Answer::Refused(r) => refused_simulation(r),
-        Answer::Accepted => {
-            let drives = endings_of(n, s.crashed, rounds, numbers);
+    match r {
+        Err(q) => refused_simulation(q),
+        Ok(s) => {
+            let drives = endings_of(n, &s);
             SimulationReply {
                 drives,
                 core: s.core,
@@ -75,7 +66,6 @@ fn simulation_reply(n: u8, s: Simulated) -> SimulationReply
 pub extern "C" fn regdulyn_simulate(n: u8, sets: &[u64], s: Scenario) -> SimulationReply
     ensures { result ≡ simulation_reply (simulated n sets.now (take n (values s.numbers)) (crashes_in (crashes_of s))) }
 {
-    let numbers = s.numbers;
     let rounds = s.rounds;
     let sends = s.sends;
     let crashes = Crashes {
@@ -83,8 +73,7 @@ pub extern "C" fn regdulyn_simulate(n: u8, sets: &[u64], s: Scenario) -> Simulat
         rounds,
         sends,
     };
-    let simulated = simulate(n, sets, numbers, crashes);
-    simulation_reply(n, simulated)
+    simulation_reply(n, simulate(n, sets, s.numbers, crashes))
 }
 
 // The same of a run file, given by its bytes: the table's refusals, then those of the file.
@@ -92,15 +81,5 @@ pub extern "C" fn regdulyn_simulate(n: u8, sets: &[u64], s: Scenario) -> Simulat
 pub extern "C" fn regdulyn_simulate_file(n: u8, sets: &[u64], run: &[u8]) -> SimulationReply
     ensures { result ≡ simulation_reply (simulated_with n sets.now run.now) }
 {
-    let file = run_files::reading::read_run_file(n, sets, run);
-    let answer = file.answer;
-    let numbers = file.numbers;
-    let crashes = file.crashes;
-    match answer {
-        Answer::Refused(r) => refused_simulation(r),
-        Answer::Accepted => {
-            let simulated = simulate(n, sets, numbers, crashes);
-            simulation_reply(n, simulated)
-        }
-    }
+    simulation_reply(n, simulate_with(n, sets, run))
 }

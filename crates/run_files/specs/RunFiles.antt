@@ -1,9 +1,8 @@
 -- Run files as bytes: PR or PW for each core drive, rising, CR (none is fine), EN with the count of CR. Reading finds
 -- the refusals from left to right.
-use Rattle.std.specs.Prelude.{not, List, ℕ}
+use Rattle.std.specs.Prelude.{not, List, ℕ, is_none}
 use Rattle.drive_sets.specs.declared.Refusal.TheVariants.{TrailingBytes, NoneUntouched}
 use Rattle.drive_sets.specs.Refusals.{Outcome, yields, refuse_if, and_then}
-use Rattle.drive_sets.specs.Positions.{is_none}
 use Rattle.survivor_tables.specs.Hitting.{first_missed}
 use Rattle.records.specs.RecordLists.{ReadList, read_list}
 use Rattle.survivor_tables.specs.Tables.{is_empty, chosen_core}

@@ -1,84 +1,65 @@
 // The run program as a function: from the bytes on the input to the text that is printed, in a lent buffer.
-ghost use Rattle.std.specs.Prelude.{◌≤◌};
+ghost use Rattle.std.specs.Prelude.{◌≡◌, ◌≤◌, IfOk};
 ghost use Rattle.drive_sets.specs.Filled.{Filled};
-ghost use Rattle.complete_tables.specs.Complete.{sets_of};
-ghost use Rattle.simulation.specs.Endings.{simulated_outcome};
-ghost use Rattle.run_listing.specs.RunListing.{run_text, simulated_with, run_program};
+ghost use Rattle.drive_sets.specs.Refusals.{yields};
+ghost use Rattle.simulation.specs.Endings.{told_by, simulated_outcome};
+ghost use Rattle.run_listing.specs.RunListing.{run_text, simulated_with, simulated_file, run_program};
+ghost use Rattle.run_listing.specs.RunParts.{file_outcome};
 ghost use Rattle.text.specs.Printing.{Printed};
-ghost use Rattle.drive_sets.specs.Limits.{max_drives, max_sets};
+ghost use Rattle.drive_sets.specs.Limits.{max_drives};
 
 use crate::run_text::{put_core_line, put_drives};
-use drive_sets::Answer;
-use lent_bytes::Writing;
+use drive_sets::Refusal;
+use run_files::reading::read_run_file;
 use simulation::simulating::{Simulated, simulate};
-use survivor_tables::frames::Table;
+use table_files::files::read_table;
 use text::lines::put_refused;
-use text::printing::{MAX_TEXT, print};
+use text::printing::print_made;
 
-// How the drives of a simulated exchange end, or the line of its refusal.
-fn put_simulated(buf: &mut [u8], n: u8, r: Simulated) -> usize
-    requires { n ≤ 64 }
-    ensures { Filled buf.old buf.new 0 result (run_text (simulated_outcome n r)) }
+// How the drives of a simulated exchange end.
+fn put_simulated(buf: &mut [u8], n: u8, s: &Simulated) -> usize
+    requires { n ≤ max_drives }
+    ensures { Filled buf.old buf.new 0 result (run_text (yields (told_by n s.now))) }
 {
-    let answer = r.answer;
-    let found = r.found;
-    let rounds = found.rounds;
-    let numbers = found.numbers;
-    match answer {
-        Answer::Refused(q) => put_refused(buf, 0, q),
-        Answer::Accepted => {
-            let listed = put_drives(buf, n, r.crashed, rounds, numbers);
-            put_core_line(buf, listed, r.core, r.stops)
-        }
-    }
+    let listed = put_drives(buf, n, s);
+    put_core_line(buf, listed, s.core, s.stops)
 }
 
-// The text from the run file on.
-fn put_run_file(buf: &mut [u8], n: u8, sets: &[u64], rest: &[u8]) -> usize
-    requires { n ≤ 64 }
-    ensures { Filled buf.old buf.new 0 result (run_text (simulated_with n sets.now rest.now)) }
+// The simulated exchange of a run file, given n and sets and the bytes behind their table: the table's refusals, then
+// those of the file.
+pub fn simulate_with(n: u8, sets: &[u64], run: &[u8]) -> Result<Simulated, Refusal>
+    ensures { simulated_outcome n result ≡ simulated_with n sets.now run.now }
 {
-    let file = run_files::reading::read_run_file(n, sets, rest);
-    let answer = file.answer;
-    let numbers = file.numbers;
-    let crashes = file.crashes;
-    match answer {
-        Answer::Refused(r) => put_refused(buf, 0, r),
-        Answer::Accepted => put_simulated(buf, n, simulate(n, sets, numbers, crashes)),
-    }
+    let file = read_run_file(n, sets, run)?;
+    simulate(n, sets, file.numbers, file.crashes)
 }
 
-// The same for a table that was read.
-fn put_behind(buf: &mut [u8], table: Table, rest: &[u8]) -> usize
-    requires { (table.n ≤ max_drives) × (table.count ≤ max_sets) }
-    ensures { Filled buf.old buf.new 0 result (run_text (simulated_with table.n (sets_of table) rest.now)) }
+// The same of a table and the run file behind it, with the table's n.
+fn simulate_file(input: &[u8]) -> Result<(u8, Simulated), Refusal>
+    ensures value { file_outcome result ≡ simulated_file input.now }
+    ensures high { IfOk result (λ r. r.0 ≤ max_drives) }
 {
-    let n = table.n;
-    let sets = table.sets;
-    let count = table.count;
-    put_run_file(buf, n, &sets[0..count], rest)
+    let mut rest: &[u8] = input;
+    let t = read_table(input, &mut rest)?;
+    let n = t.table.n;
+    let simulated = simulate_with(n, t.table.sets.as_slice(), rest)?;
+    Ok((n, simulated))
 }
 
 // The text of the run program.
 fn put_run(buf: &mut [u8], input: &[u8]) -> usize
     ensures { Filled buf.old buf.new 0 result (run_program input.now) }
 {
-    let mut rest: &[u8] = input;
-    let t = table_files::files::read_table(input, &mut rest);
-    let answer = t.answer;
-    let table = t.table;
-    match answer {
-        Answer::Refused(r) => put_refused(buf, 0, r),
-        Answer::Accepted => put_behind(buf, table, rest),
+    match simulate_file(input) {
+        Err(r) => put_refused(buf, 0, r),
+        Ok((n, simulated)) => put_simulated(buf, n, &simulated),
     }
 }
 
 // What the run program prints for the bytes on its input: how the drives of the simulated exchange end, or a refusal's
 // line.
-pub fn run_listing(input: &[u8], out: &mut [u8], start: usize) -> Writing
+pub fn run_listing(input: &[u8], out: &mut [u8], start: usize) -> Result<usize, Refusal>
     ensures { Printed (run_program input.now) start out.old out.new result }
 {
-    let mut text = [0u8; MAX_TEXT];
-    let size = put_run(&mut text, input);
-    print(&text[0..size], out, start)
+    print_made(|buf| put_run(buf, input), out, start)
 }

@@ -1,11 +1,10 @@
 -- What one search finds, put in order.
 use mathlib.Core.Path.{◌≡◌, ap, ◌∙◌}
-use mathlib.Core.Bool.{Bool, true, false}
+use mathlib.Core.Bool.{Bool}
 use mathlib.Core.List.{List}
 use Prim.Native.Nat.{ℕ, ◌≤◌, ◌<◌}
 use native.Mathlib.Omega.{arith}
 use lib.ListN.{length, take}
-use Rattle.drive_sets.specs.Bools.Laws.{clash}
 use Rattle.drive_sets.specs.Filled.{Filled}
 use Rattle.drive_sets.specs.Filled.Laws.{filled_over}
 use Rattle.survivor_tables.specs.Hitting.{minimals}
@@ -15,24 +14,20 @@ use Rattle.set_orders.specs.Sorting.Laws.{take_sort_first}
 use Rattle.hitting_sets.specs.Fuel.{Searched}
 use Rattle.search_attempts.specs.Attempts.{Attempted}
 
--- given up
-pub tried_none : {before : ℕ → ℕ → Bool} {sets list : List ℕ} {room r : ℕ} {done : Bool} → done ≡ false → Attempted before sets room list done r
-tried_none q = record { total = λ t. absurd (clash t q); listed = λ t. absurd (clash t q) }
-
 module _ {limited : Bool} {fuel : ℕ} (before : ℕ → ℕ → Bool) (sets out mid : List ℕ) (r left : ℕ) (same : length mid ≡ length out)
     (s : Searched limited fuel out mid 0 r left (minimals sets)) where
   -- more than there is room for
-  pub tried_more : length mid < r → Attempted before sets (length out) mid true r
+  pub tried_more : length mid < r → Attempted before sets (length out) mid r
   tried_more h = record {
-    total = λ _. omega (arith, (filled_over out mid 0 r (minimals sets) (omega (arith, s.bound)) s.some).total);
-    listed = λ _ p. absurd (omega arith);
+    total = omega (arith, (filled_over out mid 0 r (minimals sets) (omega (arith, s.bound)) s.some).total);
+    listed = λ p. absurd (omega arith);
   }
 
   -- all, put in order
-  pub tried_all : (new : List ℕ) → r ≤ length mid → (left ≡ 0 → ⊥) → new ≡ sort_first before r mid → Attempted before sets (length out) new true r
+  pub tried_all : (new : List ℕ) → r ≤ length mid → (left ≡ 0 → ⊥) → new ≡ sort_first before r mid → Attempted before sets (length out) new r
   tried_all new h some e = record {
-    total = λ _. omega (arith, filled.total);
-    listed = λ _ p q. ap (take r) e ∙ (take_sort_first before r mid q h ∙ ap (sort before) (filled.kept p));
+    total = omega (arith, filled.total);
+    listed = λ p q. ap (take r) e ∙ (take_sort_first before r mid q h ∙ ap (sort before) (filled.kept p));
   }
     where
       filled : Filled out mid 0 r (minimals sets)

@@ -3,4 +3,3 @@
 
 pub mod dead_ends;
 pub mod levels;
-mod swaps;

@@ -29,21 +29,21 @@ module _ (before : ℕ → ℕ → Bool) (strict : Strict before) (sets other : 
   same_count : length (minimals other) ≡ length (minimals sets)
   same_count = sym (length_sort before (minimals other)) ∙ (ap length same_list_law ∙ length_sort before (minimals sets))
 
-  pub tried_other : {room : ℕ} {list : List ℕ} {done : Bool} {r : ℕ} → Attempted before other room list done r → Attempted before sets room list done r
+  pub tried_other : {room : ℕ} {list : List ℕ} {r : ℕ} → Attempted before other room list r → Attempted before sets room list r
   tried_other {room} a = record {
-    total = λ t. a.total t ∙ ap (min (suc room)) same_count;
-    listed = λ t p q. a.listed t p q ∙ same_list_law;
+    total = a.total ∙ ap (min (suc room)) same_count;
+    listed = λ p q. a.listed p q ∙ same_list_law;
   }
 
 -- a list that earlier searches wrote into has as much room
-pub same_room : {before : ℕ → ℕ → Bool} {sets list : List ℕ} {k room : ℕ} {done : Bool} {r : ℕ} → k ≡ room → Attempted before sets k list done r
-    → Attempted before sets room list done r
-same_room {before} {sets} {list} {done = done} {r = r} e a = subst (λ (n : ℕ). Attempted before sets n list done r) e a
+pub same_room : {before : ℕ → ℕ → Bool} {sets list : List ℕ} {k room : ℕ} {r : ℕ} → k ≡ room → Attempted before sets k list r
+    → Attempted before sets room list r
+same_room {before} {sets} {list} {r = r} e a = subst (λ (n : ℕ). Attempted before sets n list r) e a
 
 -- the sets copied into longer memory, and searched there as a part from the start on
-pub tried_copy : {before : ℕ → ℕ → Bool} (sets old copy : List ℕ) {room : ℕ} {list : List ℕ} {done : Bool} {r : ℕ} → length sets ≤ length old
-    → copy ≡ take (length old) sets ++ drop (length sets) old → Attempted before (take (length sets - 0) copy) room list done r → Attempted before sets room list done r
-tried_copy {before} sets old copy {room} {list} {done} {r} h e a = subst (λ (l : List ℕ). Attempted before l room list done r) same a
+pub tried_copy : {before : ℕ → ℕ → Bool} (sets old copy : List ℕ) {room : ℕ} {list : List ℕ} {r : ℕ} → length sets ≤ length old
+    → copy ≡ take (length old) sets ++ drop (length sets) old → Attempted before (take (length sets - 0) copy) room list r → Attempted before sets room list r
+tried_copy {before} sets old copy {room} {list} {r} h e a = subst (λ (l : List ℕ). Attempted before l room list r) same a
   where
     same : take (length sets - 0) copy ≡ sets
     same =

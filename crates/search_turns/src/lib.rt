@@ -3,20 +3,21 @@
 // other orders and by other rules, with more and more fuel.
 #![tactic(auto)]
 
-ghost use Rattle.std.specs.Prelude.{◌≡◌, true, ◌≤◌, length};
+ghost use Rattle.std.specs.Prelude.{◌≤◌, length, IfSome};
 ghost use Rattle.set_orders.specs.Sorting.{precedes};
 ghost use Rattle.search_orders.specs.Rearranged.{Permuted};
 ghost use Rattle.search_attempts.specs.Attempts.{Attempted};
 
 use hitting_sets::search::Mode;
-use search_attempts::{Attempt, given_up, search_once};
+use search_attempts::{Attempt, search_once};
 use search_orders::{dead_ends, levels};
 use set_orders::sorting::Order;
 use set_orders::{slices, sorting};
 use survivor_tables::MAX_CORES;
 
 // The turns of a round, of which each second looks ahead: level order, without look-ahead and with it; by size, with it;
-// by mask, without; and between these, and at the end, the sets with most dead ends first.
+// by mask, without; and between these, and at the end, the sets with most dead ends first. A turn is a number and no
+// enum, since its place in the round tells its order, whether it looks ahead and its fuel.
 const ROUND: usize = 8;
 
 const BY_LEVEL: usize = 0;
@@ -80,34 +81,32 @@ fn next_fuel(turn: usize, fuel: usize) -> usize {
 }
 
 // Turn after turn, until a search is done.
-fn in_turns(order: Order, sets: &mut [u64], list: &mut [u64], ends: &mut [u64]) -> Attempt
-    ensures { Attempted (precedes order) sets.old (length list.old) list.new result.done result.found }
+fn in_turns(order: Order, sets: &mut [u64], list: &mut [u64], ends: &mut [u64]) -> Option<Attempt>
+    ensures { IfSome result (λ a. Attempted (precedes order) sets.old (length list.old) list.new a.found) }
 {
     let mut fuel = fuel_for(WORK, sets.len());
-    let mut turn = 0;
-    while turn < TURNS {
+    for turn in 0..TURNS {
         arrange(turn, sets, ends);
         let mode = Mode {
             look_ahead: turn % 2 == 1,
             limited: true,
         };
         let tried = search_once(turn + 1, mode, order, sets, list, fuel_of(turn, fuel), ends);
-        if tried.done {
+        if tried.is_some() {
             return tried;
         }
         fuel = next_fuel(turn, fuel);
-        turn += 1;
     }
-    given_up(turn)
+    None
 }
 
 // The turns on a copy of the sets, where they are at most 1024.
-fn search_again(order: Order, sets: &[u64], list: &mut [u64], ends: &mut [u64]) -> Attempt
-    ensures { Attempted (precedes order) sets.now (length list.old) list.new result.done result.found }
+fn search_again(order: Order, sets: &[u64], list: &mut [u64], ends: &mut [u64]) -> Option<Attempt>
+    ensures { IfSome result (λ a. Attempted (precedes order) sets.now (length list.old) list.new a.found) }
 {
     let n = sets.len();
     if MAX_CORES < n {
-        return given_up(TURNS);
+        return None;
     }
     let mut ordered = [0u64; MAX_CORES];
     slices::copy(sets, &mut ordered);
@@ -117,8 +116,7 @@ fn search_again(order: Order, sets: &[u64], list: &mut [u64], ends: &mut [u64]) 
 // One search after the other, until one is done. Most lists of sets end with the first. The last, which no list that is
 // known needs, has no limit.
 pub fn search_until_done(order: Order, sets: &[u64], list: &mut [u64]) -> Attempt
-    ensures attempted { Attempted (precedes order) sets.now (length list.old) list.new result.done result.found }
-    ensures done { result.done ≡ true }
+    ensures { Attempted (precedes order) sets.now (length list.old) list.new result.found }
 {
     let mut ends = [0u64; MAX_CORES];
     let plain = Mode {
@@ -126,17 +124,15 @@ pub fn search_until_done(order: Order, sets: &[u64], list: &mut [u64]) -> Attemp
         limited: true,
     };
     let fuel = fuel_for(WORK / 2, sets.len());
-    let first = search_once(0, plain, order, sets, list, fuel, &mut ends);
-    if first.done {
+    if let Some(first) = search_once(0, plain, order, sets, list, fuel, &mut ends) {
         return first;
     }
-    let later = search_again(order, sets, list, &mut ends);
-    if later.done {
+    if let Some(later) = search_again(order, sets, list, &mut ends) {
         return later;
     }
     let unlimited = Mode {
         look_ahead: true,
         limited: false,
     };
-    search_once(TURNS + 1, unlimited, order, sets, list, 1, &mut ends)
+    search_once(TURNS + 1, unlimited, order, sets, list, 1, &mut ends).unwrap()
 }

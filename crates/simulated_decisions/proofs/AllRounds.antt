@@ -1,11 +1,11 @@
 -- The loop of the rounds: what was found so far, and else what the rounds to come give, is what all rounds give.
+use Rattle.std.specs.Prelude.{Option, None, Some}
 use mathlib.Core.Path.{◌≡◌, refl, sym, ap, ap₂, ◌∙◌, subst}
 use mathlib.Core.Bool.{true}
 use mathlib.Core.List.{List}
 use Prim.Native.Nat.{ℕ, suc, ◌+◌, ◌-◌, ◌≤◌, ◌<◌}
 use native.Mathlib.Numerals.{add-one}
 use native.Mathlib.Omega.{arith}
-use borrow.Author.Tests.{ne_eqb}
 use Rattle.drive_sets.specs.Masks.{size}
 use Rattle.drive_states.specs.declared.Exchange.{Exchange}
 use Rattle.drive_states.specs.declared.Decision.{Decision}
@@ -17,11 +17,10 @@ use Rattle.runs.specs.Scenario.{Scenario, core_of}
 use Rattle.agreement.specs.RoundEndings.{Ending, decides, undecided, stopped}
 use Rattle.agreement.specs.Canonical.{opening_calls, round_calls, rounds_from, canonical_rounds, ending_on, first_decision, canonical_ending}
 use Rattle.drive_crashes.specs.declared.Crashes.{Crashes}
-use Rattle.drive_crashes.specs.Crashes.{round_at}
-use Rattle.simulated_decisions.specs.declared.noting.Notes.{Notes}
+use Rattle.simulated_decisions.specs.declared.noting.First.{First}
 use Rattle.simulated_sends.specs.States.{state_at, world_of}
 use Rattle.simulated_rounds.specs.Rounds.{Says}
-use Rattle.simulated_decisions.specs.Endings.{ending_by, found_of, nothing_found, or_later}
+use Rattle.simulated_decisions.specs.Endings.{ending_by, first_of, found_of, nothing_found, or_later}
 use Rattle.simulated_decisions.proofs.FirstDecisions.{nothing_found_law}
 use Rattle.simulated_sends.proofs.Worlds.{world_at}
 
@@ -40,9 +39,10 @@ or_on stopped decision r later = refl
 or_on undecided Undecided r later = refl
 or_on undecided (Decided v) r later = refl
 
-or_decided : (round number : ℕ) (later : Ending) → (round ≡ 0 → ⊥) → or_later (ending_by round number) later ≡ ending_by round number
+or_decided : (first : Option First) (later : Ending) → (first ≡ None → ⊥) → or_later (ending_by first) later ≡ ending_by first
 unfolding or_later ending_by
-or_decided round number later some = rw (ne_eqb round 0 some)
+or_decided None later some = absurd (some refl)
+or_decided (Some first) later some = refl
 
 -- ---- the rounds to come
 
@@ -62,52 +62,51 @@ module _ (s : Scenario) (d : ℕ) where
 -- ---- the loop
 
 module _ (n core : ℕ) (c : Crashes) (states₀ : List Exchange) where
-  -- so many rounds are done
-  pub record Running (states : List Exchange) (found : Notes) (done : ℕ) : Type 0 where
-    pub up_to : done ≤ size core
+  -- the rounds before round r are done
+  pub record Running (states : List Exchange) (found : List (Option First)) (r : ℕ) : Type 0 where
+    pub up_to : r ≤ suc (size core)
     pub same : (s : Scenario) → Says n core c s → (d : ℕ) → is_drive n d ≡ true
-        → or_later (found_of found d) (given s d (size core - done) (suc done) (world_of n states)) ≡ given s d (size core) 1 (world_of n states₀)
+        → or_later (found_of found d) (given s d (suc (size core) - r) r (world_of n states)) ≡ given s d (size core) 1 (world_of n states₀)
 
-  pub run_start : Running states₀ nothing_found 0
+  pub run_start : Running states₀ nothing_found 1
   unfolding or_later
   run_start = record {
     up_to = omega arith;
     same = λ s g d h.
-        let whole : size core - 0 ≡ size core = omega arith in
+        let whole : suc (size core) - 1 ≡ size core = omega arith in
         ap₂ (λ (e : Ending) (k : ℕ). or_later e (given s d k 1 (world_of n states₀))) (nothing_found_law d) whole;
   }
 
-  pub run_turn : (states next : List Exchange) (found noted : Notes) (done : ℕ) → Running states found done → done < size core
-      → ((s : Scenario) → Says n core c s → world_of n next ≡ apply_all (world_of n states) (round_calls s (done + 1) (world_of n states)))
-      → ((d : ℕ) → is_drive n d ≡ true → found_of noted d ≡ or_later (found_of found d) (ending_on (state_at next d).decision (done + 1) undecided))
-      → Running next noted (done + 1)
+  pub run_turn : (states next : List Exchange) (found noted : List (Option First)) (r : ℕ) → Running states found r → r ≤ size core
+      → ((s : Scenario) → Says n core c s → world_of n next ≡ apply_all (world_of n states) (round_calls s r (world_of n states)))
+      → ((d : ℕ) → is_drive n d ≡ true → found_of noted d ≡ or_later (found_of found d) (ending_on (state_at next d).decision r undecided))
+      → Running next noted (r + 1)
   unfolding decision_of
-  run_turn states next found noted done g h made notes = subst (Running next noted) (sym (add-one done)) (record { up_to = h; same = same })
+  run_turn states next found noted r g h made notes = subst (Running next noted) (sym (add-one r)) (record { up_to = omega (arith, h); same = same })
     where
       same : (s : Scenario) → Says n core c s → (d : ℕ) → is_drive n d ≡ true
-          → or_later (found_of noted d) (given s d (size core - suc done) (suc (suc done)) (world_of n next)) ≡ given s d (size core) 1 (world_of n states₀)
+          → or_later (found_of noted d) (given s d (suc (size core) - suc r) (suc r) (world_of n next)) ≡ given s d (size core) 1 (world_of n states₀)
       same s t d i =
-          let k = size core - suc done in
-          let more : suc k ≡ size core - done = omega (arith, h) in
-          ap (λ (e : Ending). or_later e (given s d k (suc (suc done)) (world_of n next)))
-          (notes d i ∙ ap₂ (λ (x : Decision) (r : ℕ). or_later (found_of found d) (ending_on x r undecided)) (sym (ap decision_of (world_at n next d i))) (add-one done))
-          ∙ (given_step s d k (suc done) (world_of n states) (world_of n next) (found_of found d)
-          (made s t ∙ ap (λ (r : ℕ). apply_all (world_of n states) (round_calls s r (world_of n states))) (add-one done))
-          ∙ (ap (λ (j : ℕ). or_later (found_of found d) (given s d j (suc done) (world_of n states))) more ∙ g.same s t d i))
+          let k = suc (size core) - suc r in
+          let more : suc k ≡ suc (size core) - r = omega (arith, h) in
+          ap (λ (e : Ending). or_later e (given s d k (suc r) (world_of n next)))
+          (notes d i ∙ ap (λ (x : Decision). or_later (found_of found d) (ending_on x r undecided)) (sym (ap decision_of (world_at n next d i))))
+          ∙ (given_step s d k r (world_of n states) (world_of n next) (found_of found d) (made s t)
+          ∙ (ap (λ (j : ℕ). or_later (found_of found d) (given s d j r (world_of n states))) more ∙ g.same s t d i))
 
-  pub run_end : (states : List Exchange) (found : Notes) (done : ℕ) → Running states found done → size core ≤ done
+  pub run_end : (states : List Exchange) (found : List (Option First)) (r : ℕ) → Running states found r → size core < r
       → (s : Scenario) → Says n core c s → (d : ℕ) → is_drive n d ≡ true → found_of found d ≡ given s d (size core) 1 (world_of n states₀)
   unfolding first_decision rounds_from
-  run_end states found done g h s t d i =
-      let none : 0 ≡ size core - done = omega (arith, h) in
+  run_end states found r g h s t d i =
+      let none : 0 ≡ suc (size core) - r = omega (arith, h) in
       sym (or_none (found_of found d))
-      ∙ (ap (λ (k : ℕ). or_later (found_of found d) (given s d k (suc done) (world_of n states))) none ∙ g.same s t d i)
+      ∙ (ap (λ (k : ℕ). or_later (found_of found d) (given s d k r (world_of n states))) none ∙ g.same s t d i)
 
   -- a drive that has decided ends as it was found
-  pub run_decided : (states : List Exchange) (found : Notes) (done : ℕ) → Running states found done
-      → (s : Scenario) → Says n core c s → (d : ℕ) → is_drive n d ≡ true → (round_at found.rounds d ≡ 0 → ⊥) → found_of found d ≡ given s d (size core) 1 (world_of n states₀)
+  pub run_decided : (states : List Exchange) (found : List (Option First)) (r : ℕ) → Running states found r
+      → (s : Scenario) → Says n core c s → (d : ℕ) → is_drive n d ≡ true → (first_of found d ≡ None → ⊥) → found_of found d ≡ given s d (size core) 1 (world_of n states₀)
   unfolding found_of
-  run_decided states found done g s t d i some = sym (or_decided _ _ _ some) ∙ g.same s t d i
+  run_decided states found r g s t d i some = sym (or_decided _ _ some) ∙ g.same s t d i
 
 -- all rounds from the opened world are the canonical ones
 pub all_given : (core : ℕ) (s : Scenario) (d : ℕ) → core_of s ≡ core → (w : World) → w ≡ apply_all nothing_open (opening_calls s)

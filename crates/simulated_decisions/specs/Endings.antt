@@ -1,23 +1,24 @@
 -- What the code's record of decisions says: how a drive ends, as far as it is known.
-use Rattle.std.specs.Prelude.{Bool, cond, List, ℕ, eqb, replicate}
-use Rattle.drive_sets.specs.declared.Pattern.{Pattern}
-use Rattle.drive_sets.specs.declared.Round.{Round}
+use Rattle.std.specs.Prelude.{Bool, cond, List, ℕ, ◌-◌, Option, None, Some, get_or, replicate}
 use Rattle.drive_sets.specs.Masks.{has}
 use Rattle.agreement.specs.RoundEndings.{Ending, decides, undecided, stopped}
-use Rattle.drive_crashes.specs.Crashes.{no_round, round_at}
-use Rattle.simulated_decisions.specs.declared.noting.Notes.{Notes}
-use Rattle.drive_states.specs.State.{pattern, number_in}
+use Rattle.simulated_decisions.specs.declared.noting.First.{First}
 
--- from a round, 0 where the drive has not decided, and a pattern number
-unfoldable pub ending_by : ℕ → ℕ → Ending
-ending_by round number = cond (eqb round 0) undecided (decides number round)
+-- from a drive's first decision, if it has decided
+unfoldable pub ending_by : Option First → Ending
+ending_by None = undecided
+ending_by (Some first) = decides first.number.0 first.round.0
 
-unfoldable pub found_of : Notes → ℕ → Ending
-found_of f d = ending_by (round_at f.rounds d) (number_in f.numbers d)
+-- a drive's first decision, from those of all drives, drive 1 first
+unfoldable pub first_of : List (Option First) → ℕ → Option First
+first_of found d = get_or found (d - 1) None
+
+unfoldable pub found_of : List (Option First) → ℕ → Ending
+found_of found d = ending_by (first_of found d)
 
 -- nothing found of any drive
-abbrev pub nothing_found : Notes
-nothing_found = record { rounds = replicate 64 no_round; numbers = replicate 64 (pattern 0) }
+abbrev pub nothing_found : List (Option First)
+nothing_found = replicate 64 None
 
 -- the first decision counts
 unfoldable pub or_later : Ending → Ending → Ending
@@ -27,10 +28,10 @@ or_later stopped later = stopped
 
 -- ---- with the drives that stop
 
--- how a drive ends, from whether it has a CR, the round in which it decided, 0 where it has not, and the pattern number
-unfoldable pub ending_for : Bool → ℕ → ℕ → Ending
-ending_for crashes round number = cond crashes stopped (ending_by round number)
+-- how a drive ends, from whether it has a CR, and its first decision
+unfoldable pub ending_for : Bool → Option First → Ending
+ending_for crashes first = cond crashes stopped (ending_by first)
 
--- the same from the drives with a CR, and the rounds and numbers by drive
-unfoldable pub ending_at : ℕ → List Round → List Pattern → ℕ → Ending
-ending_at crashed rounds numbers d = ending_for (has d crashed) (round_at rounds d) (number_in numbers d)
+-- the same from the drives with a CR, and the first decisions by drive
+unfoldable pub ending_at : ℕ → List (Option First) → ℕ → Ending
+ending_at crashed found d = ending_for (has d crashed) (first_of found d)

@@ -14,38 +14,29 @@ use simulated_rounds::rounds;
 
 // The first decisions of the drives 1 to n, where the table has this chosen core. Where all have decided, the rounds to
 // come change nothing.
-fn run(n: u8, core: u64, numbers: [Pattern; 64], crashes: Crashes) -> Notes
+fn run(n: u8, core: u64, numbers: &[Pattern; 64], crashes: &Crashes) -> Notes
     requires { (n ≤ 64) × (core < 2 ^ n) }
-    ensures { (s : Scenario) → Told n core numbers crashes s → (d : ℕ) → is_drive n d ≡ true → found_of result d ≡ canonical_ending s d }
+    ensures { (s : Scenario) → Told n core numbers.now crashes.now s → (d : ℕ) → is_drive n d ≡ true → found_of result d ≡ canonical_ending s d }
 {
     let mut states = opened::open_all(n, core, numbers);
     let mut found = noting::nothing();
-    let last = drive_sets::size(core);
-    let mut done = 0u8;
-    while (done as u32) < last {
-        let round = Round(done + 1);
-        let next = rounds::one_round(states, n, core, crashes, round);
-        let noted = noting::note_all(found, next, n, round);
-        let rounds = noted.rounds;
-        if noting::all_decided(rounds, n) {
-            return noted;
+    for r in 1..=drive_sets::size(core) as u8 {
+        let round = Round(r);
+        rounds::one_round(&mut states, n, core, crashes, round);
+        noting::note_all(&mut found, &states, n, round);
+        if noting::all_decided(&found, n) {
+            break;
         }
-        states = next;
-        found = noted;
-        done += 1;
     }
     found
 }
 
 // The same of any frame and core: nothing where the frame does not hold the core, which no scenario has.
-pub fn first_decisions(n: u8, core: u64, numbers: [Pattern; 64], crashes: Crashes) -> Notes
-    ensures value { (s : Scenario) → Told n core numbers crashes s → (d : ℕ) → is_drive n d ≡ true → found_of result d ≡ canonical_ending s d }
+pub fn first_decisions(n: u8, core: u64, numbers: &[Pattern; 64], crashes: &Crashes) -> Notes
+    ensures value { (s : Scenario) → Told n core numbers.now crashes.now s → (d : ℕ) → is_drive n d ≡ true → found_of result d ≡ canonical_ending s d }
     ensures none { (n ≤ 64 → core < 2 ^ n → ⊥) → result ≡ nothing_found }
 {
-    if MAX_DRIVES < n {
-        return noting::nothing();
-    }
-    if !drive_sets::subset(core, drive_sets::full(n)) {
+    if MAX_DRIVES < n || !drive_sets::subset(core, drive_sets::full(n)) {
         return noting::nothing();
     }
     run(n, core, numbers, crashes)

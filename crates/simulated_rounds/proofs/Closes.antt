@@ -1,12 +1,10 @@
 -- The closes of a round: the loop over the drives.
-use mathlib.Core.Path.{◌≡◌, ap, ◌∙◌}
-use mathlib.Core.Bool.{Bool, not, ◌&&◌, cond}
+use mathlib.Core.Path.{◌≡◌, sym, ap, ◌∙◌}
+use mathlib.Core.Bool.{Bool, true, false, not, ◌&&◌}
 use mathlib.Core.List.{List, [], ◌∷◌, map}
 use Prim.Native.Nat.{ℕ, ◌+◌, ◌≤◌, ◌<◌}
 use native.Mathlib.Omega.{arith}
-use lib.ListN.{get_or, set, length-set}
-use lib.Seq.{set-get_or}
-use Rattle.drive_sets.specs.Bools.Laws.{by_test}
+use lib.ListN.{length, get_or, set, length-set}
 use Rattle.drive_sets.specs.Lists.{range, filter}
 use Rattle.drive_states.specs.declared.Exchange.{Exchange}
 use Rattle.agreement.specs.Calls.{closing}
@@ -34,14 +32,20 @@ abbrev pub Closing : ℕ → Crashes → ℕ → List Exchange → List Exchange
 Closing n c r began states all i = Walking n (close_calls c r began) states all i
 
 module _ (n : ℕ) (c : Crashes) (r : ℕ) (began states : List Exchange) where
-  pub close_turn : (all : List Exchange) (i : ℕ) (y : Exchange) → Closing n c r began states all i → i < n → n ≤ 64
-      → y ≡ cond (active (opened (get_or began i blank)) && not (gone_by (crash_at c (i + 1)) r)) (state_after (get_or all i blank) (closing (get_or all i blank))) (get_or all i blank)
-      → Closing n c r began states (set all i y) (i + 1)
-  unfolding worlds.apply_all
-  close_turn all i y g h few e =
-      walk_turn n (close_calls c r began) states all (set all i y) i g h (length-set all i y ∙ g.long)
-      (rw (state_place began i, e) (by_test (active (opened (get_or began i blank)) && not (gone_by (crash_at c (i + 1)) r))
-      (λ t. rw t (close_place n all i h (omega (arith, few, g.long)))) (λ t. rw t (ap (world_of n) (set-get_or all i blank)))))
+  module _ (all new : List Exchange) (i : ℕ) (g : Closing n c r began states all i) (h : i < n) {b : Bool}
+      (e : b ≡ (active (opened (get_or began i blank)) && not (gone_by (crash_at c (i + 1)) r))) where
+    closes_here : closes_now c r began (i + 1) ≡ b
+    closes_here = ap (λ (x : Exchange). active (opened x) && not (gone_by (crash_at c (i + 1)) r)) (state_place began i) ∙ sym e
+
+    pub close_made : n ≤ 64 → b ≡ true → new ≡ set all i (state_after (get_or all i blank) (closing (get_or all i blank))) → Closing n c r began states new (i + 1)
+    unfolding worlds.apply_all
+    close_made few t f =
+        walk_turn n (close_calls c r began) states all new i g h (ap length f ∙ (length-set all i _ ∙ g.long))
+        (rw (closes_here, t) (ap (world_of n) f ∙ close_place n all i h (omega (arith, few, g.long))))
+
+    pub close_kept : b ≡ false → new ≡ all → Closing n c r began states new (i + 1)
+    unfolding worlds.apply_all
+    close_kept t f = walk_turn n (close_calls c r began) states all new i g h (ap length f ∙ g.long) (rw (closes_here, t) (ap (world_of n) f))
 
   pub close_end : (all : List Exchange) (i : ℕ) → Closing n c r began states all i → n ≤ i
       → world_of n all ≡ apply_all (world_of n states) (map closes (closers n began c r))

@@ -40,19 +40,19 @@ length_list n core own few within =
 
 -- ---- the loop
 
-module _ (n core : ℕ) (c : Crashes) (r : ℕ) (states : List Exchange) where
+module _ (n core : ℕ) (c : Crashes) (r : ℕ) (began states : List Exchange) where
   abbrev pub Sending : List Exchange → ℕ → Type 0
-  Sending all i = Walking n (messages_by n core states c r) states all i
+  Sending all i = Walking n (messages_by n core began c r) states all i
 
   pub send_turn : (all : List Exchange) (i : ℕ) (new : List Exchange) → Sending all i → i < n → length new ≡ 64
-      → world_of n new ≡ apply_all (world_of n all) (cond (has (i + 1) core && active (opened (get_or states i blank)) && not (gone_before (crash_at c (i + 1)) r))
-      (deliveries (sending (get_or states i blank) room 0) (cut (crash_at c (i + 1)) r (list_for n core (i + 1)))) [])
+      → world_of n new ≡ apply_all (world_of n all) (cond (has (i + 1) core && active (opened (get_or began i blank)) && not (gone_before (crash_at c (i + 1)) r))
+      (deliveries (sending (get_or began i blank) room 0) (cut (crash_at c (i + 1)) r (list_for n core (i + 1)))) [])
       → Sending new (i + 1)
   unfolding messages_by sends_now
   send_turn all i new g h long e =
-      walk_turn n (messages_by n core states c r) states all new i g h long
-      (rw (state_place states i) e)
+      walk_turn n (messages_by n core began c r) states all new i g h long
+      (rw (state_place began i) e)
 
-  pub send_end : (all : List Exchange) (i : ℕ) → Sending all i → n ≤ i → world_of n all ≡ apply_all (world_of n states) (messages_of n core states c r)
+  pub send_end : (all : List Exchange) (i : ℕ) → Sending all i → n ≤ i → world_of n all ≡ apply_all (world_of n states) (messages_of n core began c r)
   unfolding messages_of
-  send_end all i g h = walk_end n (messages_by n core states c r) states all i g h
+  send_end all i g h = walk_end n (messages_by n core began c r) states all i g h

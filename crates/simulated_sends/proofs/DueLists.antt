@@ -1,42 +1,49 @@
--- The first drive of what is left of a sender's list, and the others.
-use mathlib.Core.Path.{◌≡◌, sym, ap, ap₂, ◌∙◌}
+-- The drives that a message has still to go to, as the iterator has them.
+use Rattle.std.specs.Prelude.{Option, None, Some, MatchOption}
+use Rattle.std.specs.Iterator.{YieldsFirstBy, MakesProgress, item_count}
+use Rattle.std.specs.declared.iter.Iterator.{can_next-default}
+use mathlib.Core.Path.{◌≡◌, ap, ap₂, ◌∙◌, subst}
 use mathlib.Core.List.{List, [], ◌∷◌, ◌++◌}
-use Prim.Native.Nat.{ℕ, suc, ◌-◌, ◌^◌, ◌<◌}
+use Prim.Native.Nat.{ℕ, suc}
 use native.Mathlib.Omega.{arith}
-use lib.Dec.{eqb}
-use lib.ListN.{take, drop}
+use lib.ListN.{length, take}
 use lib.Seq.{take-nil}
-use borrow.Author.Tests.{eqb-true, eqb-false}
-use Rattle.drive_sets.specs.Bools.Laws.{by_test}
-use Rattle.drive_sets.specs.Masks.{single, minus, lowest, drives}
-use Rattle.drive_sets.specs.Masks.Laws.{minus_lt}
-use Rattle.drive_sets.specs.Masks.Sizes.{drives_lowest, drives_none}
+use Rattle.drive_sets.specs.declared.Drive.{Drive}
+use Rattle.drive_sets.specs.Masks.{drives}
+use Rattle.simulated_sends.specs.declared.lists.Due.{Due}
+use Rattle.simulated_sends.specs.States.{due_of}
 
--- both masks are empty
-pub due_none : (k : ℕ) → take k (drives 0 ++ drives 0) ≡ []
-due_none k = ap (λ (l : List ℕ). take k (l ++ l)) drives_none ∙ take-nil k
+-- a call gave the first drive that was left, or there was none
+abbrev pub Gives : Due → Option Drive → Due → Type 0
+Gives = YieldsFirstBy (λ (d : Drive). d.0) due_of
 
-module _ {k m : ℕ} (more : k ≡ 0 → ⊥) (word : m < 2 ^ 64) (some : m ≡ 0 → ⊥) where
-  one : k ≡ suc (k - 1)
-  one = omega (arith, more)
+-- of the first k of two lists: the first of the one
+pub next_of_first : {k left d : ℕ} {xs xs' : List ℕ} (ys : List ℕ) → k ≡ suc left → xs ≡ d ∷ xs' → take k (xs ++ ys) ≡ d ∷ take left (xs' ++ ys)
+next_of_first ys e h = ap₂ (λ (j : ℕ) (l : List ℕ). take j (l ++ ys)) e h
 
-  -- the lowest of the other core drives
-  pub due_other : (listeners : ℕ) → take k (drives m ++ drives listeners) ≡ lowest m ∷ take (k - 1) (drives (minus m (single (lowest m))) ++ drives listeners)
-  due_other listeners = ap₂ (λ (j : ℕ) (l : List ℕ). take j (l ++ drives listeners)) one (drives_lowest m word some)
-
-  -- of the listeners, where no core drive is left
-  pub due_listener : take k (drives 0 ++ drives m) ≡ lowest m ∷ take (k - 1) (drives 0 ++ drives (minus m (single (lowest m))))
-  due_listener =
-      ap (λ (l : List ℕ). take k (l ++ drives m)) drives_none
-      ∙ (ap₂ take one (drives_lowest m word some)
-      ∙ ap (λ (l : List ℕ). lowest m ∷ take (k - 1) (l ++ drives (minus m (single (lowest m))))) (sym drives_none))
-
-minus_none : (b : ℕ) → minus 0 b ≡ 0
-minus_none b = let small : minus 0 b < 1 = minus_lt 0 0 b (omega arith) in omega (arith, small)
-
--- behind the first listener, if any
-pub others_due : {k m : ℕ} → (k ≡ 0 → ⊥) → m < 2 ^ 64 → take (k - 1) (drives 0 ++ drives (minus m (single (lowest m)))) ≡ drop 1 (take k (drives 0 ++ drives m))
-others_due {k} {m} more word = by_test (eqb m 0) (λ t. none (eqb-true m 0 t)) (λ t. sym (ap (drop 1) (due_listener more word (eqb-false m 0 t))))
+-- and where it has none, of the other
+pub next_of_second : (k left : ℕ) (xs xs' ys ys' : List ℕ) (r : Option Drive) → k ≡ suc left → xs ≡ [] → xs' ≡ [] → MatchOption r ((ys ≡ []) × (ys' ≡ [])) (λ d. ys ≡ d.0 ∷ ys')
+    → MatchOption r ((take k (xs ++ ys) ≡ []) × (take left (xs' ++ ys') ≡ [])) (λ d. take k (xs ++ ys) ≡ d.0 ∷ take left (xs' ++ ys'))
+next_of_second k left xs xs' ys ys' None e p q h = (nobody k p h.0, nobody left q h.1)
   where
-    none : m ≡ 0 → take (k - 1) (drives 0 ++ drives (minus m (single (lowest m)))) ≡ drop 1 (take k (drives 0 ++ drives m))
-    none e = rw e (ap (λ (j : ℕ). take (k - 1) (drives 0 ++ drives j)) (minus_none (single (lowest 0))) ∙ (due_none (k - 1) ∙ sym (ap (drop 1) (due_none k))))
+    nobody : {us vs : List ℕ} (j : ℕ) → us ≡ [] → vs ≡ [] → take j (us ++ vs) ≡ []
+    nobody j a b = ap₂ (λ (l m : List ℕ). take j (l ++ m)) a b ∙ take-nil j
+next_of_second k left xs xs' ys ys' (Some d) e p q h = rw (p, q) (ap₂ take e h)
+
+pub no_sends : (s : Due) → s.left ≡ 0 → Gives s None s
+unfolding due_of
+no_sends s e = let none = ap (λ (j : ℕ). take j (drives s.others.0 ++ drives s.listeners.0)) e in (none, none)
+
+-- a call that says so leaves fewer
+pub due_progress : (s : Due) (r : Option Drive) (t : Due) → Gives s r t → MakesProgress (can_next-default Due Drive) (item_count due_of) s r t
+due_progress s None t h = record { on = λ u. tt; keeps = tt; rests = λ u. tt }
+due_progress s (Some d) t h = record { on = λ u. (tt, tt, omega (arith, ap length h)); keeps = tt; rests = λ u. tt }
+
+-- ---- for a loop over them
+
+module _ (s t : Due) {r : Option Drive} where
+  pub due_first : {d : Drive} → r ≡ Some d → Gives s r t → due_of s ≡ d.0 ∷ due_of t
+  due_first e h = subst (λ (o : Option Drive). Gives s o t) e h
+
+  pub due_last : r ≡ None → Gives s r t → due_of s ≡ []
+  due_last e h = (subst (λ (o : Option Drive). Gives s o t) e h).0

@@ -1,4 +1,5 @@
 -- What a send leaves in a buffer: its bytes, or nothing where it is refused.
+use Rattle.std.specs.Prelude.{Err, Ok, Result}
 use mathlib.Core.Path.{◌≡◌, refl, sym, ap, ◌∙◌}
 use mathlib.Core.List.{List, [], map}
 use Prim.Native.Nat.{ℕ, ◌+◌, ◌≤◌}
@@ -11,12 +12,10 @@ use mathlib.Core.Bool.{not}
 use Rattle.drive_sets.specs.declared.Refusal.{Refusal}
 use Rattle.drive_sets.specs.declared.Refusal.TheVariants.{BrokenState, Halted, ListenerSends, NoRoom}
 use Rattle.drive_sets.specs.Bools.Laws.{cond_true}
-use Rattle.drive_sets.specs.Refusals.{Outcome, refused, yields, number}
+use Rattle.drive_sets.specs.Refusals.{Outcome, refused, yields, number, outcome}
 use Rattle.drive_sets.specs.Refusals.Laws.{refused_no_result, same_result, passed, first_result}
 use Rattle.drive_sets.specs.Lent.{written, written_at, fitting, size_written, buffer_after}
-use Rattle.lent_bytes.specs.declared.Writing.{Writing}
-use Rattle.lent_bytes.specs.declared.Writing.TheVariants as writings
-use Rattle.lent_bytes.specs.LentBuffers.{writing_outcome, Written}
+use Rattle.lent_bytes.specs.LentBuffers.{Written}
 use Rattle.drive_states.specs.declared.Exchange.{Exchange}
 use Rattle.drive_states.specs.State.{in_core, broken}
 use Rattle.drive_states.specs.Messages.{message_bytes}
@@ -42,11 +41,11 @@ sent_fits x room e =
     let long = leb-true (0 + length (message_bytes (outgoing x))) room (not-false _ roomy.0) in
     omega (arith, long, ap length (same_result roomy.1))
 
-module _ (x : Exchange) (old new : List ℕ) (r : Writing) (sent : Written (sending x (length old) 0) 0 old new r) where
-  pub wrote : (size : ℕ) → r ≡ writings.Wrote size → Wrote x (length old) size new
+module _ (x : Exchange) (old new : List ℕ) (r : Result ℕ Refusal) (sent : Written (sending x (length old) 0) 0 old new r) where
+  pub wrote : (size : ℕ) → r ≡ Ok size → Wrote x (length old) size new
   unfolding written_at written
   wrote size e =
-      let first = first_result (sending x (length old) 0) (λ bytes. yields (length bytes)) (sym sent.answer ∙ ap writing_outcome e) in
+      let first = first_result (sending x (length old) 0) (λ bytes. yields (length bytes)) (sym sent.answer ∙ ap outcome e) in
       let fits = sent_fits x (length old) first.1 in
       let long : length first.0 ≡ size = same_result first.2 in
       record {
@@ -57,9 +56,9 @@ module _ (x : Exchange) (old new : List ℕ) (r : Writing) (sent : Written (send
             ∙ take_at first.0 (drop (length first.0) old) size long;
       }
 
-  pub wrote_nothing : (q : Refusal) → r ≡ writings.Refused q → (es : List ℕ) → deliveries (sending x (length old) 0) es ≡ []
+  pub wrote_nothing : (q : Refusal) → r ≡ Err q → (es : List ℕ) → deliveries (sending x (length old) 0) es ≡ []
   unfolding deliveries
-  wrote_nothing q e es = none (sending x (length old) 0) (sym sent.answer ∙ ap writing_outcome e)
+  wrote_nothing q e es = none (sending x (length old) 0) (sym sent.answer ∙ ap outcome e)
     where
       none : (due : Outcome (List ℕ)) → size_written due ≡ refused (number q) → deliveries due es ≡ []
       none (refused p) h = refl

@@ -39,4 +39,4 @@ list_for n core own = drives (minus core (single own)) ++ drives (outside n core
 
 -- the drives that a message has still to go to
 unfoldable pub due_of : Due → List ℕ
-due_of due = take due.left (drives due.others ++ drives due.listeners)
+due_of due = take due.left (drives due.others.0 ++ drives due.listeners.0)

@@ -1,14 +1,16 @@
 -- What the simulated exchange gives: how each drive ends, the core and f, from the first decisions that the rounds
 -- found.
+use Rattle.std.specs.Prelude.{Option, None, Some, is_none}
+use Rattle.std.specs.Option.{is_some}
 use mathlib.Core.Path.{◌≡◌, refl, sym, ap, ap₂, ◌∙◌, subst}
-use mathlib.Core.Bool.{Bool, true, false, ◌&&◌, cond}
+use mathlib.Core.Bool.{Bool, true, false, not, ◌&&◌, cond}
 use mathlib.Core.List.{List, [], ◌∷◌, map}
 use Prim.Native.Nat.{ℕ, ◌-◌, ◌^◌, ◌<◌}
 use native.Mathlib.Omega.{arith}
 use lib.ListN.{length, get_or, take, get_or-map}
 use lib.Seq.{get_or-take}
 use lib.Dec.{eqb}
-use borrow.Author.Tests.{eqb-true, eqb-false, eq-eqb, ne_eqb}
+use borrow.Author.Tests.{eqb-true, eqb-false, eq-eqb, ne_eqb, not-true, not-false}
 use Rattle.drive_sets.specs.Bools.Laws.{by_test, cond_true, cond_false}
 use Rattle.drive_sets.specs.Lists.{range, elem}
 use Rattle.drive_sets.specs.Lists.Places.{map_same}
@@ -18,8 +20,10 @@ use Rattle.drive_sets.specs.Masks.{has, common, size, drives}
 use Rattle.drive_sets.specs.Masks.Laws.{has_common}
 use Rattle.drive_sets.specs.Masks.Sizes.{elem_drives, length_drives}
 use Rattle.drive_sets.specs.declared.Pattern.{Pattern}
-use Rattle.drive_sets.specs.Refusals.{Outcome, refused, yields, and_then}
+use Rattle.drive_sets.specs.declared.Refusal.TheVariants.{NoneUntouched}
+use Rattle.drive_sets.specs.Refusals.{Outcome, refused, yields, number, and_then}
 use Rattle.drive_sets.specs.Refusals.Laws.{refused_no_result}
+use Rattle.survivor_tables.specs.Hitting.{first_missed}
 use Rattle.survivor_tables.specs.Order.{normal}
 use Rattle.survivor_tables.specs.Tables.{chosen, normal_table, chosen_core, Accepted}
 use Rattle.survivor_tables.proofs.Tables.Laws.{accepted_table, core_given}
@@ -27,7 +31,7 @@ use Rattle.drive_sets.specs.Counts.{is_drive}
 use Rattle.drive_sets.specs.Limits.{pattern_limit}
 use Rattle.drive_sets.specs.Counts.Laws.{drive_bounds, is_drive_range}
 use Rattle.runs.specs.Scenario.{Crash, stays, crashes, Scenario, frame, core_of, has_crash}
-use Rattle.runs.specs.CrashRecords.{CrashRecord, crash_in, scenario}
+use Rattle.runs.specs.CrashRecords.{CrashRecord, crashed, crash_in, scenario}
 use Rattle.runs.specs.Statement.{Valid, Up, core_crashes}
 use Rattle.agreement.specs.RoundEndings.{Ending, stopped, ending_of, endings}
 use Rattle.agreement.specs.Canonical.{canonical_ending, CanonicalGives}
@@ -35,12 +39,12 @@ use Rattle.agreement.proofs.Refinement.Endings.{canonical_gives}
 use Rattle.drive_crashes.specs.declared.Crashes.{Crashes}
 use Rattle.drive_crashes.specs.Crashes as by_drive
 use Rattle.drive_crashes.specs.Crashes.{round_at}
-use Rattle.drive_states.specs.State.{values}
+use Rattle.drive_states.specs.State.{values, pattern, number_in}
 use Rattle.simulation.specs.Simulation.{checked_crashes, Simulated, simulated_of, unless_touched, simulated}
 use Rattle.simulation.specs.Simulation.Laws.{checked_valid}
-use Rattle.drive_states.specs.State.{pattern, number_in}
 use Rattle.simulated_rounds.specs.Rounds.{crash_at, Says}
 use Rattle.simulated_decisions.specs.Arguments.{Told}
+use Rattle.simulation.proofs.CrashChecks.{checked_then}
 
 -- ---- the result of a scenario
 
@@ -84,11 +88,10 @@ module _ (n core : ℕ) (c : Crashes) (s : Scenario) (g : Says n core c s) where
 
   pub result_is : Valid s → (found : ℕ → Ending) → ((d : ℕ) → is_drive n d ≡ true → found d ≡ canonical_ending s d)
       → (stops : ℕ) → stops ≡ size (common core c.crashed)
-      → ◌≡◌ {A = Outcome Simulated}
-      (yields (record { endings = map (λ d. cond (has d c.crashed) stopped (found d)) (range 1 n); core = core; stops = stops })) (yields (simulated_of s))
+      → ◌≡◌ {A = Simulated} (record { endings = map (λ d. cond (has d c.crashed) stopped (found d)) (range 1 n); core = core; stops = stops }) (simulated_of s)
   result_is ok found same stops e =
-      ap₂ (λ (es : List Ending) (k : ℕ). yields (record { endings = es; core = core; stops = k })) (endings_found ok found same) (e ∙ stops_counted)
-      ∙ ap (λ (k : ℕ). yields (record { endings = endings s; core = k; stops = core_crashes s })) (sym g.core_is)
+      ap₂ (λ (es : List Ending) (k : ℕ). record { endings = es; core = core; stops = k }) (endings_found ok found same) (e ∙ stops_counted)
+      ∙ ap (λ (k : ℕ). record { endings = endings s; core = k; stops = core_crashes s }) (sym g.core_is)
 
 -- ---- the scenario of a call
 
@@ -131,12 +134,34 @@ module _ (n : ℕ) (sets : List ℕ) (numbers : List Pattern) (c : Crashes) (cor
 
   -- ---- with the chosen core
 
-  pub with_core : (nums : List ℕ) (crs : List CrashRecord)
-      → checked_crashes n core 0 crs (unless_touched n sets nums crs) ≡ simulated n sets nums crs
-  unfolding simulated
-  with_core nums crs =
-      ap (λ (k : ℕ). checked_crashes n k 0 crs (unless_touched n sets nums crs)) (sym given.1)
-      ∙ ap (λ (o : Outcome (List ℕ)). and_then o (λ table. checked_crashes n (chosen table) 0 crs (unless_touched n sets nums crs))) (sym (accepted_table n sets given.0))
+  module _ (nums : List ℕ) (crs : List CrashRecord) where
+    with_core : checked_crashes n core 0 crs (unless_touched n sets nums crs) ≡ simulated n sets nums crs
+    unfolding simulated
+    with_core =
+        ap (λ (k : ℕ). checked_crashes n k 0 crs (unless_touched n sets nums crs)) (sym given.1)
+        ∙ ap (λ (o : Outcome (List ℕ)). and_then o (λ table. checked_crashes n (chosen table) 0 crs (unless_touched n sets nums crs))) (sym (accepted_table n sets given.0))
+
+    -- a crash is refused, or all pass
+    pub crash_refused : (q : ℕ) → checked_crashes n core 0 crs (yields crs) ≡ refused q → refused q ≡ simulated n sets nums crs
+    crash_refused q h = sym (checked_then n core 0 crs crs _ ∙ ap (λ (o : Outcome (List CrashRecord)). and_then o (λ passed. unless_touched n sets nums crs)) h) ∙ with_core
+
+    pub crash_passed : checked_crashes n core 0 crs (yields crs) ≡ yields crs → unless_touched n sets nums crs ≡ simulated n sets nums crs
+    crash_passed h = sym (checked_then n core 0 crs crs _ ∙ ap (λ (o : Outcome (List CrashRecord)). and_then o (λ passed. unless_touched n sets nums crs)) h) ∙ with_core
+
+-- 11, or the result
+none_law : (o : Option ℕ) (b : Bool) → is_some o ≡ not b → is_none o ≡ b
+none_law None b e = sym (not-false b (sym e))
+none_law (Some k) b e = sym (not-true b (sym e))
+
+module _ (n : ℕ) (sets nums : List ℕ) (crs : List CrashRecord) {o : Option ℕ} {b : Bool} (e : o ≡ first_missed sets (crashed crs)) (f : is_some o ≡ not b) where
+  none_missed : is_none (first_missed sets (crashed crs)) ≡ b
+  none_missed = ap is_none (sym e) ∙ none_law o b f
+
+  pub all_touched : b ≡ true → refused (number NoneUntouched) ≡ unless_touched n sets nums crs
+  all_touched t = sym (cond_true _ _ (none_missed ∙ t))
+
+  pub some_untouched : b ≡ false → yields (simulated_of (scenario n sets nums crs)) ≡ unless_touched n sets nums crs
+  some_untouched t = sym (cond_false _ _ (none_missed ∙ t))
 
 -- a refused table
 pub table_refused : (n : ℕ) (sets nums : List ℕ) (crs : List CrashRecord) (q : ℕ) → chosen_core n sets ≡ refused q → refused q ≡ simulated n sets nums crs

@@ -1,9 +1,8 @@
 -- The simulated exchange as a call: from n and sets, pattern numbers, any for a listener, and CR records the refusals,
 -- or how each drive ends by the rounds, the core and f. Every run of the scenario gives the same.
-use Rattle.std.specs.Prelude.{List, [], ◌∷◌, ℕ}
+use Rattle.std.specs.Prelude.{List, [], ◌∷◌, ℕ, is_none}
 use Rattle.drive_sets.specs.declared.Refusal.TheVariants.{NoneUntouched}
 use Rattle.drive_sets.specs.Refusals.{Outcome, yields, refuse_if, and_then}
-use Rattle.drive_sets.specs.Positions.{is_none}
 use Rattle.survivor_tables.specs.Hitting.{first_missed}
 use Rattle.survivor_tables.specs.Tables.{chosen, normal_table}
 use Rattle.runs.specs.Scenario.{Scenario, core_of}

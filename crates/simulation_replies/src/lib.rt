@@ -7,6 +7,7 @@ ghost use Rattle.simulated_decisions.specs.Endings.{ending_for};
 ghost use Rattle.simulation_replies.specs.Replies.{no_ending, drive_ending, simulation_reply};
 
 use drive_sets::{Pattern, Refusal, Round};
+use simulated_decisions::noting::First;
 
 // How a drive ends: the number on which it decides and the round, 0 in both where it does not; `stopped` is 1 for a
 // drive that stops, even if it decided before.
@@ -38,9 +39,9 @@ pub fn no_ending() -> DriveEnding
     }
 }
 
-// How a drive ends: the round is 0 where it has not decided.
-pub fn ending_of(crashes: bool, round: Round, number: Pattern) -> DriveEnding
-    ensures { result ≡ drive_ending (ending_for crashes round.0 number.0) }
+// How a drive ends, from whether it has a CR, and its first decision.
+pub fn ending_of(crashes: bool, first: Option<First>) -> DriveEnding
+    ensures { result ≡ drive_ending (ending_for crashes first) }
 {
     if crashes {
         return DriveEnding {
@@ -49,24 +50,23 @@ pub fn ending_of(crashes: bool, round: Round, number: Pattern) -> DriveEnding
             stopped: 1,
         };
     }
-    if round.0 == 0 {
-        return no_ending();
-    }
-    DriveEnding {
-        number,
-        round,
-        stopped: 0,
+    match first {
+        None => no_ending(),
+        Some(First { round, number }) => DriveEnding {
+            number,
+            round,
+            stopped: 0,
+        },
     }
 }
 
 pub fn refused_simulation(r: Refusal) -> SimulationReply
     ensures { result ≡ simulation_reply (refused (number r)) }
 {
-    let none = no_ending();
     SimulationReply {
-        drives: [none; 64],
+        drives: [no_ending(); 64],
         core: 0,
         stops: 0,
-        refusal: r.number() as u32,
+        refusal: u32::from(r.number()),
     }
 }

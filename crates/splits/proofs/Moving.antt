@@ -2,14 +2,14 @@
 use mathlib.Core.Path.{◌≡◌, refl, sym, ap, ◌∙◌}
 use mathlib.Core.Bool.{Bool, not}
 use mathlib.Core.List.{List}
-use Prim.Native.Nat.{ℕ, zero, suc, ◌-◌, ◌^◌, ◌≤◌, ◌<◌}
+use Prim.Native.Nat.{ℕ, zero, suc, ◌+◌, ◌-◌, ◌^◌, ◌≤◌, ◌<◌}
 use native.Mathlib.Omega.{arith}
 use lib.Bits.{bit_and}
 use lib.Dec.{eqb}
 use lib.ListN.{length, get_or}
 use borrow.Author.Tests.{eqb-true}
-use Rattle.drive_sets.specs.declared.Position.{Position}
-use Rattle.drive_sets.specs.declared.Position.TheVariants.{At}
+use Rattle.drive_sets.specs.Positions.{Position}
+use Rattle.std.specs.Prelude.{Some}
 use Rattle.drive_sets.specs.Lists.{first_failing}
 use Rattle.drive_sets.specs.Lists.FirstFailing.{failing_at, failing_same}
 use Rattle.drive_sets.specs.Masks.{full, meets, subset}
@@ -25,18 +25,17 @@ pub missed_empty : (blocks : List ℕ) → ((i : ℕ) → get_or blocks i 0 < 2 
 missed_empty blocks words = failing_same (λ b. meets b (full 64)) (λ b. not (eqb b 0)) 1 blocks (λ i. all_miss (get_or blocks i 0) (words i))
 
 -- a position found is one of the list
-pub place_within : (p : ℕ → Bool) (l : List ℕ) {o : Position} {k : ℕ} → o ≡ first_failing 1 p l → o ≡ At k → (1 ≤ k) × (k - 1 < length l)
+pub place_within : (p : ℕ → Bool) (l : List ℕ) {o : Position} {k : ℕ} → o ≡ first_failing 1 p l → o ≡ Some k → (1 ≤ k) × (k - 1 < length l)
 place_within p l {k = k} e f = let w = failing_at p 1 l k (sym e ∙ f) in (omega (arith, w.at), omega (arith, w.at, w.within))
 
 -- ---- the moves that are left
 
-pub moves_next : (left : ℕ) (blocks : List ℕ) → 0 < left → moves (left - 1) (moved blocks) ≡ moves left blocks
+pub moves_next : (count i : ℕ) (blocks : List ℕ) {after : List ℕ} → i < count → after ≡ moved blocks → moves (count - (i + 1)) after ≡ moves (count - i) blocks
 unfolding moves
-moves_next zero blocks h = absurd (omega arith)
-moves_next (suc left) blocks h = ap (λ (x : ℕ). moves x (moved blocks)) (pred left)
+moves_next count i blocks h e = ap (moves (count - (i + 1))) e ∙ sym (ap (λ (left : ℕ). moves left blocks) left)
   where
-    pred : (x : ℕ) → suc x - 1 ≡ x
-    pred x = omega arith
+    left : count - i ≡ suc (count - (i + 1))
+    left = omega (arith, h)
 
 pub moves_done : (left : ℕ) (blocks : List ℕ) → left ≤ 0 → blocks ≡ moves left blocks
 unfolding moves

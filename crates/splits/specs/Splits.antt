@@ -1,8 +1,7 @@
 -- Splits of the drives 1 to n into blocks: by the number of each drive's block, and as a list of blocks; and the moves
 -- that leave no block empty.
-use Rattle.std.specs.Prelude.{◌≡◌, true, not, List, ℕ, zero, suc, ◌-◌, ◌≤◌, eqb, leb, length, get_or, set}
-use Rattle.drive_sets.specs.declared.Position.{Position}
-use Rattle.drive_sets.specs.declared.Position.TheVariants.{None, At}
+use Rattle.std.specs.Prelude.{◌≡◌, true, not, List, ℕ, zero, suc, ◌-◌, ◌≤◌, eqb, leb, length, get_or, set, None, Some}
+use Rattle.drive_sets.specs.Positions.{Position}
 use Rattle.drive_sets.specs.Bools.{as_number}
 use Rattle.drive_sets.specs.Lists.{range, filter, elem, first_failing}
 use Rattle.drive_sets.specs.Masks.{has, single, full, minus, subset, Below, size, lowest, of_drives}
@@ -53,8 +52,8 @@ with_move blocks from to =
 
 -- from the block at one position to that at another, where both are there
 abbrev pub move_between : List ℕ → Position → Position → List ℕ
-move_between blocks (At from) (At to) = with_move blocks (from - 1) (to - 1)
-move_between blocks (At from) None = blocks
+move_between blocks (Some from) (Some to) = with_move blocks (from - 1) (to - 1)
+move_between blocks (Some from) None = blocks
 move_between blocks None to = blocks
 
 -- one move, where a block is empty: the lowest drive of the first block with two or more, to the first empty block

@@ -4,28 +4,26 @@
 ghost use Rattle.std.specs.Prelude.{◌≡◌, ◌<◌, length};
 ghost use Rattle.splits.specs.Splits.{first_empty, first_large, with_move, moved, fill_empty};
 
-use drive_sets::{MAX_DRIVES, Position};
+use drive_sets::MAX_DRIVES;
 use survivor_tables::missed::first_missed;
 
 // The first empty block: the first that has none of the 64 drives.
-fn first_empty(blocks: &[u64]) -> Position
+fn first_empty(blocks: &[u64]) -> Option<usize>
     ensures { result ≡ first_empty blocks.now }
 {
     first_missed(blocks, drive_sets::full(MAX_DRIVES))
 }
 
 // The first block with two drives or more.
-fn first_large(blocks: &[u64]) -> Position
+fn first_large(blocks: &[u64]) -> Option<usize>
     ensures { result ≡ first_large blocks.now }
 {
-    let mut i = 0;
-    while i < blocks.len() {
-        if 1 < drive_sets::size(blocks[i]) {
-            return Position::At(i + 1);
+    for (i, &block) in blocks.iter().enumerate() {
+        if 1 < drive_sets::size(block) {
+            return Some(i + 1);
         }
-        i += 1;
     }
-    Position::None
+    None
 }
 
 // The lowest drive of the block at one place moves to another place.
@@ -42,12 +40,7 @@ fn move_lowest(blocks: &mut [u64], from: usize, to: usize)
 fn move_one(blocks: &mut [u64])
     ensures { blocks.new ≡ moved blocks.old }
 {
-    let large = first_large(blocks);
-    let empty = first_empty(blocks);
-    let Position::At(from) = large else {
-        return;
-    };
-    let Position::At(to) = empty else {
+    let (Some(from), Some(to)) = (first_large(blocks), first_empty(blocks)) else {
         return;
     };
     move_lowest(blocks, from - 1, to - 1)
@@ -57,9 +50,7 @@ fn move_one(blocks: &mut [u64])
 pub fn fill_empty(blocks: &mut [u64])
     ensures { blocks.new ≡ fill_empty blocks.old }
 {
-    let mut left = blocks.len();
-    while 0 < left {
+    for _ in 0..blocks.len() {
         move_one(blocks);
-        left -= 1;
     }
 }

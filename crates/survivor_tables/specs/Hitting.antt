@@ -2,7 +2,7 @@
 -- them. Document 01: a core is a group that meets every survivor set and of which no smaller part does (Junqueira and
 -- Marzullo).
 use Rattle.std.specs.Prelude.{◌≡◌, Bool, true, cond, List, [], ◌∷◌, ◌++◌, ℕ, eqb}
-use Rattle.drive_sets.specs.declared.Position.{Position}
+use Rattle.drive_sets.specs.Positions.{Position}
 use Rattle.drive_sets.specs.Lists.{all, first_failing}
 use Rattle.drive_sets.specs.Masks.{single, union, common, meets, subset, size, drives}
 pub mod Laws

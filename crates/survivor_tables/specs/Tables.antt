@@ -2,7 +2,7 @@
 -- drives; a survivor set is a set of drives that may be the ones that stay up; a core is a minimal hitting set of the
 -- survivor sets (Junqueira and Marzullo).
 use Rattle.std.specs.Prelude.{◌≡◌, Bool, true, false, not, ◌&&◌, List, [], ◌∷◌, ℕ, ◌≤◌, eqb, leb, ltb, length, get_or}
-use Rattle.drive_sets.specs.declared.Position.{Position}
+use Rattle.drive_sets.specs.Positions.{Position}
 use Rattle.drive_sets.specs.declared.Refusal.TheVariants.{WrongMark, FrameSize, BadSet, TooManySets, TooManyCores, AllDrives}
 use Rattle.drive_sets.specs.Lists.{all, elem}
 use Rattle.drive_sets.specs.Masks.{full, subset}

@@ -3,8 +3,9 @@ ghost use Rattle.std.specs.Prelude.{◌≡◌};
 ghost use Rattle.drive_sets.specs.Refusals.{outcome_of};
 ghost use Rattle.survivor_tables.specs.Tables.{is_frame, is_set, checked_mask};
 
-use crate::MAX_SETS;
-use drive_sets::{Answer, Refusal};
+use crate::{MAX_CORES, MAX_SETS};
+use arrayvec::ArrayVec;
+use drive_sets::Refusal;
 
 // What the masks of a list are: survivor sets, as in a table, or groups of drives that can fail together.
 #[derive(Clone, Copy)]
@@ -13,12 +14,16 @@ pub enum MaskKind {
     FaultGroup,
 }
 
-// A table: n drives, and its sets, the first `count` of the array.
-#[derive(Clone, Copy)]
+// Lists in fixed memory: the sets of a table or the groups of a fault list, and cores.
+pub type SetList = ArrayVec<u64, MAX_SETS>;
+
+pub type CoreList = ArrayVec<u64, MAX_CORES>;
+
+// A table: n drives, and its sets.
+#[derive(Drop)]
 pub struct Table {
     pub n: u8,
-    pub count: usize,
-    pub sets: [u64; MAX_SETS],
+    pub sets: SetList,
 }
 
 // 1 to 64 drives.
@@ -36,25 +41,25 @@ pub fn is_set(n: u8, s: u64) -> bool
 }
 
 // What one mask of a list meets: of survivor sets 4; of fault groups 4 for a bit above n, then 34 for all n drives.
-pub fn check_mask(kind: MaskKind, n: u8, m: u64) -> Answer
+pub fn check_mask(kind: MaskKind, n: u8, m: u64) -> Result<(), Refusal>
     ensures { outcome_of result m ≡ checked_mask kind n m }
 {
     match kind {
         MaskKind::SurvivorSet => {
             if !is_set(n, m) {
-                return Answer::Refused(Refusal::BadSet);
+                return Err(Refusal::BadSet);
             }
-            Answer::Accepted
+            Ok(())
         }
         MaskKind::FaultGroup => {
             let all = drive_sets::full(n);
             if !drive_sets::subset(m, all) {
-                return Answer::Refused(Refusal::BadSet);
+                return Err(Refusal::BadSet);
             }
             if m == all {
-                return Answer::Refused(Refusal::AllDrives);
+                return Err(Refusal::AllDrives);
             }
-            Answer::Accepted
+            Ok(())
         }
     }
 }

@@ -1,11 +1,12 @@
 -- The replies of the calls given n and sets as structs of numbers, from what the library's definitions give: the values
 -- of a result with refusal 0, and beside a refusal zeros.
-use Rattle.drive_sets.specs.declared.Position.{Position}
-use Rattle.drive_sets.specs.Positions.{position_number}
+use Rattle.std.specs.Prelude.{[], ◌∷◌}
+use Rattle.drive_sets.specs.Positions.{Position, position_number}
 use Rattle.drive_sets.specs.Refusals.{Outcome, refused, yields}
+use Rattle.verdict_search.specs.declared.Verdict.{Verdict as Answer}
+use Rattle.verdict_search.specs.declared.Verdict.TheVariants.{Yes, No}
 use Rattle.verdict_search.specs.Verdicts.{Verdict}
 use Rattle.verdicts.specs.Held.{held_in}
-use Rattle.c_replies.specs.Replies.{refusal_of, flag_of}
 use Rattle.table_calls.specs.declared.calls.MissedReply.{MissedReply}
 use Rattle.table_calls.specs.declared.calls.VerdictReply.{VerdictReply}
 pub mod Laws
@@ -18,11 +19,11 @@ missed_reply (yields p) = record { position = position_number p; refusal = 0 }
 
 -- ---- verdicts
 
--- the verdict in the arrays that hold it
+-- the verdict in the arrays that hold it: for a no the first k positions and blocks, and else zeros
+abbrev pub held_reply : Outcome Answer → VerdictReply
+held_reply (refused r) = record { blocks = 0 ∷ 0 ∷ 0 ∷ 0 ∷ []; positions = 0 ∷ 0 ∷ 0 ∷ 0 ∷ []; shared = 0; refusal = r }
+held_reply (yields Yes) = record { blocks = 0 ∷ 0 ∷ 0 ∷ 0 ∷ []; positions = 0 ∷ 0 ∷ 0 ∷ 0 ∷ []; shared = 1; refusal = 0 }
+held_reply (yields (No positions blocks)) = record { blocks = blocks; positions = positions; shared = 0; refusal = 0 }
+
 abbrev pub verdict_reply : Outcome Verdict → VerdictReply
-verdict_reply o = record {
-  blocks = (held_in o).blocks;
-  positions = (held_in o).positions;
-  shared = flag_of (held_in o).shared;
-  refusal = refusal_of o;
-}
+verdict_reply o = held_reply (held_in o)

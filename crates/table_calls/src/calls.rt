@@ -11,9 +11,8 @@ ghost use Rattle.c_replies.specs.Replies.{size_reply};
 ghost use Rattle.table_calls.specs.Replies.{missed_reply, verdict_reply};
 
 use c_replies::SizeReply;
-use drive_sets::Answer;
 use table_replies::lists;
-use tables::calls::MissedSet;
+use verdict_search::Verdict;
 
 // The position of the first set that a group misses, 0 for none.
 #[repr(C)]
@@ -44,8 +43,7 @@ pub extern "C" fn regdulyn_write_table(
     ensures value { result ≡ size_reply (size_written (and_then (write_table n sets.now) (fitting start (length buf.old)))) }
     ensures buf_after { buf.new ≡ buffer_after (and_then (write_table n sets.now) (fitting start (length buf.old))) start buf.old }
 {
-    let w = table_writing::write_table(n, sets, buf, start);
-    c_replies::written_size(w)
+    c_replies::written_size(table_writing::write_table(n, sets, buf, start))
 }
 
 // The cores of a table of n drives and some sets over the first places of out; how many there are. 3, 2, 5, 4, 13, 14.
@@ -54,13 +52,9 @@ pub extern "C" fn regdulyn_cores(n: u8, sets: &[u64], out: &mut [u64]) -> SizeRe
     ensures value { result ≡ size_reply (size_written (and_then (core_list n sets.now) (fitting 0 (length out.old)))) }
     ensures out_after { out.new ≡ buffer_after (and_then (core_list n sets.now) (fitting 0 (length out.old))) 0 out.old }
 {
-    let t = complete_tables::accept(n, sets);
-    let answer = t.answer;
-    let cores = t.cores;
-    let found = t.found;
-    match answer {
-        Answer::Refused(r) => c_replies::refused_size(r),
-        Answer::Accepted => lists::put_list(&cores, found, out),
+    match complete_tables::accept(n, sets) {
+        Err(r) => c_replies::refused_size(r),
+        Ok(t) => lists::put_list(t.cores.as_slice(), out),
     }
 }
 
@@ -71,14 +65,7 @@ pub extern "C" fn regdulyn_back(n: u8, groups: &[u64], out: &mut [u64]) -> SizeR
     ensures value { result ≡ size_reply (size_written (and_then (survivor_sets n groups.now) (fitting 0 (length out.old)))) }
     ensures out_after { out.new ≡ buffer_after (and_then (survivor_sets n groups.now) (fitting 0 (length out.old))) 0 out.old }
 {
-    let t = tables::calls::survivor_sets(n, groups);
-    let answer = t.answer;
-    let sets = t.sets;
-    let count = t.count;
-    match answer {
-        Answer::Refused(r) => c_replies::refused_size(r),
-        Answer::Accepted => lists::put_list(&sets, count, out),
-    }
+    lists::put_listed(tables::calls::survivor_sets(n, groups), out)
 }
 
 // The table from n and t, all groups of n - t drives, over the first places of out; how many sets it has. 3, 31, 32,
@@ -88,14 +75,7 @@ pub extern "C" fn regdulyn_threshold(n: u8, t: u8, out: &mut [u64]) -> SizeReply
     ensures value { result ≡ size_reply (size_written (and_then (threshold_list n t) (fitting 0 (length out.old)))) }
     ensures out_after { out.new ≡ buffer_after (and_then (threshold_list n t) (fitting 0 (length out.old))) 0 out.old }
 {
-    let made = threshold::threshold_sets(n, t);
-    let answer = made.answer;
-    let sets = made.sets;
-    let count = made.count;
-    match answer {
-        Answer::Refused(r) => c_replies::refused_size(r),
-        Answer::Accepted => lists::put_list(&sets, count, out),
-    }
+    lists::put_listed(threshold::threshold_sets(n, t), out)
 }
 
 // The first set of the normal table of n drives and some sets that a group misses. 3, 2, 5, 4, 13, then 4 of the group.
@@ -103,14 +83,13 @@ pub extern "C" fn regdulyn_threshold(n: u8, t: u8, out: &mut [u64]) -> SizeReply
 pub extern "C" fn regdulyn_missed(n: u8, sets: &[u64], group: u64) -> MissedReply
     ensures { result ≡ missed_reply (missed_set n sets.now group) }
 {
-    let m = tables::calls::missed_set(n, sets, group);
-    match m {
-        MissedSet::Refused(r) => MissedReply {
+    match tables::calls::missed_set(n, sets, group) {
+        Err(r) => MissedReply {
             position: 0,
-            refusal: r.number() as u32,
+            refusal: u32::from(r.number()),
         },
-        MissedSet::First(p) => MissedReply {
-            position: p.number(),
+        Ok(first) => MissedReply {
+            position: first.unwrap_or(0),
             refusal: 0,
         },
     }
@@ -121,15 +100,22 @@ pub extern "C" fn regdulyn_missed(n: u8, sets: &[u64], group: u64) -> MissedRepl
 pub extern "C" fn regdulyn_verdict(k: u8, n: u8, sets: &[u64]) -> VerdictReply
     ensures { result ≡ verdict_reply (verdict k n sets.now) }
 {
-    let j = verdicts::calls::judge(k, n, sets);
-    let answer = j.answer;
-    let v = j.verdict;
-    let blocks = v.blocks;
-    let positions = v.positions;
-    VerdictReply {
-        blocks,
-        positions,
-        shared: c_replies::flag(v.shared),
-        refusal: c_replies::refusal_of(answer),
+    let none = VerdictReply {
+        blocks: [0u64; 4],
+        positions: [0u8; 4],
+        shared: 0,
+        refusal: 0,
+    };
+    match verdicts::calls::judge(k, n, sets) {
+        Err(r) => VerdictReply {
+            refusal: u32::from(r.number()),
+            ..none
+        },
+        Ok(Verdict::Yes) => VerdictReply { shared: 1, ..none },
+        Ok(Verdict::No { positions, blocks }) => VerdictReply {
+            blocks,
+            positions,
+            ..none
+        },
     }
 }

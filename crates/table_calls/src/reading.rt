@@ -4,7 +4,8 @@ ghost use Rattle.drive_sets.specs.Lent.{buffer_after};
 ghost use Rattle.table_files.specs.Files.{read_table, read_whole};
 ghost use Rattle.table_replies.specs.Replies.{table_reply, fitting_table, sets_read};
 
-use table_replies::reading::{TableReply, put_table};
+use table_files::files::{read_table, read_whole};
+use table_replies::reading::{TableReply, put_table, refused_table};
 
 // The table that the bytes begin with, with anything behind it: the sets of its normal table over the first places of
 // out.
@@ -14,11 +15,15 @@ pub extern "C" fn regdulyn_read_table(s: &[u8], out: &mut [u64]) -> TableReply
     ensures out_after { out.new ≡ buffer_after (sets_read (fitting_table out.old (read_table s.now))) 0 out.old }
 {
     let mut rest: &[u8] = s;
-    let t = table_files::files::read_table(s, &mut rest);
-    let answer = t.answer;
-    let table = t.table;
-    let used = s.len() - rest.len();
-    put_table(answer, table, used, out)
+    match read_table(s, &mut rest) {
+        Err(r) => refused_table(r),
+        Ok(t) => put_table(
+            t.table.n,
+            t.table.sets.as_slice(),
+            s.len() - rest.len(),
+            out,
+        ),
+    }
 }
 
 // The table that the bytes are: bytes after the end meet 7.
@@ -27,8 +32,8 @@ pub extern "C" fn regdulyn_read_whole(s: &[u8], out: &mut [u64]) -> TableReply
     ensures value { result ≡ table_reply s.now (fitting_table out.old (read_whole s.now)) }
     ensures out_after { out.new ≡ buffer_after (sets_read (fitting_table out.old (read_whole s.now))) 0 out.old }
 {
-    let t = table_files::files::read_whole(s);
-    let answer = t.answer;
-    let table = t.table;
-    put_table(answer, table, s.len(), out)
+    match read_whole(s) {
+        Err(r) => refused_table(r),
+        Ok(t) => put_table(t.table.n, t.table.sets.as_slice(), s.len(), out),
+    }
 }

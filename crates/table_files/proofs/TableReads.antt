@@ -1,138 +1,91 @@
 -- Tables from a file as the code reads them: what is listed, made complete, the bytes behind it, and what a caller
 -- learns of both.
-use mathlib.Core.Path.{◌≡◌, refl, sym, ap, ap₂, ◌∙◌}
+use Rattle.std.specs.Prelude.{Result, Ok, Err}
+use mathlib.Core.Path.{◌≡◌, sym, ap, ap₂, ◌∙◌}
 use mathlib.Core.List.{List}
-use Prim.Native.Nat.{ℕ}
-use lib.ListN.{take, drop}
-use Rattle.drive_sets.specs.declared.Answer.{Answer}
-use Rattle.drive_sets.specs.declared.Answer.TheVariants.{Accepted, Refused}
+use Prim.Native.Nat.{ℕ, ◌≤◌, ◌<◌}
+use lib.ListN.{length, drop}
 use Rattle.drive_sets.specs.declared.Refusal.{Refusal}
-use Rattle.drive_sets.specs.Refusals.{Outcome, refused, yields, and_then, number, outcome_of}
-use Rattle.drive_sets.specs.Refusals.Laws.{refused_no_result, first_result, same_result, then_same, then_assoc, then_then}
+use Rattle.drive_sets.specs.declared.Refusal.TheVariants.{TrailingBytes}
+use Rattle.drive_sets.specs.Refusals.{Outcome, refused, yields, and_then, number}
+use Rattle.drive_sets.specs.Refusals.Laws.{first_result, same_result, then_assoc, then_then}
 use Rattle.complete_tables.specs.declared.TableWithCores.{TableWithCores}
-use Rattle.table_files.specs.declared.reading.TableRead.{TableRead}
 use Rattle.survivor_tables.specs.declared.frames.MaskKind.TheVariants.{SurvivorSet}
 use Rattle.survivor_tables.specs.Tables.{cores, within_core_limit, normal_table}
 use Rattle.survivor_tables.proofs.Tables.Laws.{checked_masks_law}
-use Rattle.table_files.specs.Files.{ReadTable, accepted, read_listed, read_table}
-use Rattle.table_files.specs.Files.Laws.{listed_checked}
-use Rattle.complete_tables.specs.Complete.{sets_of, Complete, with_cores, complete_sets, complete_table, complete_outcome}
-use Rattle.table_files.specs.Reading.{read_outcome}
-use Rattle.table_files.specs.WithCores.{completed, ReadComplete, read_with_cores, read_complete, table_read, rest_after}
 use Rattle.complete_tables.proofs.Accepts.{then_refused}
+use Rattle.complete_tables.proofs.Completes.{rest_none, rest_some}
+use Rattle.table_files.specs.Files.{ReadTable, accepted, read_listed, read_table, read_whole}
+use Rattle.table_files.specs.Files.Laws.{listed_checked}
+use Rattle.complete_tables.specs.Complete.{sets_of, Complete, with_cores, complete_sets, complete_table, complete_of, complete_outcome}
+use Rattle.table_files.specs.WithCores.{completed, ReadComplete, read_with_cores, read_complete, table_read, rest_after, read_whole_complete}
 
--- a listing that is accepted, with its cores, and with what stands behind
-pub accepted_completed : (t : ReadTable) → and_then (accepted t) (λ a. yields (with_cores a.n a.sets)) ≡ completed t
-unfolding complete_sets accepted
-accepted_completed t = then_then (within_core_limit t.sets) (λ table. record { n = t.n; sets = table; rest = t.rest }) (λ (a : ReadTable). yields (with_cores a.n a.sets))
+-- ---- what is listed is accepted by the call given n and sets, but for its cores
+
+listed_complete : (s : List ℕ) {u : ReadTable} → read_listed SurvivorSet s ≡ yields u → complete_table u.n u.sets ≡ completed u
+unfolding complete_table normal_table complete_sets
+listed_complete s {u} e =
+    ap (λ (o : Outcome (List ℕ)). and_then (and_then o within_core_limit) (λ table. yields (with_cores u.n table)))
+    (checked_masks_law SurvivorSet u.n u.sets (listed_checked SurvivorSet s e))
 
 abbrev behind : Outcome Complete → List ℕ → Outcome ReadComplete
 behind o rest = and_then o (λ table. yields (record { table = table; rest = rest }))
 
-read_behind_law : (s : List ℕ) → read_complete s ≡ and_then (read_listed SurvivorSet s) (λ t. behind (completed t) t.rest)
-unfolding read_with_cores read_complete read_table accepted complete_sets
-read_behind_law s =
-    then_assoc (read_listed SurvivorSet s) accepted read_with_cores
-    ∙ then_same (read_listed SurvivorSet s) (λ t e.
-    then_then (within_core_limit t.sets) (λ table. record { n = t.n; sets = table; rest = t.rest }) read_with_cores
-    ∙ sym (then_then (within_core_limit t.sets) (λ table. with_cores t.n table) (λ table. yields (record { table = table; rest = t.rest }))))
+-- ---- a table: a refusal of the listing, or the table given as n and sets; and where nothing may stand behind it
 
--- ---- what is listed is accepted by the call given n and sets, but for its cores
+pub whole_refused : (s : List ℕ) {q : ℕ} → refused q ≡ read_listed SurvivorSet s → refused q ≡ read_whole_complete s
+unfolding read_whole_complete read_whole
+whole_refused s e = rw (← e)
 
-pub listed_complete : (listed : TableRead) (s : List ℕ) → read_outcome listed s ≡ read_listed SurvivorSet s → listed.answer ≡ Accepted
-    → complete_table listed.table.n (sets_of listed.table) ≡ and_then (read_listed SurvivorSet s) completed
-unfolding read_outcome complete_table normal_table complete_sets
-listed_complete listed s e h =
-    ap (λ (o : Outcome (List ℕ)). and_then (and_then o within_core_limit) (λ table. yields (with_cores listed.table.n table))) (checked_masks_law SurvivorSet listed.table.n (sets_of listed.table) (listed_checked SurvivorSet s is))
-    ∙ sym (ap (λ (o : Outcome ReadTable). and_then o completed) is)
-  where
-    is : read_listed SurvivorSet s ≡ yields (record { n = listed.table.n; sets = sets_of listed.table; rest = drop listed.used s })
-    is = sym e ∙ ap (λ (a : Answer). outcome_of a (record { n = listed.table.n; sets = sets_of listed.table; rest = drop listed.used s })) h
+module _ (s : List ℕ) (n : ℕ) (sets : List ℕ) (used : ℕ) (e : yields (record { n = n; sets = sets; rest = drop used s }) ≡ read_listed SurvivorSet s) where
+  -- with anything behind it
+  pub table_given : read_complete s ≡ behind (complete_table n sets) (drop used s)
+  unfolding read_with_cores read_complete read_table accepted complete_sets
+  table_given =
+      rw (← e, listed_complete s (sym e))
+      (then_then (within_core_limit sets) (λ table. record { n = n; sets = table; rest = drop used s }) read_with_cores
+      ∙ sym (then_then (within_core_limit sets) (λ table. with_cores n table) (λ table. yields (record { table = table; rest = drop used s }))))
 
--- ---- what the reader's answer says, and the caller's slice
+  pub whole_trailing : used < length s → refused (number TrailingBytes) ≡ read_whole_complete s
+  unfolding read_whole_complete read_whole
+  whole_trailing more = rw (← e, rest_some s used more)
 
-pub table_completed : (s : List ℕ) → table_read (read_complete s) ≡ and_then (read_listed SurvivorSet s) completed
-table_completed s = ap table_read (read_behind_law s) ∙ go (read_listed SurvivorSet s)
-  where
-    one : (o : Outcome Complete) (rest : List ℕ) → table_read (behind o rest) ≡ o
-    one (refused r) rest = refl
-    one (yields table) rest = refl
-
-    go : (o : Outcome ReadTable) → table_read (and_then o (λ t. behind (completed t) t.rest)) ≡ and_then o completed
-    go (refused r) = refl
-    go (yields t) = one (completed t) t.rest
-
-module _ (t : TableWithCores) where
-  abbrev held : Complete
-  held = record { n = t.table.n; sets = sets_of t.table; cores = take t.found t.cores }
-
-  -- on a refusal it is as it was
-  pub slice_kept : (o : Outcome ReadComplete) → complete_outcome t ≡ table_read o → {r : Refusal} → t.answer ≡ Refused r → (old : List ℕ) → old ≡ rest_after o old
-  unfolding complete_outcome
-  slice_kept o e {r} h old = go o (ap (λ (a : Answer). outcome_of a held) (sym h) ∙ e)
-    where
-      go : (o : Outcome ReadComplete) → refused (number r) ≡ table_read o → old ≡ rest_after o old
-      go (refused q) f = refl
-      go (yields w) f = absurd (refused_no_result f)
-
-  -- else it is what stands behind the bytes used
-  pub slice_behind : (listed : TableRead) (s : List ℕ) → read_outcome listed s ≡ read_listed SurvivorSet s → complete_outcome t ≡ table_read (read_complete s) → t.answer ≡ Accepted
-      → (old : List ℕ) → drop listed.used s ≡ rest_after (read_complete s) old
-  unfolding read_outcome complete_outcome
-  slice_behind listed s e f h old = by_answer listed.answer refl
-    where
-      told : Answer → Outcome ReadTable
-      told a = outcome_of a (record { n = listed.table.n; sets = sets_of listed.table; rest = drop listed.used s })
-
-      given : yields held ≡ and_then (read_listed SurvivorSet s) completed
-      given = ap (λ (a : Answer). outcome_of a held) (sym h) ∙ (f ∙ table_completed s)
-
-      complete : (o : Outcome Complete) (rest : List ℕ) → yields held ≡ o → rest ≡ rest_after (behind o rest) old
-      complete (refused q) rest g = absurd (refused_no_result (sym g))
-      complete (yields table) rest g = refl
-
-      by_answer : (a : Answer) → listed.answer ≡ a → drop listed.used s ≡ rest_after (read_complete s) old
-      by_answer (Refused r) g = absurd (refused_no_result (sym (given ∙ ap (λ (o : Outcome ReadTable). and_then o completed) (sym e ∙ ap told g))))
-      by_answer Accepted g =
-          let is : read_listed SurvivorSet s ≡ told Accepted = sym e ∙ ap told g in
-          complete _ (drop listed.used s) (given ∙ ap (λ (o : Outcome ReadTable). and_then o completed) is)
-          ∙ ap (λ (o : Outcome ReadComplete). rest_after o old) (sym (read_behind_law s ∙ ap (λ (o : Outcome ReadTable). and_then o (λ u. behind (completed u) u.rest)) is))
+  pub whole_given : length s ≤ used → complete_table n sets ≡ read_whole_complete s
+  unfolding read_whole_complete read_whole accepted complete_sets
+  whole_given none =
+      rw (← e, rest_none s used none, listed_complete s (sym e))
+      (sym (then_then (within_core_limit sets) (λ table. record { n = n; sets = table; rest = drop used s }) (λ (a : ReadTable). yields (with_cores a.n a.sets))))
 
 -- ---- what a caller learns
 
 abbrev pub with_its_cores : ReadTable → Outcome Complete
 with_its_cores u = yields (with_cores u.n u.sets)
 
-module _ (t : TableWithCores) (o : Outcome ReadTable) (e : complete_outcome t ≡ and_then o with_its_cores) where
-  said : {a : Answer} → t.answer ≡ a → and_then o with_its_cores ≡ outcome_of a (held t)
-  unfolding complete_outcome
-  said h = sym e ∙ ap (λ (a : Answer). outcome_of a (held t)) h
+module _ (r : Result TableWithCores Refusal) (o : Outcome ReadTable) (e : complete_outcome r ≡ and_then o with_its_cores) where
+  said : {x : Result TableWithCores Refusal} → r ≡ x → and_then o with_its_cores ≡ complete_outcome x
+  said h = sym e ∙ ap complete_outcome h
 
-  pub read_refused : {q : Refusal} → t.answer ≡ Refused q → o ≡ refused (number q)
+  pub read_refused : {q : Refusal} → r ≡ Err q → o ≡ refused (number q)
   read_refused h = then_refused o (λ u. with_cores u.n u.sets) (said h)
 
-  pub read_accepted : t.answer ≡ Accepted → (u : ReadTable) × (o ≡ yields u) × (with_cores u.n u.sets ≡ held t)
+  pub read_accepted : {t : TableWithCores} → r ≡ Ok t → (u : ReadTable) × (o ≡ yields u) × (with_cores u.n u.sets ≡ complete_of t)
   read_accepted h = let w = first_result o with_its_cores (said h) in (w.0, w.1, same_result w.2)
 
-  pub read_cores : t.answer ≡ Accepted → take t.found t.cores ≡ cores (sets_of t.table)
+  pub read_cores : {t : TableWithCores} → r ≡ Ok t → t.cores.items ≡ cores (sets_of t.table)
   unfolding with_cores
   read_cores h = let is = (read_accepted h).2 in ap (λ (c : Complete). c.cores) (sym is) ∙ ap (λ (c : Complete). cores c.sets) is
 
-module _ (t : TableWithCores) (s old rest : List ℕ) (e : complete_outcome t ≡ table_read (read_complete s)) (f : rest ≡ rest_after (read_complete s) old) where
-  table_of : complete_outcome t ≡ and_then (read_table s) with_its_cores
+module _ (r : Result TableWithCores Refusal) (s old rest : List ℕ) (e : complete_outcome r ≡ table_read (read_complete s)) (f : rest ≡ rest_after (read_complete s) old) where
+  table_of : complete_outcome r ≡ and_then (read_table s) with_its_cores
   unfolding read_with_cores read_complete
-  table_of = e ∙ go (read_table s)
-    where
-      go : (o : Outcome ReadTable) → table_read (and_then o read_with_cores) ≡ and_then o with_its_cores
-      go (refused q) = refl
-      go (yields u) = refl
+  table_of = e ∙ then_assoc (read_table s) read_with_cores (λ t. yields t.table)
 
-  pub table_refused : {q : Refusal} → t.answer ≡ Refused q → read_table s ≡ refused (number q)
-  table_refused h = read_refused t (read_table s) table_of h
+  pub table_refused : {q : Refusal} → r ≡ Err q → read_table s ≡ refused (number q)
+  table_refused h = read_refused r (read_table s) table_of h
 
-  pub table_behind : t.answer ≡ Accepted → read_table s ≡ yields (record { n = t.table.n; sets = sets_of t.table; rest = rest })
+  pub table_behind : {t : TableWithCores} → r ≡ Ok t → read_table s ≡ yields (record { n = t.table.n; sets = sets_of t.table; rest = rest })
   unfolding read_with_cores read_complete with_cores
   table_behind h =
-      let w = read_accepted t (read_table s) table_of h in
+      let w = read_accepted r (read_table s) table_of h in
       let behind_it = f ∙ ap (λ (o : Outcome ReadTable). rest_after (and_then o read_with_cores) old) w.1 in
-      w.1 ∙ ap₂ (λ (c : Complete) (r : List ℕ). yields (record { n = c.n; sets = c.sets; rest = r })) w.2 (sym behind_it)
+      w.1 ∙ ap₂ (λ (c : Complete) (l : List ℕ). yields (record { n = c.n; sets = c.sets; rest = l })) w.2 (sym behind_it)

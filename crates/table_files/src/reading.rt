@@ -1,33 +1,25 @@
 // The reader of lists of masks: FR with n, 1 to 128 SV or FL with a mask, EN with their count. Refusals are found from
 // left to right.
-ghost use Rattle.std.specs.Prelude.{◌≡◌, List, [], ℕ, ◌≤◌, length, drop};
-ghost use Rattle.drive_sets.specs.Refusals.{yields, and_then};
-ghost use Rattle.records.specs.RecordLists.{step_of, read_list};
-ghost use Rattle.table_files.specs.Files.{record_of, due_after, mask_list, listed_table, read_listed};
-ghost use Rattle.table_files.specs.Reading.{step_outcome, read_outcome, ReadWithin};
+ghost use Rattle.std.specs.Prelude.{◌≡◌, List, ℕ, ◌≤◌, length, IfOk};
+ghost use Rattle.survivor_tables.specs.declared.frames.MaskKind.{MaskKind};
+ghost use Rattle.table_files.specs.Files.{record_of, due_after, mask_list, read_listed};
+ghost use Rattle.table_files.specs.Reading.{read_outcome};
 
-use drive_sets::{Answer, Refusal};
-use records::{Due, END_WIDTH, Head, Kind, MASK_RECORD_WIDTH, Next};
+use drive_sets::Refusal;
+use record_lists::{RecordList, read_records};
+use records::{Due, FRAME_WIDTH, Kind, MASK_RECORD_WIDTH, Next, field, next_record, read_head};
 use survivor_tables::MAX_SETS;
-use survivor_tables::frames::{MaskKind, Table, check_mask, is_frame};
+use survivor_tables::frames::{MaskKind, SetList, Table, check_mask, is_frame};
 
-// What reading gives: n with the masks and how many bytes they took, where they are accepted.
-#[derive(Clone, Copy)]
+// What is read: n with the masks, and how many bytes they took.
+#[derive(Drop)]
 pub struct TableRead {
-    pub answer: Answer,
     pub table: Table,
     pub used: usize,
 }
 
-// What stands where a mask or the end is due.
-#[derive(Clone, Copy)]
-enum Step {
-    Mask(u64),
-    End,
-    Stop(Refusal),
-}
-
 // The records that the masks stand in: SV or FL.
+#[tactic(auto, unfolding(crate::specs::Files::record_of))]
 pub fn record_of(kind: MaskKind) -> Kind
     ensures { result ≡ record_of kind }
 {
@@ -38,6 +30,7 @@ pub fn record_of(kind: MaskKind) -> Kind
 }
 
 // After FR one of them is due, and after one another or the end.
+#[tactic(auto, unfolding(crate::specs::Files::due_after))]
 fn due_after(kind: MaskKind, count: usize) -> Due
     ensures { result ≡ due_after kind count }
 {
@@ -48,86 +41,68 @@ fn due_after(kind: MaskKind, count: usize) -> Due
     }
 }
 
-fn refused(r: Refusal) -> TableRead
-    ensures value { result.answer ≡ Answer.Refused r }
-    ensures within { (s : List ℕ) → ReadWithin result s }
-{
-    TableRead {
-        answer: Answer::Refused(r),
-        table: Table {
-            n: 0,
-            count: 0,
-            sets: [0u64; MAX_SETS],
-        },
-        used: 0,
-    }
+// The masks of a list, as far as they were read.
+#[derive(Drop)]
+struct Masks {
+    kind: MaskKind,
+    n: u8,
+    sets: SetList,
 }
 
-// The record at the start of the bytes, where `count` masks are listed before it.
-fn next_step(s: &[u8], kind: MaskKind, n: u8, count: usize) -> Step
-    ensures { (listed : List ℕ) → length listed ≡ count → step_outcome listed result ≡ step_of (mask_list kind n) listed s.now }
-{
-    let next = records::next_record(s, due_after(kind, count), count);
-    match next {
-        Next::Stop(r) => Step::Stop(r),
-        Next::End => Step::End,
-        Next::One => {
-            if MAX_SETS <= count {
-                return Step::Stop(Refusal::TooManySets);
-            }
-            let mask = records::field(s, 2, 8);
-            let checked = check_mask(kind, n, mask);
-            match checked {
-                Answer::Refused(r) => Step::Stop(r),
-                Answer::Accepted => Step::Mask(mask),
-            }
-        }
-    }
-}
+impl RecordList for Masks {
+    ghost Setting = { MaskKind × ℕ };
 
-// The records after the three bytes of FR.
-fn read_masks(s: &[u8], kind: MaskKind, n: u8) -> TableRead
-    requires { 3 ≤ length s.now }
-    ensures value { read_outcome result s.now ≡ and_then (read_list (mask_list kind n) [] (drop 3 s.now)) (λ l. yields (listed_table n l)) }
-    ensures within { ReadWithin result s.now }
-{
-    let mut sets = [0u64; MAX_SETS];
-    let mut count = 0;
-    let mut at = 3;
-    loop {
-        let next = next_step(&s[at..], kind, n, count);
-        match next {
-            Step::Stop(r) => return refused(r),
-            Step::End => {
-                return TableRead {
-                    answer: Answer::Accepted,
-                    table: Table { n, count, sets },
-                    used: at + END_WIDTH,
-                };
-            }
-            Step::Mask(mask) => {
-                sets[count] = mask;
-                count += 1;
-                at += MASK_RECORD_WIDTH;
+    ghost State = { List ℕ };
+
+    ghost setting = { λ m. (m.kind, m.n) };
+
+    ghost told = { λ m. m.sets.items };
+
+    ghost format = { λ f. mask_list f.0 f.1 };
+
+    // A list of masks ends with EN.
+    fn ends(&self, _s: &[u8]) -> bool {
+        false
+    }
+
+    fn take(&mut self, s: &[u8]) -> Result<Option<usize>, Refusal> {
+        let count = self.sets.len();
+        match next_record(s, due_after(self.kind, count), count)? {
+            Next::End => Ok(None),
+            Next::One => {
+                if MAX_SETS <= count {
+                    return Err(Refusal::TooManySets);
+                }
+                let mask = field(s, 2, 8);
+                check_mask(self.kind, self.n, mask)?;
+                self.sets.push(mask);
+                Ok(Some(MASK_RECORD_WIDTH))
             }
         }
     }
 }
 
 // The masks as they are listed.
-pub fn read_listed(s: &[u8], kind: MaskKind) -> TableRead
+pub fn read_listed(s: &[u8], kind: MaskKind) -> Result<TableRead, Refusal>
     ensures value { read_outcome result s.now ≡ read_listed kind s.now }
-    ensures within { ReadWithin result s.now }
+    ensures within { IfOk result (λ r. r.used ≤ length s.now) }
 {
-    let head = records::read_head(s, Due::AtRecord(Kind::Frame));
-    match head {
-        Head::Refused(r) => refused(r),
-        Head::Record(_) => {
-            let n = s[2];
-            if !is_frame(n) {
-                return refused(Refusal::FrameSize);
-            }
-            read_masks(s, kind, n)
-        }
+    read_head(s, Due::AtRecord(Kind::Frame))?;
+    let n = s[2];
+    if !is_frame(n) {
+        return Err(Refusal::FrameSize);
     }
+    let mut masks = Masks {
+        kind,
+        n,
+        sets: SetList::new(),
+    };
+    let used = read_records(&mut masks, &s[FRAME_WIDTH..])?;
+    Ok(TableRead {
+        table: Table {
+            n,
+            sets: masks.sets,
+        },
+        used: FRAME_WIDTH + used,
+    })
 }

@@ -12,10 +12,7 @@ use verdict_lines::put_verdicts;
 fn first_group(groups: &[u64]) -> u64
     ensures { result ≡ get_or groups.now 0 0 }
 {
-    if groups.len() == 0 {
-        return 0;
-    }
-    groups[0]
+    groups.first().copied().unwrap_or(0)
 }
 
 // The listing of a normal table, given its cores, from the buffer's first place on.

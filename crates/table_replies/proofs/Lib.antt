@@ -1,3 +1,2 @@
--- What the functions' proofs share: lists of sets, and what the readers hold.
-mod ListReplies
+-- What the readers hold.
 pub mod ReadTables

@@ -9,8 +9,7 @@ ghost use Rattle.table_writing.specs.Writing.{write_list, write_table};
 ghost use Rattle.records.specs.RecordLists.{list_bytes};
 ghost use Rattle.lent_bytes.specs.LentBuffers.{WrittenIfRoom};
 
-use drive_sets::{Answer, Refusal};
-use lent_bytes::Writing;
+use drive_sets::Refusal;
 use records::{END, END_WIDTH, FRAME, FRAME_WIDTH, MASK_RECORD_WIDTH};
 use survivor_tables::MAX_SETS;
 use survivor_tables::frames::MaskKind;
@@ -20,24 +19,22 @@ use table_files::reading::record_of;
 const ENDS_WIDTH: usize = FRAME_WIDTH + END_WIDTH;
 
 // The records of the masks over the first bytes of the part; every other byte stays. Nothing where they do not fit.
+#[tactic(auto, using(crate::proofs::Writes::masks_none, crate::proofs::Writes::writing_start, crate::proofs::Writes::writing_turn, crate::proofs::Writes::writing_end))]
 fn put_masks(part: &mut [u8], kind: MaskKind, masks: &[u64])
     ensures { part.new ≡ written (list_bytes (record_of kind) masks.now) part.old }
 {
     if part.len() / MASK_RECORD_WIDTH < masks.len() {
         return;
     }
-    let one = record_of(kind);
-    let mut at = 0;
-    let mut i = 0;
-    while i < masks.len() {
-        lent_bytes::put_record(&mut part[at..], records::mark_of(one), 8, masks[i]);
-        at += MASK_RECORD_WIDTH;
-        i += 1;
+    let mark = records::mark_of(record_of(kind));
+    for (i, &mask) in masks.iter().enumerate() {
+        lent_bytes::put_record(&mut part[MASK_RECORD_WIDTH * i..], mark, 8, mask);
     }
 }
 
 // The list of n drives and these masks over the first bytes of the part; every other byte stays. Nothing where it does
 // not fit.
+#[tactic(auto, using(crate::proofs::Writes::file_none, crate::proofs::Writes::file_written), unfolding(records::specs::Marks::mark, records::specs::Marks::mark_text, records::specs::Marks::ascii, records::specs::Fields::from_bytes))]
 fn put_list(part: &mut [u8], kind: MaskKind, n: u8, masks: &[u64])
     ensures { part.new ≡ written (file_bytes kind n masks.now) part.old }
 {
@@ -55,32 +52,38 @@ fn put_list(part: &mut [u8], kind: MaskKind, n: u8, masks: &[u64])
 
 // The list as it is handed over into the lent buffer, from the starting place on, touching only its own bytes: 5 for
 // more than 128 masks, then 14; on a refusal the buffer stays as it was.
-pub fn write_list(kind: MaskKind, n: u8, masks: &[u64], buf: &mut [u8], start: usize) -> Writing
+pub fn write_list(
+    kind: MaskKind,
+    n: u8,
+    masks: &[u64],
+    buf: &mut [u8],
+    start: usize,
+) -> Result<usize, Refusal>
     ensures { WrittenIfRoom (write_list kind n masks.now) start buf.old buf.new result }
 {
     if MAX_SETS < masks.len() {
-        return Writing::Refused(Refusal::TooManySets);
+        return Err(Refusal::TooManySets);
     }
     let size = ENDS_WIDTH + MASK_RECORD_WIDTH * masks.len();
     if !lent_bytes::fits(buf.len(), start, size) {
-        return Writing::Refused(Refusal::NoRoom);
+        return Err(Refusal::NoRoom);
     }
     put_list(&mut buf[start..], kind, n, masks);
-    Writing::Wrote(size)
+    Ok(size)
 }
 
 // The writer of tables: the normal table of n drives and some sets. The table's refusals, then 14; on a refusal the
 // buffer stays as it was.
-pub fn write_table(n: u8, sets: &[u64], buf: &mut [u8], start: usize) -> Writing
+#[tactic(auto, using(lent_bytes::proofs::Buffers::written_refused, crate::proofs::Writes::table_refused, crate::proofs::Writes::table_written))]
+pub fn write_table(n: u8, sets: &[u64], buf: &mut [u8], start: usize) -> Result<usize, Refusal>
     ensures { WrittenIfRoom (write_table n sets.now) start buf.old buf.new result }
 {
-    let t = complete_tables::accept(n, sets);
-    let answer = t.answer;
-    let table = t.table;
-    let normal = table.sets;
-    let count = table.count;
-    match answer {
-        Answer::Refused(r) => Writing::Refused(r),
-        Answer::Accepted => { write_list(MaskKind::SurvivorSet, n, &normal[0..count], buf, start) }
-    }
+    let t = complete_tables::accept(n, sets)?;
+    write_list(
+        MaskKind::SurvivorSet,
+        n,
+        t.table.sets.as_slice(),
+        buf,
+        start,
+    )
 }

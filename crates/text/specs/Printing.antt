@@ -1,27 +1,39 @@
 -- A text put into a lent buffer from a starting place on, what an answer says of the bytes there, and what is printed
 -- of a file.
-use Rattle.std.specs.Prelude.{◌≡◌, List, ℕ}
+use Rattle.std.specs.Prelude.{◌≡◌, List, ℕ, length, Result, Ok, Err}
+use denote.MutBor.{MutBor}
+use Rattle.drive_sets.specs.declared.Refusal.{Refusal}
 use Rattle.drive_sets.specs.Filled.{Filled}
+use Rattle.drive_sets.specs.Limits.{max_text}
 use Rattle.drive_sets.specs.Refusals.{Outcome, refused, yields, number}
-use Rattle.lent_bytes.specs.declared.Writing.{Writing}
-use Rattle.lent_bytes.specs.declared.Writing.TheVariants as writings
 use Rattle.lent_bytes.specs.LentBuffers.{WrittenIfRoom}
 use Rattle.text.specs.Text.{refusal_line}
 
 -- the answer and the lent bytes: only the text's own bytes change, and on a refusal none
-abbrev pub Printed : List ℕ → ℕ → List ℕ → List ℕ → Writing → Type 0
+abbrev pub Printed : List ℕ → ℕ → List ℕ → List ℕ → Result ℕ Refusal → Type 0
 Printed text start old new r = WrittenIfRoom (yields text) start old new r
 
+-- a call that puts a text into a buffer of a text's length from the first byte on, as `F.post` has it
+abbrev pub Makes : (MutBor (List ℕ) → ℕ → MutBor (List ℕ) → Type 0) → List ℕ → Type 0
+Makes made text =
+    (b next : MutBor (List ℕ)) (size : ℕ) → length b.now ≡ max_text → made b size next → Filled b.now next.now 0 size text
+
+-- a call that writes a file, where it is not refused, into such a buffer
+abbrev pub Writes : (MutBor (List ℕ) → Result ℕ Refusal → MutBor (List ℕ) → Type 0) → Outcome (List ℕ) → Type 0
+Writes wrote file =
+    (b next : MutBor (List ℕ)) (r : Result ℕ Refusal) → length b.now ≡ max_text → wrote b r next
+    → (length next.now ≡ length b.now) × WrittenIfRoom file 0 b.now next.now r
+
 -- how many bytes an answer says were written: none on a refusal
-abbrev pub bytes_in : Writing → ℕ
-bytes_in (writings.Wrote size) = size
-bytes_in (writings.Refused r) = 0
+abbrev pub bytes_in : Result ℕ Refusal → ℕ
+bytes_in (Ok size) = size
+bytes_in (Err r) = 0
 
 -- a buffer and a number of bytes afterwards: as many as an answer says, and the buffer as it was, or the line of its
 -- refusal over the first places
-abbrev pub AnswerPut : Writing → List ℕ → List ℕ → ℕ → Type 0
-AnswerPut (writings.Wrote size) old new count = (new ≡ old) × (count ≡ size)
-AnswerPut (writings.Refused r) old new count = Filled old new 0 count (refusal_line (number r))
+abbrev pub AnswerPut : Result ℕ Refusal → List ℕ → List ℕ → ℕ → Type 0
+AnswerPut (Ok size) old new count = (new ≡ old) × (count ≡ size)
+AnswerPut (Err r) old new count = Filled old new 0 count (refusal_line (number r))
 
 -- what a program prints that writes a file: the file, or the line of a refusal
 abbrev pub printed : Outcome (List ℕ) → List ℕ

@@ -1,5 +1,7 @@
 -- Numbers as text, decimal or lowercase hexadecimal, without leading zeros; fields and lines made of them.
 use Rattle.std.specs.Prelude.{cond, List, [], ◌∷◌, ◌++◌, ℕ, zero, suc, ◌+◌, ◌/◌, ◌%◌, ltb}
+use denote.MutBor.{MutBor}
+use Rattle.drive_sets.specs.Filled.{Filled}
 use Rattle.records.specs.Marks.{ascii}
 use Rattle.text.specs.declared.Base.{Base}
 use Rattle.text.specs.declared.Base.TheVariants.{Decimal, Hexadecimal}
@@ -24,6 +26,11 @@ digits Hexadecimal x = in_base 16 16 x
 unfoldable pub joined : (ℕ → List ℕ) → List ℕ → List ℕ
 joined text [] = []
 joined text (x ∷ l) = text x ++ joined text l
+
+-- a call that puts the text of a value from a place on, as `F.post` has it
+abbrev pub PutsEach : (MutBor (List ℕ) → ℕ → ℕ → ℕ → MutBor (List ℕ) → Type 0) → (ℕ → List ℕ) → Type 0
+PutsEach put text =
+    (b next : MutBor (List ℕ)) (at x r : ℕ) → put b at x r next → Filled b.now next.now at r (text x)
 
 -- a number with a space in front
 unfoldable pub field : Base → ℕ → List ℕ

@@ -10,10 +10,7 @@ use crate::Base;
 pub(crate) fn place(buf: &[u8], at: usize) -> usize
     ensures { result ≡ min (suc (length buf.now)) at }
 {
-    if buf.len() < at {
-        return buf.len() + 1;
-    }
-    at
+    at.min(buf.len() + 1)
 }
 
 // One byte.
@@ -32,15 +29,14 @@ pub fn put_all(buf: &mut [u8], start: usize, text: &[u8]) -> usize
     ensures { Filled buf.old buf.new start result text.now }
 {
     let mut at = place(buf, start);
-    let mut i = 0;
-    while i < text.len() {
-        at = put(buf, at, text[i]);
-        i += 1;
+    for &b in text {
+        at = put(buf, at, b);
     }
     at
 }
 
 // 0 to 9, then a to f.
+#[tactic(auto, unfolding(crate::specs::Text::digit))]
 fn digit(d: u64) -> u8
     requires { d < 16 }
     ensures { result ≡ digit d }
@@ -68,6 +64,7 @@ fn put_in_base(buf: &mut [u8], at: usize, base: u64, most: u8, x: u64) -> usize
 }
 
 // A number.
+#[tactic(auto, unfolding(crate::specs::Text::digits))]
 pub(crate) fn put_number(buf: &mut [u8], at: usize, base: Base, x: u64) -> usize
     ensures { Filled buf.old buf.new at result (digits base x) }
 {

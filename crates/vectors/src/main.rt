@@ -7,11 +7,15 @@
 
 ghost use Rattle.std.specs.Prelude.{◌≤◌};
 
-use lent_bytes::Writing;
+use convert_files::convert_file;
+use drive_sets::Refusal;
 use program_io::{read_start, write_written};
+use run_listing::programs::run_listing;
 use std::io;
 use std::io::Write;
+use table_listing::programs::table_listing;
 use text::printing::MAX_TEXT;
+use threshold_files::threshold_file;
 
 // How many bytes of stored inputs are read.
 const MAX_STORED: usize = 131072;
@@ -23,20 +27,16 @@ fn width(s: &[u8]) -> usize
     (records::field(s, 1, 2) % 65536) as usize
 }
 
-// What the input at the start gives.
-fn list(s: &[u8], text: &mut [u8]) -> Writing {
+// What the input at the start gives. The program is matched by the number of the stored format: this is its one use, and
+// an enum of the four would name each of them twice more.
+fn list(s: &[u8], text: &mut [u8]) -> Result<usize, Refusal> {
     let input = records::first(records::rest(s, 3), width(s));
-    let kind = records::field(s, 0, 1);
-    if kind == 0 {
-        return table_listing::programs::table_listing(input, text, 0);
+    match records::field(s, 0, 1) {
+        0 => table_listing(input, text, 0),
+        1 => run_listing(input, text, 0),
+        2 => threshold_file(input, text, 0),
+        _ => convert_file(input, text, 0),
     }
-    if kind == 1 {
-        return run_listing::programs::run_listing(input, text, 0);
-    }
-    if kind == 2 {
-        return threshold_files::threshold_file(input, text, 0);
-    }
-    convert_files::convert_file(input, text, 0)
 }
 
 // Prints what the input at the start gives.
@@ -47,10 +47,10 @@ fn print<W: Write>(s: &[u8], to: &mut W) -> io::Result<()> {
 }
 
 fn print_all<W: Write>(s: &[u8], to: &mut W) -> io::Result<()> {
-    let mut at = 0;
-    while at < s.len() {
-        print(&s[at..], to)?;
-        at += 3 + width(&s[at..]);
+    let mut rest = s;
+    while !rest.is_empty() {
+        print(rest, to)?;
+        rest = records::rest(rest, 3 + width(rest));
     }
     Ok(())
 }

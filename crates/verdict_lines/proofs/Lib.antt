@@ -1,3 +1,2 @@
--- What the functions' proofs share, and how long the lines are.
-pub mod HeldVerdicts
+-- How long the lines are.
 pub mod Lengths

@@ -8,24 +8,11 @@ ghost use Rattle.verdicts.specs.Held.{judgement_of};
 ghost use Rattle.verdicts.specs.Calls.{verdict_given};
 ghost use Rattle.verdict_lines.specs.VerdictLines.{no_part, verdict_part, verdict_line, verdict_lines};
 
-use drive_sets::Answer;
+use drive_sets::Refusal;
 use text::Base;
 use text::lines::{put_fields, put_named};
 use text::text::put_all;
 use verdict_search::Verdict;
-use verdicts::calls::Judgement;
-
-// The positions as the numbers of fields.
-fn wide(positions: [u8; 4]) -> [u64; 4]
-    ensures { result ≡ positions }
-{
-    [
-        positions[0] as u64,
-        positions[1] as u64,
-        positions[2] as u64,
-        positions[3] as u64,
-    ]
-}
 
 // A no with its positions and blocks, to the line's end.
 fn put_no(buf: &mut [u8], at: usize, positions: &[u64], blocks: &[u64]) -> usize
@@ -43,26 +30,29 @@ fn put_held(buf: &mut [u8], at: usize, k: u8, v: Verdict) -> usize
     requires { k ≤ 4 }
     ensures { Filled buf.old buf.new at result (verdict_part (verdict_of v k)) }
 {
-    if v.shared {
-        return put_all(buf, at, b" yes\n");
+    match v {
+        Verdict::Yes => put_all(buf, at, b" yes\n"),
+        Verdict::No { positions, blocks } => {
+            let places = positions.map(u64::from);
+            put_no(
+                buf,
+                at,
+                &places[..usize::from(k)],
+                &blocks[..usize::from(k)],
+            )
+        }
     }
-    let positions = v.positions;
-    let blocks = v.blocks;
-    let places = wide(positions);
-    put_no(buf, at, &places[0..k as usize], &blocks[0..k as usize])
 }
 
 // The line of what a call on k says.
-fn put_verdict(buf: &mut [u8], at: usize, k: u8, j: Judgement) -> usize
+fn put_verdict(buf: &mut [u8], at: usize, k: u8, verdict: Result<Verdict, Refusal>) -> usize
     requires { k ≤ 4 }
-    ensures { Filled buf.old buf.new at result (verdict_line k (judgement_of j k)) }
+    ensures { Filled buf.old buf.new at result (verdict_line k (judgement_of verdict k)) }
 {
-    let answer = j.answer;
-    let verdict = j.verdict;
-    let headed = put_named(buf, at, b"k", Base::Decimal, k as u64);
-    match answer {
-        Answer::Refused(_) => put_all(buf, headed, b" few\n"),
-        Answer::Accepted => put_held(buf, headed, k, verdict),
+    let headed = put_named(buf, at, b"k", Base::Decimal, u64::from(k));
+    match verdict {
+        Ok(v) => put_held(buf, headed, k, v),
+        Err(_) => put_all(buf, headed, b" few\n"),
     }
 }
 
@@ -71,8 +61,7 @@ fn put_verdict_on(buf: &mut [u8], at: usize, k: u8, n: u8, table: &[u64]) -> usi
     requires { k ≤ 4 }
     ensures { Filled buf.old buf.new at result (verdict_line k (verdict_given k n table.now)) }
 {
-    let judged = verdicts::calls::verdict_on(k, n, table);
-    put_verdict(buf, at, k, judged)
+    put_verdict(buf, at, k, verdicts::calls::verdict_on(k, n, table))
 }
 
 // The lines of the verdicts on 2, 3 and 4 of a normal table.

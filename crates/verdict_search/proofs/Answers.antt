@@ -3,16 +3,14 @@ use mathlib.Core.Path.{◌≡◌, refl, sym, ap, ap₂, ◌∙◌}
 use mathlib.Core.Bool.{Bool, true, false, not, ◌&&◌}
 use mathlib.Core.List.{List}
 use mathlib.Core.Option.{none, some}
+use Rattle.std.specs.Prelude.{None, Some}
 use Prim.Native.Nat.{ℕ, ◌≤◌}
 use native.Mathlib.Omega.{arith}
 use lib.Dec.{leb}
 use lib.ListN.{length, take}
-use borrow.Author.Tests.{le-leb}
-use Rattle.drive_sets.specs.Bools.Laws.{clash}
 use Rattle.drive_sets.specs.Lists.{elem}
 use Rattle.drive_sets.specs.Masks.{full}
 use Rattle.drive_sets.specs.Masks.Laws.{full_word, has_some}
-use Rattle.verdict_search.specs.declared.Named.{Named}
 use Rattle.verdict_search.specs.declared.Verdict.{Verdict as Answer}
 use Rattle.splits.specs.Splits.{fill_empty}
 use Rattle.verdict_search.specs.Verdicts.{Verdict, yes, no, sets_at, disjoint, blocks_of, verdict_on}
@@ -21,7 +19,7 @@ use Rattle.verdict_search.proofs.Verdicts.Intersection.{none_yes, some_no, no_co
 use Rattle.verdict_search.specs.Verdicts.BlockCounts.{block_count_within}
 use Rattle.verdict_search.specs.Verdicts.CommonPart.{every_lt, in_every_law}
 use Rattle.verdict_search.specs.Meaning.{in_every}
-use Rattle.verdict_search.specs.Held.{verdict_of, answer_of, with_blocks, in_four, found_in}
+use Rattle.verdict_search.specs.Held.{verdict_of, answer_of, with_blocks, in_four, Found, found_in}
 use Rattle.verdict_search.proofs.Branches.{share_none}
 use Rattle.verdict_search.proofs.Fours.{length_four, take_four}
 use Rattle.verdict_search.proofs.Loops.{found_none, found_some}
@@ -29,10 +27,6 @@ use Rattle.verdict_search.proofs.Loops.{found_none, found_some}
 -- where the number of blocks passed its test
 pub count_bounds : (k : ℕ) {good : Bool} → good ≡ (leb 2 k && leb k 4) → not good ≡ false → (2 ≤ k) × (k ≤ 4)
 count_bounds k is h = block_count_within k (ap not (sym is) ∙ h)
-
--- and where it did not
-pub no_count : (k : ℕ) {good : Bool} → good ≡ (leb 2 k && leb k 4) → good ≡ false → 2 ≤ k → k ≤ 4 → ⊥
-no_count k {good} is h low high = clash (is ∙ rw (le-leb 2 k low, le-leb k 4 high)) h
 
 -- ---- an answer says the verdict that it holds
 
@@ -72,24 +66,24 @@ module _ (k n : ℕ) (table : List ℕ) (few : k ≤ 4) where
         let all = in_every_law d.0 (full n) table d.1 in
         answer_none (share_none table k 0 (full n) (full_word n) (λ sets count from. (d.0, all.0, λ s i. all.1 s (from s i))))
 
-    module _ (found : Named) (is_found : found ≡ found_in (disjoint k 1 table m)) where
+    module _ (found : Found) (is_found : found ≡ found_in (disjoint k 1 table m)) where
       search_is : found ≡ found_in (disjoint k 1 table (full n))
       search_is = is_found ∙ ap (λ (x : ℕ). found_in (disjoint k 1 table x)) is_full
 
-      pub answer_yes : found.any ≡ false → answer_of yes ≡ answer_of (verdict_on k n table)
-      answer_yes a = answer_none (found_none found (disjoint k 1 table (full n)) search_is a)
+      pub answer_yes : found ≡ None → answer_of yes ≡ answer_of (verdict_on k n table)
+      answer_yes a = answer_none (found_none (disjoint k 1 table (full n)) search_is a)
 
       -- ---- no
 
-      module _ (a : found.any ≡ true) where
-        at : (ps : List ℕ) × (disjoint k 1 table (full n) ≡ some ps) × (found.positions ≡ in_four ps)
-        at = found_some found (disjoint k 1 table (full n)) search_is a
+      module _ {positions : List ℕ} (a : found ≡ Some positions) where
+        at : (ps : List ℕ) × (disjoint k 1 table (full n) ≡ some ps) × (positions ≡ in_four ps)
+        at = found_some (disjoint k 1 table (full n)) search_is a
 
-        taken : take k found.positions ≡ at.0
+        taken : take k positions ≡ at.0
         taken = ap (take k) at.2 ∙ take_four at.0 k (first_found at.0 at.1).names.count few
 
         -- the positions found are positions of the table
-        pub found_within : (k ≤ 4) × (length found.positions ≡ 4) × ((p : ℕ) → elem p (take k found.positions) ≡ true → (1 ≤ p) × (p ≤ length table))
+        pub found_within : (k ≤ 4) × (length positions ≡ 4) × ((p : ℕ) → elem p (take k positions) ≡ true → (1 ≤ p) × (p ≤ length table))
         found_within = (
           few,
           ap length at.2 ∙ length_four at.0,
@@ -98,7 +92,7 @@ module _ (k n : ℕ) (table : List ℕ) (few : k ≤ 4) where
               (b.0, omega arith),
         )
 
-        pub answer_no : (r : Answer) → r ≡ with_blocks found.positions (fill_empty (blocks_of n 0 (sets_at table (take k found.positions))))
+        pub answer_no : (r : Answer) → r ≡ with_blocks positions (fill_empty (blocks_of n 0 (sets_at table (take k positions))))
             → r ≡ answer_of (verdict_on k n table)
         unfolding answer_of
         answer_no r e =

@@ -4,8 +4,10 @@ use mathlib.Core.Path.{◌≡◌, sym, ap, ◌∙◌, subst}
 use mathlib.Core.Bool.{true, false, not}
 use mathlib.Core.List.{List, [], ◌∷◌, map}
 use mathlib.Core.Option.{none}
+use Rattle.std.specs.Prelude.{Option, None, Some, IfSome}
+use Rattle.std.proofs.Common.{Bor}
 use Prim.Native.Nat.{ℕ, suc, ◌+◌, ◌*◌, ◌^◌, ◌≤◌, ◌<◌}
-use native.Mathlib.Nat.{suc-mul, mul-le-mul}
+use native.Mathlib.Nat.{suc-mul}
 use native.Mathlib.Omega.{arith}
 use lib.Dec.{eqb}
 use lib.ListN.{length, get_or, drop, take, length-map, take-append-drop}
@@ -23,7 +25,8 @@ use Rattle.verdict_search.specs.Verdicts.{disjoint}
 use Rattle.verdict_search.proofs.Verdicts.Search.{shared_more}
 use Rattle.verdict_search.proofs.Verdicts.Firsts.{set_from, named_from, disjoint_first}
 use Rattle.verdict_search.specs.Meaning.{AllFrom}
-use Rattle.verdict_search.specs.Columns.{Columns, EachMet}
+use Rattle.verdict_search.specs.declared.columns.Lacking.{Lacking}
+use Rattle.verdict_search.specs.Columns.{Columns, LackingOf, EachMet}
 use Rattle.verdict_search.specs.Sharing.{AllShare, Shared}
 
 -- ---- a part of m
@@ -45,6 +48,11 @@ columns_part {m = m} s lt w = record {
   lacking = λ i j h. w.lacking i j (common_has (suc i) m s h);
   few = λ x i. omega (arith, outside_part m s x lt, w.few x i);
 }
+
+-- the same of columns that there may be
+pub lacking_part : (table : List ℕ) (s : ℕ) {m : ℕ} (o : Option (Bor Lacking)) → m < 2 ^ 64 → IfSome o (λ l. LackingOf table l.now m) → IfSome o (λ l. LackingOf table l.now (common m s))
+lacking_part table s None lt w = w
+lacking_part table s (Some l) lt w = columns_part s lt w
 
 module _ (table : List ℕ) where
   -- ---- sets that lack few drives
@@ -97,9 +105,6 @@ pub record Branching (k : ℕ) (table : List ℕ) (m d place : ℕ) : Type 0 whe
   pub done : (j : ℕ) → j < place → has d (get_or table j 0) ≡ false → AllShare k table (common m (get_or table j 0))
 
 module _ (k : ℕ) (table : List ℕ) (m d : ℕ) where
-  pub branching_start : Branching k table m d 0
-  branching_start = record { done = λ j lt lacks. absurd (omega (arith, lt)) }
-
   pub branching_turn : {place : ℕ} → Branching k table m d place → (has d (get_or table place 0) ≡ false → AllShare k table (common m (get_or table place 0))) → Branching k table m d (place + 1)
   branching_turn {place} b here = record {
     done = λ j lt lacks.
@@ -114,7 +119,3 @@ module _ (k : ℕ) (table : List ℕ) (m d : ℕ) where
       subst (λ (x : ℕ). AllShare x table m) (sym is)
       (by_drive table k m d h (λ s e lacks. let at = elem_get_or s table e in
       subst (λ (x : ℕ). AllShare k table (common m x)) at.2 (b.done at.0 (omega (arith, at.1)) (ap (has d) at.2 ∙ lacks))))
-
--- so many drives for each of k sets, in a word
-pub product_fits : (k most : ℕ) → k < 2 ^ 8 → most < 2 ^ 32 → k * most < 2 ^ 64
-product_fits k most p q = omega (arith, mul-le-mul {n₁ = k} {m₁ = most} {n₂ = 255} {m₂ = 4294967295} (omega (arith, p)) (omega (arith, q)))

@@ -1,6 +1,6 @@
 -- The loops that build the columns: a place put into those of some drives, the places of all sets; and the most drives
 -- that a set lacks.
-use mathlib.Core.Path.{◌≡◌, refl, sym, ap, ◌∙◌, subst}
+use mathlib.Core.Path.{◌≡◌, refl, ap, ◌∙◌, subst}
 use mathlib.Core.Bool.{true, false, not}
 use mathlib.Core.List.{List}
 use Prim.Native.Nat.{ℕ, suc, ◌+◌, ◌*◌, ◌/◌, ◌%◌, ◌^◌, ◌≤◌, ◌<◌}
@@ -89,16 +89,6 @@ lacking_turn table m place {new = new} w is a i j h lt lacks =
 pub record Most (table : List ℕ) (m most place : ℕ) : Type 0 where
   pub within : place ≤ length table
   pub seen : (j : ℕ) → j < place → size (minus m (get_or table j 0)) ≤ most
-
-pub most_turn : {table : List ℕ} {m most place : ℕ} (most' lacking mask : ℕ) → Most table m most place → place < length table → mask ≡ minus m (get_or table place 0) → lacking ≡ size mask
-    → most ≤ most' → lacking ≤ most' → Most table m most' (place + 1)
-most_turn {table} {m} {place = place} most' lacking mask w lt p q le here = record {
-  within = omega (arith, lt);
-  seen = λ j h.
-      by_test (eqb j place)
-      (λ e. subst (λ (x : ℕ). size (minus m (get_or table x 0)) ≤ most') (sym (eqb-true j place e)) (subst (λ (x : ℕ). x ≤ most') (q ∙ ap size p) here))
-      (λ e. let old = w.seen j (let ne = eqb-false j place e in omega (arith, h)) in omega (arith, old, le));
-}
 
 pub most_end : {table : List ℕ} {m most place : ℕ} → Most table m most place → length table ≤ place → (s : ℕ) → elem s table ≡ true → size (minus m s) ≤ most
 most_end {table} {m} {most} w end s h =

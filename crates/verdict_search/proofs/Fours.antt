@@ -36,10 +36,9 @@ module _ (l : List ℕ) where
       sym (ap (λ (j : ℕ). take j (l ++ zeros 4)) room ∙ (take-append-add l (zeros 4) (4 - length l) ∙ ap (λ (r : List ℕ). l ++ r) (fewer (length l) few)))
 
 -- a list changed within its array, where no more and no fewer than its elements are
-pub changed_in : (f : List ℕ → List ℕ) (l : List ℕ) (k : ℕ) → length l ≡ k → k ≤ 4 → length (f l) ≡ k → (r back : List ℕ) → r ≡ in_four l → back ≡ f (take (k - 0) r)
-    → back ++ post_of 0 (k - 0) r ≡ in_four (f l)
-changed_in f l k count few same r back e g =
-    let whole : k - 0 ≡ k = omega arith in
+pub changed_in : (f : List ℕ → List ℕ) (l : List ℕ) (k : ℕ) → length l ≡ k → k ≤ 4 → length (f l) ≡ k → (r back : List ℕ) {stop : ℕ} → stop ≡ k → r ≡ in_four l → back ≡ f (take stop r)
+    → back ++ post_of 0 stop r ≡ in_four (f l)
+changed_in f l k count few same r back whole e g =
     let front = g ∙ ap f (ap₂ take whole e ∙ take_four l k count few) in
     let behind = ap₂ drop whole (e ∙ sym (zeros_behind l (omega arith))) ∙ (drop_at l (drop (length l) (zeros 4)) k count ∙ ap (λ (j : ℕ). drop j (zeros 4)) (count ∙ sym same)) in
     ap₂ (λ (a b : List ℕ). a ++ b) front behind ∙ zeros_behind (f l) (omega arith)

@@ -1,7 +1,6 @@
 -- The loops of the search: what is found from the place i on is what is found from the start on, since no set before i
 -- is the first.
 use mathlib.Core.Path.{◌≡◌, refl, sym, ap, ◌∙◌, subst}
-use mathlib.Core.Bool.{true, false}
 use mathlib.Core.List.{List, [], ◌∷◌}
 use mathlib.Core.Option.{Option, none, some}
 use Prim.Native.Nat.{ℕ, suc, ◌+◌, ◌≤◌, ◌<◌}
@@ -10,9 +9,10 @@ use native.Mathlib.Numerals.{add-one}
 use lib.Dec.{eqb}
 use lib.ListN.{length, get_or, drop, length-drop}
 use borrow.Author.Tests.{not-true, not-false}
-use Rattle.drive_sets.specs.declared.Position.{Position}
-use Rattle.drive_sets.specs.declared.Position.TheVariants.{None, At}
-use Rattle.drive_sets.specs.Bools.Laws.{clash, by_test, cond_true, cond_false}
+use Rattle.drive_sets.specs.Positions.{Position}
+use Rattle.std.specs.Prelude.{None, Some}
+use Rattle.std.proofs.lemmas.Option.{none-some, same_Some}
+use Rattle.drive_sets.specs.Bools.Laws.{by_test, cond_true, cond_false}
 use Rattle.drive_sets.specs.Lists.{first_failing}
 use Rattle.drive_sets.specs.Lists.FirstFailing.{failing_later, failing_here, failing_at}
 use Rattle.drive_sets.specs.Loops.Scan.{drop_next, Scan, scan_next, scan_turn, scan_end}
@@ -21,8 +21,7 @@ use Rattle.drive_sets.specs.Masks.Laws.{meets_sym}
 use Rattle.survivor_tables.specs.Hitting.{missed_from}
 use Rattle.verdict_search.specs.Verdicts.{first_with, disjoint}
 use Rattle.verdict_search.proofs.Verdicts.Search.{first_here, first_later}
-use Rattle.verdict_search.specs.declared.Named.{Named}
-use Rattle.verdict_search.specs.Held.{found_in, in_four}
+use Rattle.verdict_search.specs.Held.{Found, found_in, in_four}
 use Rattle.verdict_search.proofs.Fours.{in_front}
 
 -- the search for k sets from the place i on
@@ -57,7 +56,7 @@ module _ (k : ℕ) (table : List ℕ) (from m i : ℕ) (w : Searching (suc k) ta
 
 one : Position → Option (List ℕ)
 one None = none
-one (At p) = some (p ∷ [])
+one (Some p) = some (p ∷ [])
 
 one_missed : (p : ℕ) (sets : List ℕ) (m : ℕ) → disjoint 1 p sets m ≡ one (missed_from p sets m)
 unfolding one disjoint first_with first_failing meets common
@@ -78,11 +77,11 @@ module _ (table : List ℕ) (from m i : ℕ) (w : Searching 2 table from m i) wh
         let shared = common m (get_or table i 0) in
         one_missed (suc i) (drop i table) shared ∙ ap one (ap (λ (q : ℕ). missed_from q (drop i table) shared) (sym (add-one i)) ∙ sym e)
 
-    pub pair_found : {p : ℕ} → o ≡ At p → record { any = true; positions = (i + 1) ∷ p ∷ 0 ∷ 0 ∷ [] } ≡ found_in (From 2 table m from)
+    pub pair_found : {p : ℕ} → o ≡ Some p → Some ((i + 1) ∷ p ∷ 0 ∷ 0 ∷ []) ≡ found_in (From 2 table m from)
     unfolding found_in in_four one
     pair_found {p = p} f = ap (λ (q : ℕ). found_in (some (q ∷ p ∷ []))) (add-one i) ∙ ap found_in (search_found 1 table from m i w h first_one (ap one f))
 
-    pub pair_within : {p : ℕ} → o ≡ At p → p ≤ length table
+    pub pair_within : {p : ℕ} → o ≡ Some p → p ≤ length table
     pair_within {p = p} f = let w = failing_at _ (i + 1) (drop i table) p (sym e ∙ f) in omega (arith, w.at, w.within, length-drop i table)
 
     pub pair_later : o ≡ None → Searching 2 table from m (i + 1)
@@ -94,22 +93,19 @@ module _ (table : List ℕ) (from m i : ℕ) (w : Searching 2 table from m i) wh
 
 -- ---- what was found
 
-module _ (r : Named) where
-  pub found_none : (o : Option (List ℕ)) → r ≡ found_in o → r.any ≡ false → o ≡ none
+module _ {r : Found} where
+  pub found_none : (o : Option (List ℕ)) → r ≡ found_in o → r ≡ None → o ≡ none
   unfolding found_in
   found_none none e a = refl
-  found_none (some ps) e a = absurd (clash (ap (λ (x : Named). x.any) e) a)
+  found_none (some ps) e a = absurd (none-some (in_four ps) (sym a ∙ e))
 
   -- the list found, and its positions in the array
-  pub found_some : (o : Option (List ℕ)) → r ≡ found_in o → r.any ≡ true → (ps : List ℕ) × (o ≡ some ps) × (r.positions ≡ in_four ps)
+  pub found_some : (o : Option (List ℕ)) {positions : List ℕ} → r ≡ found_in o → r ≡ Some positions → (ps : List ℕ) × (o ≡ some ps) × (positions ≡ in_four ps)
   unfolding found_in
-  found_some none e a = absurd (clash a (ap (λ (x : Named). x.any) e))
-  found_some (some ps) e a = (ps, refl, ap (λ (x : Named). x.positions) e)
+  found_some none {positions} e a = absurd (none-some positions (sym e ∙ a))
+  found_some (some ps) {positions} e a = (ps, refl, same_Some positions (in_four ps) (sym a ∙ e))
 
 -- ---- k sets, where the rest of the positions are those found for one set fewer
-
-pub pair_is : (table : List ℕ) (k from m : ℕ) (r : Named) → k ≡ 2 → r ≡ found_in (From 2 table m from) → r ≡ found_in (From k table m from)
-pair_is table k from m r e h = h ∙ ap (λ (j : ℕ). found_in (From j table m from)) (sym e)
 
 module _ (k j : ℕ) (table : List ℕ) (from m i : ℕ) (e : k ≡ suc j) (w : Searching k table from m i) where
   now : Searching (suc j) table from m i
@@ -118,18 +114,18 @@ module _ (k j : ℕ) (table : List ℕ) (from m i : ℕ) (e : k ≡ suc j) (w : 
   for_k : {o : Option (List ℕ)} → o ≡ From (suc j) table m from → found_in o ≡ found_in (From k table m from)
   for_k h = ap found_in (h ∙ ap (λ (x : ℕ). From x table m from) (sym e))
 
-  module _ (rest : Named) (h : i < length table) (q : rest ≡ found_in (From j table (common m (get_or table i 0)) i)) where
-    pub found_more : rest.any ≡ true
-        → record { any = true; positions = (i + 1) ∷ get_or rest.positions 0 0 ∷ get_or rest.positions 1 0 ∷ get_or rest.positions 2 0 ∷ [] }
+  module _ (rest : Found) (h : i < length table) (q : rest ≡ found_in (From j table (common m (get_or table i 0)) i)) where
+    pub found_more : {later : List ℕ} → rest ≡ Some later
+        → Some ((i + 1) ∷ get_or later 0 0 ∷ get_or later 1 0 ∷ get_or later 2 0 ∷ [])
         ≡ found_in (From k table m from)
     unfolding found_in
-    found_more a =
-        let f = found_some rest (From j table (common m (get_or table i 0)) i) q a in
-        ap (λ (l : List ℕ). record { any = true; positions = l }) (in_front (i + 1) f.0 rest.positions f.2)
+    found_more {later} a =
+        let f = found_some (From j table (common m (get_or table i 0)) i) q a in
+        ap (λ (l : List ℕ). Some l) (in_front (i + 1) f.0 later f.2)
         ∙ (ap (λ (p : ℕ). found_in (some (p ∷ f.0))) (add-one i) ∙ for_k (search_found j table from m i now h f.1 refl))
 
-    pub found_later : rest.any ≡ false → Searching k table from m (i + 1)
-    found_later a = subst (λ (x : ℕ). Searching x table from m (i + 1)) (sym e) (search_turn j table from m i now h (found_none rest _ q a) refl)
+    pub found_later : rest ≡ None → Searching k table from m (i + 1)
+    found_later a = subst (λ (x : ℕ). Searching x table from m (i + 1)) (sym e) (search_turn j table from m i now h (found_none _ q a) refl)
 
   pub found_end : length table ≤ i → found_in none ≡ found_in (From k table m from)
   found_end h = for_k (search_end j table from m i now h)

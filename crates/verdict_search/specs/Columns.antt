@@ -4,6 +4,7 @@ use Rattle.std.specs.Prelude.{◌≡◌, Bool, true, false, List, ℕ, suc, ◌+
 use Rattle.drive_sets.specs.Limits.{max_sets}
 use Rattle.drive_sets.specs.Lists.{elem}
 use Rattle.drive_sets.specs.Masks.{has, minus, size}
+use Rattle.verdict_search.specs.declared.columns.Lacking.{Lacking}
 
 -- two words for each of 64 drives
 abbrev pub column_words : ℕ
@@ -27,6 +28,10 @@ pub record Columns (table columns : List ℕ) (most m : ℕ) : Type 0 where
   pub room : column_words ≤ length columns
   pub lacking : LackingTo (length table) table columns m
   pub few : (s : ℕ) → elem s table ≡ true → size (minus m s) ≤ most
+
+-- the same, of the columns that are held
+abbrev pub LackingOf : List ℕ → Lacking → ℕ → Type 0
+LackingOf table lacking m = Columns table lacking.columns lacking.most m
 
 -- no place is in the columns of all drives of m
 abbrev pub EachMet : List ℕ → ℕ → Type 0

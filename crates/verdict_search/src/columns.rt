@@ -5,15 +5,24 @@ ghost use Rattle.std.specs.Prelude.{◌≡◌, true, ℕ, suc, ◌+◌, ◌≤�
 ghost use Rattle.drive_sets.specs.Limits.{max_sets};
 ghost use Rattle.drive_sets.specs.Lists.{elem};
 ghost use Rattle.drive_sets.specs.Masks.{has, minus, size, lowest};
-ghost use Rattle.verdict_search.specs.Columns.{column_words, Added, LackingTo, EachMet};
+ghost use Rattle.verdict_search.specs.Columns.{column_words, Added, LackingTo, LackingOf, EachMet};
 
 use drive_sets::Drive;
 
 // The words of the columns of 64 drives.
-pub(crate) const COLUMN_WORDS: usize = 128;
+const COLUMN_WORDS: usize = 128;
 
 // How many places a word has.
 const WORD_PLACES: usize = 64;
+
+// The columns of a table for the drives of a frame, how many sets lack each of these drives, and the most of them that
+// one set lacks.
+#[derive(Drop)]
+pub(crate) struct Lacking {
+    pub(crate) columns: [u64; COLUMN_WORDS],
+    pub(crate) counts: [u64; 64],
+    pub(crate) most: u32,
+}
 
 // The index of the lowest drive of m.
 fn lowest_index(m: u64) -> usize
@@ -21,7 +30,7 @@ fn lowest_index(m: u64) -> usize
     ensures { (suc result ≡ lowest m) × (result < 64) }
 {
     let d = drive_sets::lowest(m);
-    d.0 as usize - 1
+    usize::from(d.0) - 1
 }
 
 // The place put into the columns of these drives.
@@ -34,53 +43,60 @@ fn put_place(columns: &mut [u64], place: usize, lacking: u64)
     let mut rest = lacking;
     while rest != 0 {
         let at = 2 * lowest_index(rest) + half;
-        columns[at] = columns[at] | bit;
+        columns[at] |= bit;
         rest = drive_sets::without_lowest(rest);
     }
 }
 
 // The columns of the drives of the frame, from columns that are empty.
-pub(crate) fn put_lacking(table: &[u64], frame: u64, columns: &mut [u64])
+fn put_lacking(table: &[u64], frame: u64, columns: &mut [u64])
     requires { (length table.now ≤ max_sets) × (column_words ≤ length columns.old) }
     ensures { LackingTo (length table.now) table.now columns.new frame }
 {
-    let mut place = 0;
-    while place < table.len() {
-        put_place(columns, place, drive_sets::minus(frame, table[place]));
-        place += 1;
+    for (place, &set) in table.iter().enumerate() {
+        put_place(columns, place, drive_sets::minus(frame, set));
     }
 }
 
 // The most drives of the frame that one of the sets lacks.
-pub(crate) fn most_lacking(table: &[u64], frame: u64) -> u32
+fn most_lacking(table: &[u64], frame: u64) -> u32
     ensures { (s : ℕ) → elem s table.now ≡ true → size (minus frame s) ≤ result }
 {
     let mut most = 0;
-    let mut place = 0;
-    while place < table.len() {
-        let lacking = drive_sets::size(drive_sets::minus(frame, table[place]));
-        if most < lacking {
-            most = lacking;
-        }
-        place += 1;
+    for &set in table {
+        most = most.max(drive_sets::size(drive_sets::minus(frame, set)));
     }
     most
 }
 
 // How many sets lack each drive of the frame.
-pub(crate) fn count_lacking(columns: &[u64], frame: u64) -> [u64; 64]
+fn count_lacking(columns: &[u64], frame: u64, counts: &mut [u64; 64])
     requires { column_words ≤ length columns.now }
 {
-    let mut counts = [0u64; 64];
     let mut rest = frame;
     while rest != 0 {
         let i = lowest_index(rest);
         let low = drive_sets::size(columns[2 * i]);
         let high = drive_sets::size(columns[2 * i + 1]);
-        counts[i] = low as u64 + high as u64;
+        counts[i] = u64::from(low) + u64::from(high);
         rest = drive_sets::without_lowest(rest);
     }
-    counts
+}
+
+// What the sets of a table lack of the frame, put where it stays: a copy of the columns would take as long as a verdict
+// on few sets.
+pub(crate) fn lacking_of(table: &[u64], frame: u64) -> Lacking
+    requires { length table.now ≤ max_sets }
+    ensures { LackingOf table.now result frame }
+{
+    let mut lacking = Lacking {
+        columns: [0u64; COLUMN_WORDS],
+        counts: [0u64; 64],
+        most: most_lacking(table, frame),
+    };
+    put_lacking(table, frame, &mut lacking.columns);
+    count_lacking(&lacking.columns, frame, &mut lacking.counts);
+    lacking
 }
 
 // The index of the drive of `shared` that the fewest sets lack.
@@ -109,13 +125,13 @@ pub(crate) fn each_meets(columns: &[u64], shared: u64) -> bool
     requires { column_words ≤ length columns.now }
     ensures { result ≡ true → EachMet columns.now shared }
 {
-    let mut low: u64 = 0xffff_ffff_ffff_ffff;
-    let mut high: u64 = 0xffff_ffff_ffff_ffff;
+    let mut low = u64::MAX;
+    let mut high = u64::MAX;
     let mut rest = shared;
     while rest != 0 {
         let at = 2 * lowest_index(rest);
-        low = low & columns[at];
-        high = high & columns[at + 1];
+        low &= columns[at];
+        high &= columns[at + 1];
         if low | high == 0 {
             return true;
         }

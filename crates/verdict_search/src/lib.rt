@@ -2,19 +2,17 @@
 // the first positions whose sets share none, with the blocks of a split of which none is empty or holds a core.
 #![tactic(auto)]
 
-ghost use Rattle.std.specs.Prelude.{◌≡◌, true, ◌&&◌, ℕ, suc, ◌≤◌, leb, length, take, drop};
-ghost use Rattle.std.proofs.Math.Option.{none};
+ghost use Rattle.std.specs.Prelude.{◌≡◌, true, ◌&&◌, ℕ, suc, ◌≤◌, leb, length, take, drop, IfSome};
 ghost use Rattle.drive_sets.specs.Lists.{elem};
 ghost use Rattle.verdict_search.specs.Verdicts.{sets_at, disjoint, blocks_of, verdict_on};
 ghost use Rattle.splits.specs.Splits.{fill_empty};
 ghost use Rattle.verdict_search.specs.Meaning.{in_every};
 ghost use Rattle.verdict_search.specs.Held.{verdict_of, no_verdict, answer_of, with_blocks, in_four, found_in};
-ghost use Rattle.verdict_search.specs.Columns.{column_words, Columns};
+ghost use Rattle.verdict_search.specs.Columns.{LackingOf};
 ghost use Rattle.drive_sets.specs.Limits.{max_sets};
 
-use crate::columns::{COLUMN_WORDS, count_lacking, most_lacking, put_lacking};
+use crate::columns::{Lacking, lacking_of};
 use crate::sharing::all_share;
-use drive_sets::Position;
 use survivor_tables::MAX_SETS;
 use survivor_tables::missed::next_missed;
 
@@ -36,61 +34,42 @@ pub fn is_block_count(k: u8) -> bool
     MIN_BLOCKS <= k && k <= MAX_BLOCKS
 }
 
-// Yes: `shared`, and zeros. No: the first k positions of sets that share no drive, and the k blocks, with zeros behind
-// them.
+// The verdict. A no has the first k positions of sets that share no drive, and the k blocks, with zeros behind them.
 #[derive(Clone, Copy)]
-pub struct Verdict {
-    pub shared: bool,
-    pub positions: [u8; 4],
-    pub blocks: [u64; 4],
+pub enum Verdict {
+    Yes,
+    No {
+        positions: [u8; 4],
+        blocks: [u64; 4],
+    },
 }
 
-// Zeros, where there is no verdict.
+// A no of zeros alone, where there is no verdict.
 pub fn no_verdict() -> Verdict
     ensures { result ≡ no_verdict }
 {
-    Verdict {
-        shared: false,
+    Verdict::No {
         positions: [0u8; 4],
         blocks: [0u64; 4],
     }
 }
 
-// Positions of sets that have no drive in common, where there are some.
-#[derive(Clone, Copy)]
-struct Named {
-    any: bool,
-    positions: [u8; 4],
-}
-
-fn nothing() -> Named
-    ensures { result ≡ found_in none }
-{
-    Named {
-        any: false,
-        positions: [0u8; 4],
-    }
-}
+// In what follows a table is a slice, with its bound in each contract: every loop goes by the slice, and a struct of both
+// would be opened in each.
 
 // The first two positions from the place `from` on, not falling, whose sets have no drive of `shared` in common.
-fn first_pair(table: &[u64], from: usize, shared: u64) -> Named
+fn first_pair(table: &[u64], from: usize, shared: u64) -> Option<[u8; 4]>
     requires { length table.now ≤ max_sets }
     ensures { result ≡ found_in (disjoint 2 (suc from) (drop from table.now) shared) }
 {
-    let mut i = from;
-    while i < table.len() {
-        let apart = next_missed(table, i, shared & table[i]);
-        if let Position::At(position) = apart {
+    for i in from..table.len() {
+        if let Some(position) = next_missed(table, i, shared & table[i]) {
             let first = (i + 1) as u8;
             let second = position as u8;
-            return Named {
-                any: true,
-                positions: [first, second, 0, 0],
-            };
+            return Some([first, second, 0, 0]);
         }
-        i += 1;
     }
-    nothing()
+    None
 }
 
 // The first k positions from the place `from` on, not falling, whose sets have no drive of `shared` in common. Where
@@ -99,41 +78,32 @@ fn first_pair(table: &[u64], from: usize, shared: u64) -> Named
 fn disjoint(
     k: u8,
     table: &[u64],
-    columns: &[u64],
-    counts: &[u64; 64],
-    most: u32,
+    lacking: Option<&Lacking>,
     from: usize,
     shared: u64,
-) -> Named
-    requires { (2 ≤ k) × (length table.now ≤ max_sets) × (column_words ≤ length columns.now → Columns table.now columns.now most shared) }
+) -> Option<[u8; 4]>
+    requires { (2 ≤ k) × (length table.now ≤ max_sets) × IfSome lacking (λ l. LackingOf table.now l.now shared) }
     ensures { result ≡ found_in (disjoint k (suc from) (drop from table.now) shared) }
 {
-    if COLUMN_WORDS <= columns.len() {
-        if all_share(k, table, columns, counts, most, shared) {
-            return nothing();
+    if let Some(l) = lacking {
+        if all_share(k, table, l, shared) {
+            return None;
         }
     }
     if k == 2 {
         return first_pair(table, from, shared);
     }
-    let mut i = from;
-    while i < table.len() {
-        let rest = disjoint(k - 1, table, columns, counts, most, i, shared & table[i]);
-        if rest.any {
-            let later = rest.positions;
-            return Named {
-                any: true,
-                positions: [(i + 1) as u8, later[0], later[1], later[2]],
-            };
+    for i in from..table.len() {
+        if let Some(later) = disjoint(k - 1, table, lacking, i, shared & table[i]) {
+            return Some([(i + 1) as u8, later[0], later[1], later[2]]);
         }
-        i += 1;
     }
-    nothing()
+    None
 }
 
 // The first k positions, not falling, whose sets have no drive of the frame in common. For two positions, or few sets,
 // the columns would cost more than they save: few sets are searched with none.
-fn first_disjoint(k: u8, table: &[u64], frame: u64) -> Named
+fn first_disjoint(k: u8, table: &[u64], frame: u64) -> Option<[u8; 4]>
     requires { (2 ≤ k) × (length table.now ≤ max_sets) }
     ensures { result ≡ found_in (disjoint k 1 table.now frame) }
 {
@@ -141,14 +111,10 @@ fn first_disjoint(k: u8, table: &[u64], frame: u64) -> Named
         return first_pair(table, 0, frame);
     }
     if table.len() < MANY_SETS {
-        let counts = [0u64; 64];
-        return disjoint(k, table, &table[0..0], &counts, 0, 0, frame);
+        return disjoint(k, table, None, 0, frame);
     }
-    let mut columns = [0u64; COLUMN_WORDS];
-    put_lacking(table, frame, &mut columns);
-    let counts = count_lacking(&columns, frame);
-    let most = most_lacking(table, frame);
-    disjoint(k, table, &columns, &counts, most, 0, frame)
+    let lacking = lacking_of(table, frame);
+    disjoint(k, table, Some(&lacking), 0, frame)
 }
 
 // Block i holds the drives outside the i-th named set and in no earlier block.
@@ -158,13 +124,11 @@ fn form_blocks(k: u8, n: u8, table: &[u64], positions: [u8; 4]) -> [u64; 4]
 {
     let mut blocks = [0u64; 4];
     let mut taken = 0;
-    let mut i = 0;
-    while i < k as usize {
-        let place = positions[i] as usize - 1;
+    for i in 0..usize::from(k) {
+        let place = usize::from(positions[i]) - 1;
         let block = drive_sets::outside(n, table[place] | taken);
         blocks[i] = block;
-        taken = taken | block;
-        i += 1;
+        taken |= block;
     }
     blocks
 }
@@ -175,25 +139,15 @@ fn no_at(k: u8, n: u8, table: &[u64], positions: [u8; 4]) -> Verdict
     ensures { result ≡ with_blocks positions (fill_empty (blocks_of n 0 (sets_at table.now (take k positions)))) }
 {
     let mut blocks = form_blocks(k, n, table, positions);
-    splits::fill_empty(&mut blocks[0..k as usize]);
-    Verdict {
-        shared: false,
-        positions,
-        blocks,
-    }
+    splits::fill_empty(&mut blocks[..usize::from(k)]);
+    Verdict::No { positions, blocks }
 }
 
 // The drives of `shared` that every set has.
 fn in_every(table: &[u64], shared: u64) -> u64
     ensures { result ≡ in_every shared table.now }
 {
-    let mut common = shared;
-    let mut i = 0;
-    while i < table.len() {
-        common = common & table[i];
-        i += 1;
-    }
-    common
+    table.iter().fold(shared, |common, &set| common & set)
 }
 
 // The verdict on a normal table. A drive that every set has is in any k of them, so there is nothing to search for.
@@ -204,20 +158,14 @@ fn verdict_within(k: u8, n: u8, table: &[u64]) -> Verdict
 {
     let frame = drive_sets::full(n);
     if in_every(table, frame) == 0 {
-        let found = first_disjoint(k, table, frame);
-        if found.any {
-            let positions = found.positions;
+        if let Some(positions) = first_disjoint(k, table, frame) {
             return no_at(k, n, table, positions);
         }
     }
-    Verdict {
-        shared: true,
-        positions: [0u8; 4],
-        blocks: [0u64; 4],
-    }
+    Verdict::Yes
 }
 
-// The verdict on a normal table, where k is 2 to 4 and there are at most 128 sets; else zeros.
+// The verdict on a normal table, where k is 2 to 4 and there are at most 128 sets; else a no of zeros alone.
 pub fn find_verdict(k: u8, n: u8, table: &[u64]) -> Verdict
     ensures found { 2 ≤ k → k ≤ 4 → length table.now ≤ max_sets → (verdict_of result k ≡ verdict_on k n table.now) × (result ≡ answer_of (verdict_on k n table.now)) }
     ensures zeros { (2 ≤ k → k ≤ 4 → length table.now ≤ max_sets → ⊥) → result ≡ no_verdict }

@@ -1,16 +1,15 @@
--- What the answer of a call says, and what its arrays hold.
-use Rattle.std.specs.Prelude.{ℕ}
-use Rattle.drive_sets.specs.Refusals.{Outcome, refused, yields, outcome_of}
+-- What the answer of a call says, and what the arrays of a verdict hold.
+use Rattle.std.specs.Prelude.{ℕ, Result}
+use Rattle.drive_sets.specs.declared.Refusal.{Refusal}
+use Rattle.drive_sets.specs.Refusals.{Outcome, yields, and_then, outcome_by}
 use Rattle.verdict_search.specs.declared.Verdict.{Verdict as Answer}
 use Rattle.verdict_search.specs.Verdicts.{Verdict}
-use Rattle.verdict_search.specs.Held.{verdict_of, no_verdict, answer_of}
-use Rattle.verdicts.specs.declared.calls.Judgement.{Judgement}
+use Rattle.verdict_search.specs.Held.{verdict_of, answer_of}
 
 -- what the answer of a call on k says
-unfoldable pub judgement_of : Judgement → ℕ → Outcome Verdict
-judgement_of j k = outcome_of j.answer (verdict_of j.verdict k)
+abbrev pub judgement_of : Result Answer Refusal → ℕ → Outcome Verdict
+judgement_of r k = outcome_by (λ v. verdict_of v k) r
 
--- and what its arrays hold: the verdict, or zeros beside a refusal
-unfoldable pub held_in : Outcome Verdict → Answer
-held_in (refused r) = no_verdict
-held_in (yields v) = answer_of v
+-- the verdict in its arrays, or the refusal
+abbrev pub held_in : Outcome Verdict → Outcome Answer
+held_in o = and_then o (λ v. yields (answer_of v))

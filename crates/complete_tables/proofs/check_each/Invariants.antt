@@ -1,11 +1,9 @@
--- Each mask, one after the other: the first refusal, or none.
-use Prim.Native.Nat.{◌-◌}
-use lib.ListN.{length}
-use Rattle.complete_tables.proofs.Checks.{Checking}
+-- What the masks that are left meet is what all of them meet.
+use Rattle.std.specs.Prelude.{◌≡◌, drop}
+use Rattle.drive_sets.specs.Refusals.{yields}
+use Rattle.survivor_tables.specs.Tables.{each_mask}
 use Rattle.complete_tables.proofs.check_each.Given as goal
 
-abbrev pub invariant-loop-i : goal.invariant-loop-i
-invariant-loop-i l = Checking l.kind l.n l.masks l.i
-
-abbrev pub decreases-loop-i : goal.decreases-loop-i
-decreases-loop-i l = length l.masks - l.i
+abbrev pub invariant-loop-mask : goal.invariant-loop-mask
+invariant-loop-mask l =
+    each_mask l.kind l.n (drop l.mask-index l.masks) (yields l.masks) ≡ each_mask l.kind l.n l.masks (yields l.masks)

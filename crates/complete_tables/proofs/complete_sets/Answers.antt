@@ -1,19 +1,25 @@
 -- The normal form, which has room, then the cores.
-use mathlib.Core.Path.{ap, ◌∙◌}
-use Rattle.complete_tables.specs.Complete.{complete_normal, sets_of}
-use Rattle.complete_tables.proofs.Completes.{form_given, count_le, normal_taken, complete_normal_law}
+use Rattle.std.specs.Prelude.{◌≡◌, refl, length, take}
+use Rattle.std.proofs.Common.{ap, ◌∙◌}
+use Rattle.arrayvec.proofs.ArrayVecLemmas.{items-with_items}
+use Rattle.drive_sets.specs.Limits.{max_sets}
+use Rattle.complete_tables.specs.Complete.{complete_normal}
+use Rattle.complete_tables.proofs.Completes.{form_given, normal_taken, complete_normal_law}
 use Rattle.complete_tables.proofs.complete_sets.Goals as goal
 
-pub with_cores-requires : goal.with_cores-requires
-with_cores-requires c = count_le c.args.sets.now c.requires _ c.normal-form.ensures.value c.in-Sets.is
+pub returns-in_err-count : goal.returns-in_err-count
+returns-in_err-count c =
+    let size : length c.from-smallest.result.items ≡ max_sets = c.from-smallest.ensures.1 in
+    let room = ap length c.as_mut_slice.ensures.value ∙ size in
+    absurd (form_given c.args.sets.now c.requires room c.in_err-count.ensures.value)
 
-pub returns-in-Refused : goal.returns-in-Refused
-returns-in-Refused c = absurd (form_given c.args.sets.now c.requires _ c.normal-form.ensures.value c.in-Refused.is)
-
-pub returns-in-Sets : goal.returns-in-Sets
-unfolding sets_of
-returns-in-Sets c =
-    let a = c.args in
-    let normal = c.normal-form.ensures in
-    let table = normal_taken a.sets.now c.requires _ normal.value c.in-Sets.is normal.out_after in
-    record { value = c.with_cores.ensures.value ∙ (ap (complete_normal a.n) table ∙ complete_normal_law a.n a.sets.now); within = c.with_cores.ensures.within }
+pub returns : goal.returns
+returns c =
+    let size : length c.from-smallest.result.items ≡ max_sets = c.from-smallest.ensures.1 in
+    let all = items-with_items c.from-smallest.result _ (c.normal.auto.out ∙ ap length c.as_mut_slice.ensures.value) in
+    let form = c.in_ok-count.ensures in
+    let room = ap length c.as_mut_slice.ensures.value ∙ size in
+    let table = normal_taken c.args.sets.now c.requires room _ form.value refl form.out_after in
+    c.with_cores.ensures
+    ∙ (ap (complete_normal c.args.n) (c.truncate.ensures.items ∙ (ap (take c.in_ok-count.count) all ∙ table))
+    ∙ complete_normal_law c.args.n c.args.sets.now)

@@ -1,11 +1,9 @@
--- The file or the line, which fits, and then the room for it.
-use native.Mathlib.Omega.{arith}
-use Rattle.text.proofs.Prints.{prints_put}
+-- The file or the line, which fits.
+use Rattle.std.proofs.Common.{rules}
+use Rattle.convert_files.specs.ConvertFiles.{convert_file, convert_program}
 use Rattle.convert_files.proofs.Prints.{program_length}
 use Rattle.convert_files.proofs.convert_file.Goals as goal
 
-pub slice_bounds-print-end : goal.slice_bounds-print-end
-slice_bounds-print-end c = omega (arith, c.put_file-size.ensures.total, program_length c.args.input.now)
-
 pub returns : goal.returns
-returns c = prints_put c.args.start c.put_file-size.ensures (omega (arith, program_length c.args.input.now)) c.print.ensures
+unfolding convert_program
+returns c = c.print_written.ensures (convert_file c.args.input.now) (program_length c.args.input.now) (λ b next r room wrote. search rules)

@@ -4,4 +4,4 @@ use Rattle.crash_lists.proofs.note.Goals as goal
 
 pub returns : goal.returns
 unfolding with_crash
-returns c = rw c.insert.ensures
+returns c = rw c.insert-crashes.ensures

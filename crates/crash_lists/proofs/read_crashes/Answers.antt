@@ -1,54 +1,29 @@
--- The loop over the records behind the last PR or PW: what is left to read gives what the whole gives. It ends, since
--- the drives rise and are at most n.
+-- The records behind the last PR or PW, from none listed on.
 use mathlib.Core.Path.{refl}
-use native.Mathlib.Omega.{arith}
 use borrow.Author.Tests.{lt-ltb, le-ltb}
+use Rattle.std.proofs.lemmas.Result.{err_from_is_err_and}
+use Rattle.drive_crashes.specs.Crashes.{no_crashes}
+use Rattle.drive_crashes.specs.Crashes.Laws.{none_listed}
 use Rattle.crash_lists.specs.Reading.{crashes_outcome}
-use Rattle.crash_lists.proofs.CrashList.{listing_start, listing_stop, listing_end, listed_within, crash_bounds, listing_turn}
-use Rattle.crash_lists.proofs.Returns.{crashes_refused, crashes_accepted, refused_within}
+use Rattle.crash_lists.proofs.CrashList.{held_none}
 use Rattle.crash_lists.proofs.read_crashes.Goals as goal
 
-pub returns-then-n-gt-MAX_DRIVES : goal.returns-then-n-gt-MAX_DRIVES
+pub returns-then-n-gt-MAX_DRIVES-clause-value : goal.returns-then-n-gt-MAX_DRIVES-clause-value
 unfolding crashes_outcome
-returns-then-n-gt-MAX_DRIVES c = let r = c.refused.ensures in record { value = rw (r, lt-ltb _ _ c.if-n-gt-MAX_DRIVES.true); within = refused_within r _; alone = crashes_refused r }
+returns-then-n-gt-MAX_DRIVES-clause-value c = rw (lt-ltb _ _ c.if-n-gt-MAX_DRIVES.true)
 
-pub loop-r-init : goal.loop-r-init
+pub invariant_of-listed : goal.invariant_of-listed
+invariant_of-listed c = record { held = rw c.no_crashes.ensures (held_none _ c.if-n-gt-MAX_DRIVES.false) }
+
+pub returns-in_err-used-clause-value : goal.returns-in_err-used-clause-value
 unfolding crashes_outcome
-loop-r-init c = rw c.no_crashes-crashes.ensures (listing_start _ _ _)
+returns-in_err-used-clause-value c =
+    let q = err_from_is_err_and c.from_residual.result c.from_residual.ensures.1 in
+    rw (q.1, q.2, le-ltb _ _ c.if-n-gt-MAX_DRIVES.false)
+    (rw (c.no_crashes.ensures, none_listed no_crashes refl) at c.in_err-used.ensures.value)
 
-pub slice_bounds-next_step-start : goal.slice_bounds-next_step-start
+pub returns-clause-value : goal.returns-clause-value
 unfolding crashes_outcome
-slice_bounds-next_step-start c = omega (arith, c.loop-r.invariant.reading.within)
-
-pub returns-in-Stop : goal.returns-in-Stop
-unfolding crashes_outcome
-returns-in-Stop c = let r = c.refused-in-Stop.ensures in record { value = rw (r, le-ltb _ _ c.if-n-gt-MAX_DRIVES.false) (listing_stop c.loop-r.invariant c.next_step-next.ensures c.in-Stop.is); within = refused_within r _; alone = crashes_refused r }
-
-pub overflow_add-result : goal.overflow_add-result
-unfolding crashes_outcome
-overflow_add-result c = omega (arith, listed_within c.loop-r.invariant c.next_step-next.ensures c.in-End.is)
-
-pub returns-in-End : goal.returns-in-End
-unfolding crashes_outcome
-returns-in-End c = let l = c.loop-r.invariant in
-    let n = c.next_step-next.ensures in
-    let e = c.in-End.is in record { value = rw (le-ltb _ _ c.if-n-gt-MAX_DRIVES.false) (listing_end l n e); within = listed_within l n e; alone = crashes_accepted refl }
-
-pub note-crashes-requires : goal.note-crashes-requires
-unfolding crashes_outcome
-note-crashes-requires c = let w = crash_bounds c.loop-r.invariant c.next_step-next.ensures c.in-Crash.is in (w.0, omega (arith, w.1, c.if-n-gt-MAX_DRIVES.false))
-
-pub overflow_add-count : goal.overflow_add-count
-unfolding crashes_outcome
-overflow_add-count c = omega (arith, (listing_turn c.loop-r.invariant c.next_step-next.ensures c.in-Crash.is c.if-n-gt-MAX_DRIVES.false).few, (listing_turn c.loop-r.invariant c.next_step-next.ensures c.in-Crash.is c.if-n-gt-MAX_DRIVES.false).up_to)
-
-pub overflow_add-at : goal.overflow_add-at
-unfolding crashes_outcome
-overflow_add-at c = omega (arith, (listing_turn c.loop-r.invariant c.next_step-next.ensures c.in-Crash.is c.if-n-gt-MAX_DRIVES.false).reading.within)
-
-pub loop-r-smaller : goal.loop-r-smaller
-unfolding crashes_outcome
-loop-r-smaller c = omega (arith, crash_bounds c.loop-r.invariant c.next_step-next.ensures c.in-Crash.is)
-
-pub loop-r-preserved : goal.loop-r-preserved
-loop-r-preserved c = rw c.note-crashes.ensures (listing_turn c.loop-r.invariant c.next_step-next.ensures c.in-Crash.is c.if-n-gt-MAX_DRIVES.false)
+returns-clause-value c =
+    rw (le-ltb _ _ c.if-n-gt-MAX_DRIVES.false)
+    (rw (c.no_crashes.ensures, none_listed no_crashes refl) at c.in_ok-used.ensures.value)

@@ -1,12 +1,12 @@
 -- A drive of the frame, above the last.
+use Rattle.drive_crashes.proofs.Orders.{by_lt}
 use Rattle.runs.specs.CrashRecords.{is_next}
-use mathlib.Core.Path.{sym, ◌∙◌}
 use Rattle.drive_crashes.proofs.is_next.Goals as goal
 
-pub returns-then-not-is_drive : goal.returns-then-not-is_drive
+pub returns-then-is_drive : goal.returns-then-is_drive
 unfolding is_next
-returns-then-not-is_drive c = rw (sym c.is_drive.ensures ∙ c.if-not-is_drive.true)
+returns-then-is_drive c = rw (← c.is_drive.ensures, c.if-is_drive.true) (by_lt c.args.last.0 c.args.drive.0 (cc))
 
-pub returns : goal.returns
+pub returns-else-is_drive : goal.returns-else-is_drive
 unfolding is_next
-returns c = rw (sym c.is_drive.ensures ∙ c.if-not-is_drive.false)
+returns-else-is_drive c = rw (← c.is_drive.ensures, c.if-is_drive.false)

@@ -1,13 +1,12 @@
 -- The first element that fails a test, by its position: all before it pass, it fails, and there is none exactly if all
 -- pass.
-use Rattle.std.specs.Prelude.{◌≡◌, Bool, false, cond, ◌↔◌, length, get_or}
+use Rattle.std.specs.Prelude.{◌≡◌, Bool, false, cond, ◌↔◌, length, get_or, None, Some}
 use Rattle.std.proofs.Math.Path.{refl}
 use Rattle.std.proofs.Common.{sym, ap₂, ◌∙◌, arith}
 use Rattle.std.proofs.Math.Bool.{true}
 use mathlib.Core.List.{List, [], ◌∷◌}
 use Prim.Native.Nat.{ℕ, zero, suc, ◌+◌, ◌<◌}
-use Rattle.drive_sets.specs.declared.Position.{Position}
-use Rattle.drive_sets.specs.declared.Position.TheVariants.{None, At}
+use Rattle.drive_sets.specs.Positions.{Position}
 use Rattle.drive_sets.specs.Bools.Laws.{by_test, and_intro, and_left, and_right, cond_true, cond_false}
 use Rattle.drive_sets.specs.Positions.Laws.{none_at, same_at}
 use Rattle.drive_sets.specs.Lists.{all, first_failing}
@@ -17,7 +16,7 @@ module _ (p : ℕ → Bool) where
   unfolding first_failing
   failing_later i x l h = cond_true _ _ h
 
-  pub failing_here : (i x : ℕ) (l : List ℕ) → p x ≡ false → first_failing i p (x ∷ l) ≡ At i
+  pub failing_here : (i x : ℕ) (l : List ℕ) → p x ≡ false → first_failing i p (x ∷ l) ≡ Some i
   unfolding first_failing
   failing_here i x l h = cond_false _ _ h
 
@@ -29,7 +28,7 @@ module _ (p : ℕ → Bool) where
     pub before : (j : ℕ) → j < place → p (get_or l j 0) ≡ true
     pub there : p (get_or l place 0) ≡ false
 
-  pub failing_at : (i : ℕ) (l : List ℕ) (k : ℕ) → first_failing i p l ≡ At k → First i l k
+  pub failing_at : (i : ℕ) (l : List ℕ) (k : ℕ) → first_failing i p l ≡ Some k → First i l k
   unfolding first_failing
   failing_at i [] k h = absurd (none_at refl h)
   failing_at i (x ∷ l) k h =
@@ -74,4 +73,4 @@ module _ (p : ℕ → Bool) where
 pub failing_same : (p q : ℕ → Bool) (i : ℕ) (l : List ℕ) → ((j : ℕ) → p (get_or l j 0) ≡ q (get_or l j 0)) → first_failing i p l ≡ first_failing i q l
 unfolding first_failing
 failing_same p q i [] f = refl
-failing_same p q i (x ∷ l) f = ap₂ (λ (b : Bool) (later : Position). cond b later (At i)) (f 0) (failing_same p q (i + 1) l (λ j. f (suc j)))
+failing_same p q i (x ∷ l) f = ap₂ (λ (b : Bool) (later : Position). cond b later (Some i)) (f 0) (failing_same p q (i + 1) l (λ j. f (suc j)))

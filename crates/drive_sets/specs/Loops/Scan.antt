@@ -1,13 +1,12 @@
 -- A list gone through from the front, `while i < l.len() { .. i += 1 }`: what f makes of the rest is the whole. A turn
 -- may change f, as where the loop gathers something; a loop that returns early has found the whole. Tests of all and of
 -- some elements, and the first that fails one, are cases of it.
-use Rattle.std.specs.Prelude.{◌≡◌, refl, Bool, true, false, ◌&&◌, ◌||◌, List, [], ◌∷◌, ℕ, ◌+◌, ◌≤◌, ◌<◌, length, get_or, drop}
+use Rattle.std.specs.Prelude.{◌≡◌, refl, Bool, true, false, ◌&&◌, ◌||◌, List, [], ◌∷◌, ℕ, ◌+◌, ◌≤◌, ◌<◌, length, get_or, drop, None, Some}
 use Rattle.std.proofs.Math.Path.{sym}
 use Rattle.std.proofs.Common.{ap, ◌∙◌, add-one, drop_of_length-le, drop-cons}
 use Rattle.drive_sets.specs.Lists.{all, any, first_failing}
 use Rattle.drive_sets.specs.Lists.FirstFailing.{failing_later, failing_here}
-use Rattle.drive_sets.specs.declared.Position.{Position}
-use Rattle.drive_sets.specs.declared.Position.TheVariants.{None, At}
+use Rattle.drive_sets.specs.Positions.{Position}
 
 -- the next element in front of the rest
 pub drop_next : (l : List ℕ) (i : ℕ) → i < length l → drop i l ≡ get_or l i 0 ∷ drop (i + 1) l
@@ -67,7 +66,7 @@ module _ (p : ℕ → Bool) {whole : Position} {l : List ℕ} {i : ℕ} (s : Sca
   pub failing_turn : i < length l → p (get_or l i 0) ≡ true → Scan whole (first_failing (i + 1 + 1) p) l (i + 1)
   failing_turn h e = scan_turn s h (first_failing (i + 1 + 1) p) (failing_later p (i + 1) (get_or l i 0) (drop (i + 1) l) e)
 
-  pub failing_found : i < length l → p (get_or l i 0) ≡ false → At (i + 1) ≡ whole
+  pub failing_found : i < length l → p (get_or l i 0) ≡ false → Some (i + 1) ≡ whole
   failing_found h e = sym (failing_here p (i + 1) (get_or l i 0) (drop (i + 1) l) e) ∙ scan_next s h
 
   pub failing_end : length l ≤ i → None ≡ whole

@@ -1,11 +1,8 @@
--- Laws of outcomes: what a result says of the refusals before it; of answers, of which a refused one is known by its
--- refusal; and of the numbers of refusals.
+-- Laws of outcomes: what a result says of the refusals before it, and of the steps by which it was made.
 use Rattle.std.specs.Prelude.{◌≡◌, refl, Bool, true, false, ◌⊎◌, ℕ}
-use Rattle.std.proofs.Common.{sym, ap, ◌∙◌, inl, inr, arith}
-use Rattle.drive_sets.specs.declared.Answer.{Answer}
-use Rattle.drive_sets.specs.declared.Answer.TheVariants.{Accepted, Refused}
+use Rattle.std.proofs.Common.{sym, ap, inl, inr, arith}
 use Rattle.drive_sets.specs.declared.Refusal.{Refusal}
-use Rattle.drive_sets.specs.Refusals.{Outcome, refused, yields, refuse_if, and_then, number, Alone}
+use Rattle.drive_sets.specs.Refusals.{Outcome, refused, yields, refuse_if, and_then, number}
 
 module _ {A : Type 0} where
   pub refused_no_result : {r : ℕ} {a : A} → refused r ≡ yields a → ⊥
@@ -42,22 +39,6 @@ module _ {A B : Type 0} where
   pub then_refuse : (b : Bool) (r : Refusal) (a : A) (f : A → Outcome B) → and_then (refuse_if b r (yields a)) f ≡ refuse_if b r (f a)
   then_refuse true r a f = refl
   then_refuse false r a f = refl
-
--- ---- answers
-
-pub accepted_not_refused : {r : Refusal} → Accepted ≡ Refused r → ⊥
-accepted_not_refused e = let z : ◌≡◌ {A = ℕ} 0 1 = cc in omega arith
-
-pub same_refusal : {q r : Refusal} → Refused q ≡ Refused r → q ≡ r
-same_refusal e = cc
-
--- a value that its refusal makes, or that is accepted, is the one that the refusal makes wherever it is refused
-module _ {A : Type 0} (answer : A → Answer) (refused_as : Refusal → A) (is : (q : Refusal) → answer (refused_as q) ≡ Refused q) where
-  pub refused_alone : {a : A} {q : Refusal} → a ≡ refused_as q → Alone answer refused_as a
-  refused_alone {q = q} e r h = e ∙ ap refused_as (same_refusal (sym (is q) ∙ (ap answer (sym e) ∙ h)))
-
-  pub accepted_alone : {a : A} → answer a ≡ Accepted → Alone answer refused_as a
-  accepted_alone e r h = absurd (accepted_not_refused (sym e ∙ h))
 
 -- two steps that make the same of a result
 pub then_same : {A B : Type 0} (o : Outcome A) {f g : A → Outcome B} → ((a : A) → o ≡ yields a → f a ≡ g a) → and_then o f ≡ and_then o g

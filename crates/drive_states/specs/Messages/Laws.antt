@@ -1,9 +1,10 @@
 -- Reading a message that was written gives it back, whether its numbers are narrow or wide; and how long it is.
-use Rattle.std.specs.Prelude.{◌≡◌, refl, Bool, true, false, not, cond, ℕ, ◌*◌, ◌^◌, ◌<◌, ◌≤◌, length, drop}
+use Rattle.std.specs.Prelude.{◌≡◌, refl, Bool, true, false, not, cond, ℕ, ◌*◌, ◌^◌, ◌<◌, ◌≤◌, length, drop, Result, Ok}
 use Rattle.std.proofs.Math.Path.{sym, ap, ap₂}
 use Rattle.std.proofs.Common.{◌∙◌, subst, length-append, take_at, take_all, drop_at, le-ltb}
 use mathlib.Core.List.{List, [], ◌∷◌, ◌++◌, map}
 use native.Mathlib.Omega.{arith}
+use Rattle.drive_sets.specs.declared.Refusal.{Refusal}
 use Rattle.drive_sets.specs.Bools.Laws.{cond_true, cond_false}
 use Rattle.drive_sets.specs.Lists.{elem}
 use Rattle.drive_sets.specs.Lists.Laws.{elem_head, elem_tail}
@@ -14,8 +15,6 @@ use Rattle.drive_sets.specs.Refusals.{yields, refuse_if}
 use Rattle.records.specs.declared.Due.TheVariants.{AtMessage}
 use Rattle.records.specs.declared.Kind.{Kind}
 use Rattle.records.specs.declared.Kind.TheVariants.{Known, Decide, WideKnown, WideDecide}
-use Rattle.records.specs.declared.Head.{Head}
-use Rattle.records.specs.declared.Head.TheVariants.{Record}
 use Rattle.records.specs.Fields.{from_bytes, to_bytes}
 use Rattle.records.specs.Fields.Laws.{length_to_bytes, field_back}
 use Rattle.records.specs.Marks.{ascii, mark_text, mark, Form, narrow, wide, width_in, number_width, body_width, is_kind, is_due, head_of}
@@ -73,12 +72,12 @@ length_longest (decided v) = omega arith
 
 -- ---- reading back
 
-message_head : (form : Form) (m : Message) → head_of AtMessage (bytes_in form m) ≡ Record (kind_in form m.content)
+message_head : (form : Form) (m : Message) → head_of AtMessage (bytes_in form m) ≡ Ok (kind_in form m.content)
 unfolding bytes_in content_bytes kind_in to_bytes body_width is_due is_kind mark mark_text ascii from_bytes
 message_head form m = by_form form m.content
   where
     by_form : (f : Form) (c : Content)
-        → head_of AtMessage (to_bytes 2 (mark (kind_in f c)) ++ (to_bytes 1 m.sender ++ (to_bytes 1 m.round ++ content_bytes (width_in f) c))) ≡ Record (kind_in f c)
+        → head_of AtMessage (to_bytes 2 (mark (kind_in f c)) ++ (to_bytes 1 m.sender ++ (to_bytes 1 m.round ++ content_bytes (width_in f) c))) ≡ Ok (kind_in f c)
     by_form narrow (known mask entries) = head_body AtMessage Known _ refl (omega arith)
     by_form narrow (decided v) = head_body AtMessage Decide _ refl (omega arith)
     by_form wide (known mask entries) = head_body AtMessage WideKnown _ refl (omega arith)
@@ -198,7 +197,7 @@ read_written : (n : ℕ) (form : Form) (m : Message) → Written form m
 unfolding read_message checked
 read_written n form m w =
     let bytes = bytes_in form m in
-    ap (λ (h : Head). at_record h (λ kind. checked n (number_width kind) (length bytes) (message_of kind bytes))) (message_head form m)
+    ap (λ (h : Result Kind Refusal). at_record h (λ kind. checked n (number_width kind) (length bytes) (message_of kind bytes))) (message_head form m)
     ∙ (ap₂ (λ (width : ℕ) (x : Message). checked n width (length bytes) x) (kind_width form m.content) w.back
     ∙ rw (le-ltb (length bytes) (length_in (width_in form) m.content) (omega (arith, w.whole)), le-ltb (length_in (width_in form) m.content) (length bytes) (omega (arith, w.whole))) refl)
 

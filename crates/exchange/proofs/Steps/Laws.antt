@@ -1,12 +1,12 @@
 -- The contract of each of the four calls is a step of the world that runs are made of: what it leaves, where it is
 -- refused, and what a send writes.
-use Rattle.std.specs.Prelude.{◌≡◌, refl, true, false, List, ℕ}
+use Rattle.std.specs.Prelude.{◌≡◌, refl, true, false, List, ℕ, Result}
 use Rattle.std.proofs.Common.{sym, ◌∙◌}
 use Rattle.std.proofs.Math.Path.{ap}
 use Rattle.std.proofs.Math.ListN.{length}
+use Rattle.drive_sets.specs.declared.Refusal.{Refusal}
 use Rattle.drive_sets.specs.Bools.Laws.{clash}
 use Rattle.drive_sets.specs.Refusals.{Outcome, refused, yields}
-use Rattle.lent_bytes.specs.declared.Writing.{Writing}
 use Rattle.lent_bytes.specs.LentBuffers.{Written}
 use Rattle.drive_sets.specs.Lent.{size_written}
 use Rattle.lent_bytes.proofs.Buffers.{written_as}
@@ -17,7 +17,6 @@ use Rattle.runs.specs.World.Laws.{put_same}
 use Rattle.runs.specs.Runs as any_runs
 use Rattle.agreement.specs.Calls.{opening, sending, receiving, closing}
 use Rattle.agreement.specs.Document01.{apply, refused_by, sending_of}
-use Rattle.exchange.specs.declared.Reply.{Reply}
 use Rattle.exchange.specs.Replies.{state_after, not_opened, Replied}
 use Rattle.exchange.specs.Replies.Laws.{not_opened_sending, not_opened_receiving, not_opened_closing}
 use Rattle.exchange.specs.Steps.{held, may_name, Stepped, SentFrom, leaves}
@@ -80,8 +79,8 @@ send_held (opened x) d room start h = (refl, size_refused (sending x room start)
 -- ---- the contracts
 
 module _ (w : World) (d : ℕ) where
-  pub open_steps : (n : ℕ) (sets : List ℕ) (own number : ℕ) {r : Reply} → Replied (opening n sets own number) (held (w d)) r
-      → Stepped w (opens d n sets own number) r
+  pub open_steps : {T : Type 0} (n : ℕ) (sets : List ℕ) (own number : ℕ) {new : Exchange} {r : Result T Refusal} → Replied (opening n sets own number) (held (w d)) new r
+      → Stepped w (opens d n sets own number) new r
   unfolding leaves drive_of worlds.refused_in worlds.refused_by
   open_steps n sets own number q = record {
     state = q.state ∙ leaves_held w (opens d n sets own number);
@@ -89,7 +88,8 @@ module _ (w : World) (d : ℕ) where
     not_open = λ h. absurd (clash (opening_named (w d) d n sets own number) h);
   }
 
-  pub message_steps : (bytes : List ℕ) {r : Reply} → Replied (receiving (held (w d)) bytes) (held (w d)) r → Stepped w (delivers d bytes) r
+  pub message_steps : {T : Type 0} (bytes : List ℕ) {new : Exchange} {r : Result T Refusal} → Replied (receiving (held (w d)) bytes) (held (w d)) new r
+      → Stepped w (delivers d bytes) new r
   unfolding leaves drive_of worlds.refused_in
   message_steps bytes q = record {
     state = q.state ∙ leaves_held w (delivers d bytes);
@@ -97,7 +97,7 @@ module _ (w : World) (d : ℕ) where
     not_open = λ h. q.answer ∙ (ap (λ x. receiving x bytes) (not_open_law (w d) (delivers d bytes) h) ∙ not_opened_receiving bytes);
   }
 
-  pub close_steps : {r : Reply} → Replied (closing (held (w d))) (held (w d)) r → Stepped w (closes d) r
+  pub close_steps : {T : Type 0} {new : Exchange} {r : Result T Refusal} → Replied (closing (held (w d))) (held (w d)) new r → Stepped w (closes d) new r
   unfolding leaves drive_of worlds.refused_in
   close_steps q = record {
     state = q.state ∙ leaves_held w (closes d);
@@ -105,7 +105,7 @@ module _ (w : World) (d : ℕ) where
     not_open = λ h. q.answer ∙ (ap closing (not_open_law (w d) (closes d) h) ∙ not_opened_closing);
   }
 
-  pub send_steps : (start : ℕ) (old new : List ℕ) {r : Writing} → Written (sending (held (w d)) (length old) start) start old new r
+  pub send_steps : (start : ℕ) (old new : List ℕ) {r : Result ℕ Refusal} → Written (sending (held (w d)) (length old) start) start old new r
       → SentFrom w d start old new r
   unfolding worlds.apply drive_of worlds.refused_in
   send_steps start old new q =

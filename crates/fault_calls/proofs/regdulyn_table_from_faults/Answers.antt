@@ -1,14 +1,18 @@
 -- The refusal, or the sets of the table.
-use mathlib.Core.Path.{refl}
-use Rattle.complete_tables.specs.Complete.{sets_of}
-use Rattle.complete_tables.proofs.Accepts.{due_refused, due_given}
+use Rattle.std.proofs.Common.{refl, sym}
+use Rattle.complete_tables.specs.Complete.{with_cores}
+use Rattle.complete_tables.proofs.Accepts.{then_refused, due_given}
 use Rattle.fault_lists.specs.FaultLists.{table_from_faults, complete_from_faults}
 use Rattle.fault_calls.proofs.regdulyn_table_from_faults.Goals as goal
 
-pub returns-in-Refused : goal.returns-in-Refused
-unfolding complete_from_faults sets_of
-returns-in-Refused c = let a = c.args in let t = c.table_from_faults-t in rw (due_refused a.n (table_from_faults a.n a.groups.now) t.result t.ensures.value _ c.in-Refused.is) (record { value = c.refused_size.ensures; out_after = refl })
+pub returns-in-Err : goal.returns-in-Err
+unfolding complete_from_faults
+returns-in-Err c =
+    let a = c.args in
+    rw (then_refused (table_from_faults a.n a.groups.now) (with_cores a.n) (sym c.in-Err.ensures)) (record { value = c.refused_size.ensures; out_after = refl })
 
-pub returns-in-Accepted : goal.returns-in-Accepted
-unfolding complete_from_faults sets_of
-returns-in-Accepted c = let a = c.args in let t = c.table_from_faults-t in rw (due_given a.n (table_from_faults a.n a.groups.now) t.result t.ensures.value c.in-Accepted.is).0 c.put_list.ensures
+pub returns-in-Ok : goal.returns-in-Ok
+unfolding complete_from_faults
+returns-in-Ok c =
+    let a = c.args in
+    rw ((due_given a.n (table_from_faults a.n a.groups.now) c.in-Ok.t c.in-Ok.ensures).0, ← c.as_slice.ensures.value) c.put_list.ensures

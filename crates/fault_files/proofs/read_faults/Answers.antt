@@ -1,32 +1,12 @@
--- The listing's refusals, bytes behind it, or the list of n and groups.
-use mathlib.Core.Path.{◌≡◌, ap, ◌∙◌}
-use mathlib.Core.List.{List, []}
-use Prim.Native.Nat.{ℕ}
-use native.Mathlib.Omega.{arith}
-use lib.ListN.{length}
-use borrow.Author.Rules.{rules}
-use Rattle.drive_sets.specs.Refusals.{and_then}
-use Rattle.complete_tables.proofs.Completes.{first_taken}
-use Rattle.fault_lists.specs.FaultLists.{fault_list}
-use Rattle.fault_files.specs.FaultFiles.Laws.{list_read}
-use Rattle.fault_files.proofs.FaultReads.{list_refused, list_trailing, list_finished}
+-- The refusals of the groups, or their fault list.
+use Rattle.std.proofs.lemmas.Result.{err_from_is_err_and}
+use Rattle.fault_files.proofs.FaultReads.{list_finished}
 use Rattle.fault_files.proofs.read_faults.Goals as goal
 
-pub returns-then-listed-s : goal.returns-then-listed-s
-returns-then-listed-s c = let l = c.read_listed-listed in record { value = c.refused-then-listed-s.ensures.value ∙ list_trailing l.result _ l.ensures.value c.in-Accepted.is c.if-listed-s.true; within = c.refused-then-listed-s.ensures.within }
+pub returns-in_err-sets : goal.returns-in_err-sets
+returns-in_err-sets c =
+    let p = err_from_is_err_and c.from_residual-in_err-sets.result c.from_residual-in_err-sets.ensures.1 in
+    rw (p.1, p.2, list_finished _ _ _ _ c.in_ok-listed.ensures.value c.if-listed-s.false, ← c.as_slice.ensures.value, ← c.in_err-sets.ensures)
 
-pub slice_bounds-finish-end : goal.slice_bounds-finish-end
-slice_bounds-finish-end c = let l = c.read_listed-listed in let long : length l.result.table.sets ≡ 128 = search rules in omega (arith, l.ensures.within.sets)
-
-pub returns-in-Refused : goal.returns-in-Refused
-returns-in-Refused c = let l = c.read_listed-listed in record { value = c.refused.ensures.value ∙ list_refused l.result _ l.ensures.value c.in-Refused.is; within = c.refused.ensures.within }
-
-pub returns-else-listed-s : goal.returns-else-listed-s
-returns-else-listed-s c =
-    let l = c.read_listed-listed in
-    let n = l.result.table.n in record {
-      value = c.finish.ensures.value
-          ∙ (ap (λ (groups : List ℕ). and_then (fault_list n groups) (list_read n [])) (first_taken l.result.table)
-          ∙ list_finished l.result _ l.ensures.value c.in-Accepted.is c.if-listed-s.false);
-      within = c.finish.ensures.within;
-    }
+pub returns : goal.returns
+returns c = rw (list_finished _ _ _ _ c.in_ok-listed.ensures.value c.if-listed-s.false, ← c.as_slice.ensures.value, ← c.in_ok-sets.ensures)

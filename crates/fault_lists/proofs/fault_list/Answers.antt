@@ -1,13 +1,12 @@
 -- The rests of the table of the rests.
-use mathlib.Core.Path.{ap, ◌∙◌}
-use Rattle.drive_sets.specs.Refusals.{Outcome, and_then}
-use Rattle.complete_tables.specs.Complete.{Complete}
+use Rattle.std.proofs.lemmas.Result.{err_from_is_err_and}
 use Rattle.fault_lists.proofs.FaultLists.Laws.{list_rests}
-use Rattle.fault_lists.specs.FaultLists.{rests_of}
 use Rattle.fault_lists.proofs.fault_list.Goals as goal
 
-pub rests_of-requires : goal.rests_of-requires
-rests_of-requires c = c.table_from_faults.ensures.within
+pub returns-in_err-t : goal.returns-in_err-t
+returns-in_err-t c =
+    let p = err_from_is_err_and c.from_residual.result c.from_residual.ensures.1 in
+    rw (p.1, p.2, ← list_rests, ← c.in_err-t.ensures)
 
 pub returns : goal.returns
-returns c = let a = c.args in record { value = c.rests_of.ensures.value ∙ (ap (λ (o : Outcome Complete). and_then o rests_of) c.table_from_faults.ensures.value ∙ list_rests a.n a.groups.now); within = c.rests_of.ensures.within }
+returns c = rw (c.rests.ensures, c.as_slice.ensures.value, ← list_rests, ← c.in_ok-t.ensures)

@@ -6,6 +6,3 @@ use Rattle.lent_bytes.proofs.put_field.Given as goal
 
 abbrev pub invariant-loop-i : goal.invariant-loop-i
 invariant-loop-i l = Filling l.initial.part l.part l.i (to_bytes (l.width - l.i) l.rest) (to_bytes l.width l.x)
-
-abbrev pub decreases-loop-i : goal.decreases-loop-i
-decreases-loop-i l = l.width - l.i

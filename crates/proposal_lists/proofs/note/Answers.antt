@@ -4,8 +4,8 @@ use Rattle.drive_sets.specs.Masks.Laws.{has_bounds}
 use borrow.Author.Rules.{rules}
 use Rattle.proposal_lists.proofs.note.Goals as goal
 
-pub overflow_sub-i : goal.overflow_sub-i
-overflow_sub-i c = (has_bounds 64 _ _ (search rules) (sym c.has.ensures ∙ c.if-has.true)).0
+pub overflow_sub-number : goal.overflow_sub-number
+overflow_sub-number c = (has_bounds 64 _ _ (search rules) (sym c.has.ensures ∙ c.if-has.true)).0
 
 pub returns-then-has : goal.returns-then-has
 returns-then-has c = rw (← c.has.ensures, c.if-has.true)

@@ -1,20 +1,11 @@
--- The record where one of a list or its end is due: refused, one more, the end with its count, or with another.
-use borrow.Author.Tests.{eq-eqb, ne_eqb}
-use Rattle.records.specs.RecordLists.{next_of}
+-- A record that is not EN is one more.
+use mathlib.Core.Path.{sym, ◌∙◌}
+use Rattle.records.specs.declared.Kind.TheVariants.{End}
+use Rattle.records.specs.RecordLists.Laws.{record_next}
+use Rattle.records.proofs.Matches.{kind_same}
 use Rattle.records.proofs.next_record.Goals as goal
 
-pub returns-then-not-is_kind : goal.returns-then-not-is_kind
-unfolding next_of
-returns-then-not-is_kind c = rw (← c.read_head-head.ensures, c.in-Record.is, ← c.is_kind.ensures, c.if-not-is_kind.true)
-
-pub returns-in-Refused : goal.returns-in-Refused
-unfolding next_of
-returns-in-Refused c = rw (← c.read_head-head.ensures, c.in-Refused.is)
-
-pub returns-then-field-count : goal.returns-then-field-count
-unfolding next_of
-returns-then-field-count c = rw (← c.read_head-head.ensures, c.in-Record.is, ← c.is_kind.ensures, c.if-not-is_kind.false, ← c.field.ensures, eq-eqb _ _ c.if-field-count.true)
-
-pub returns-else-field-count : goal.returns-else-field-count
-unfolding next_of
-returns-else-field-count c = rw (← c.read_head-head.ensures, c.in-Record.is, ← c.is_kind.ensures, c.if-not-is_kind.false, ← c.field.ensures, ne_eqb _ _ c.if-field-count.false)
+pub returns : goal.returns
+returns c =
+    let a = c.args in let k = c.in_ok-kind.kind in
+    sym (record_next a.due a.count a.s.now k (sym c.read_head.ensures ∙ c.in_ok-kind.was) (sym (kind_same k End) ∙ (sym c.eq.ensures ∙ c.if-eq.false)))

@@ -1,6 +1,6 @@
 -- Laws of marks and records: a mark is read back as its kind, and a record that was written is found where it is due,
 -- with its field and what stands behind it.
-use Rattle.std.specs.Prelude.{◌≡◌, refl, true, not, ℕ, ◌+◌, ◌^◌, ◌≤◌, ◌<◌, length, take, drop, ltb}
+use Rattle.std.specs.Prelude.{◌≡◌, refl, true, not, ℕ, ◌+◌, ◌^◌, ◌≤◌, ◌<◌, length, take, drop, ltb, Ok, Err}
 use Rattle.std.proofs.Common.{sym, ◌∙◌, subst, arith, length-append, take_at, drop_at, le-ltb, ltb-false, eqb-true}
 use Rattle.std.proofs.Math.Path.{ap}
 use mathlib.Core.List.{List, ◌++◌, append_assoc}
@@ -11,7 +11,6 @@ use Rattle.drive_sets.specs.Limits.{narrow_width, pattern_width, pattern_limit}
 use Rattle.records.specs.declared.Due.{Due}
 use Rattle.records.specs.declared.Kind.{Kind}
 use Rattle.records.specs.declared.Kind.TheVariants.{Frame, Survivor, Fault, Proposal, Crash, End, Known, Decide, WideProposal, WideKnown, WideDecide, Unknown}
-use Rattle.records.specs.declared.Head.TheVariants.{Record, Refused}
 use Rattle.records.specs.Fields.{Bytes, from_bytes, field_at, to_bytes}
 use Rattle.records.specs.Fields.Laws.{length_to_bytes, field_back, field_lt}
 use Rattle.records.specs.Marks.{ascii, mark_text, mark, number_width, body_width, kind_of, is_kind, is_due, kind_at, head_of, record_bytes}
@@ -113,12 +112,12 @@ module _ (m width x : ℕ) (rest : List ℕ) where
   record_rest = drop_at (record_bytes m width x) rest (2 + width) (length_record m width x)
 
 -- a mark that is due, and behind it at least as many bytes as its kind asks for
-pub head_body : (due : Due) (k : Kind) (body : List ℕ) → is_due due k ≡ true → body_width k ≤ length body → head_of due (to_bytes 2 (mark k) ++ body) ≡ Record k
+pub head_body : (due : Due) (k : Kind) (body : List ℕ) → is_due due k ≡ true → body_width k ≤ length body → head_of due (to_bytes 2 (mark k) ++ body) ≡ Ok k
 unfolding head_of
 head_body due k body d long =
     cond_false _ _ (le-ltb (length s) 2 (omega (arith, whole)))
     ∙ (cond_false _ _ (ap not (ap (is_due due) is_kind_law ∙ d))
-    ∙ (cond_false _ _ (le-ltb (length s) (2 + body_width (kind_at s)) (omega (arith, whole, ap body_width is_kind_law))) ∙ ap Record is_kind_law))
+    ∙ (cond_false _ _ (le-ltb (length s) (2 + body_width (kind_at s)) (omega (arith, whole, ap body_width is_kind_law))) ∙ ap Ok is_kind_law))
   where
     s : List ℕ
     s = to_bytes 2 (mark k) ++ body
@@ -133,7 +132,7 @@ head_body due k body d long =
     is_kind_law = ap kind_of is_mark ∙ kind_mark k
 
 pub head_record : (due : Due) (k : Kind) (x : ℕ) (rest : List ℕ) → is_due due k ≡ true
-    → head_of due (record_bytes (mark k) (body_width k) x ++ rest) ≡ Record k
+    → head_of due (record_bytes (mark k) (body_width k) x ++ rest) ≡ Ok k
 unfolding record_bytes
 head_record due k x rest d =
     ap (head_of due) (append_assoc (to_bytes 2 (mark k)) (to_bytes (body_width k) x) rest)
@@ -142,7 +141,7 @@ head_record due k x rest d =
 
 -- ---- what is found is due
 
-record_not_refused : {r : Refusal} {k : Kind} → Refused r ≡ Record k → ⊥
+record_not_refused : {r : Refusal} {k : Kind} → Err r ≡ Ok k → ⊥
 record_not_refused e = let z : ◌≡◌ {A = ℕ} 0 1 = cc in omega arith
 
 -- the record found: its mark is due, and its body is there
@@ -151,7 +150,7 @@ pub record Present (due : Due) (s : List ℕ) (k : Kind) : Type 0 where
   pub is_due_law : is_due due k ≡ true
   pub long : 2 + body_width k ≤ length s
 
-pub head_present : (due : Due) (s : List ℕ) (k : Kind) → head_of due s ≡ Record k → Present due s k
+pub head_present : (due : Due) (s : List ℕ) (k : Kind) → head_of due s ≡ Ok k → Present due s k
 unfolding head_of
 head_present due s k e =
     by_test (ltb (length s) 2)
@@ -160,7 +159,7 @@ head_present due s k e =
     (λ n. absurd (record_not_refused (sym (cond_false _ _ h ∙ cond_true _ _ n) ∙ e)))
     (λ n. by_test (ltb (length s) (2 + body_width (kind_of m)))
     (λ b. absurd (record_not_refused (sym (cond_false _ _ h ∙ (cond_false _ _ n ∙ cond_true _ _ b)) ∙ e)))
-    (λ b. let found : Record (kind_of m) ≡ Record k = sym (cond_false _ _ h ∙ (cond_false _ _ n ∙ cond_false _ _ b)) ∙ e in
+    (λ b. let found : Ok (kind_of m) ≡ Ok k = sym (cond_false _ _ h ∙ (cond_false _ _ n ∙ cond_false _ _ b)) ∙ e in
     let kind : kind_of m ≡ k = cc in
     record {
       is = kind;

@@ -1,6 +1,6 @@
 -- Laws of lists of records: reading goes on as the step says, a step and an end are whole, and what a list that is read
 -- satisfies.
-use Rattle.std.specs.Prelude.{◌≡◌, Bool, ◌||◌, ◌⊎◌, List, eqb, length, drop}
+use Rattle.std.specs.Prelude.{◌≡◌, Bool, ◌||◌, ◌⊎◌, List, eqb, length, drop, Result, Ok, Err}
 use Rattle.std.proofs.Math.Path.{refl, sym, ap, subst}
 use Rattle.std.proofs.Common.{◌∙◌, inl, inr, ⊎_elim, length-drop, lt-ltb, le-ltb}
 use Rattle.std.proofs.Math.Bool.{true, false, cond}
@@ -16,72 +16,70 @@ use Rattle.drive_sets.specs.Refusals.Laws.{refused_no_result, same_result, first
 use Rattle.records.specs.declared.Kind.{Kind}
 use Rattle.records.specs.declared.Kind.TheVariants as kinds
 use Rattle.records.specs.declared.Due.{Due}
-use Rattle.records.specs.declared.Head.{Head}
-use Rattle.records.specs.declared.Head.TheVariants as heads
 use Rattle.records.specs.declared.Next.{Next}
-use Rattle.records.specs.declared.Next.TheVariants.{One, End, Stop}
+use Rattle.records.specs.declared.Next.TheVariants.{One, End}
 use Rattle.records.specs.Fields.{field_at}
 use Rattle.records.specs.Marks.{body_width, is_kind, is_due, kind_at, width_at, head_of}
 use Rattle.records.specs.Marks.Laws.{Present, head_present, kind_is}
 use Rattle.records.specs.RecordLists.{at_record, next_at, next_of, ListFormat, ReadList, step_at, step_of, following, read_from, read_list}
 
 -- what was made of a record that stood there
-pub record_there : {A : Type 0} (h : Head) (f : Kind → Outcome A) {a : A} → at_record h f ≡ yields a → (k : Kind) × (h ≡ heads.Record k) × (f k ≡ yields a)
-record_there (heads.Refused r) f e = absurd (refused_no_result e)
-record_there (heads.Record k) f e = (k, refl, e)
+pub record_there : {A : Type 0} (h : Result Kind Refusal) (f : Kind → Outcome A) {a : A} → at_record h f ≡ yields a → (k : Kind) × (h ≡ Ok k) × (f k ≡ yields a)
+record_there (Err r) f e = absurd (refused_no_result e)
+record_there (Ok k) f e = (k, refl, e)
 
 -- ---- the end, or one more
 
-end_not_stop : {r : Refusal} → Stop r ≡ End → ⊥
+end_not_stop : {r : Refusal} → Err r ≡ (Ok End) → ⊥
 end_not_stop e = let z : ◌≡◌ {A = ℕ} 0 1 = cc in omega arith
 
-one_not_stop : {r : Refusal} → Stop r ≡ One → ⊥
+one_not_stop : {r : Refusal} → Err r ≡ (Ok One) → ⊥
 one_not_stop e = let z : ◌≡◌ {A = ℕ} 0 1 = cc in omega arith
 
-one_not_end : End ≡ One → ⊥
+one_not_end : ◌≡◌ {A = Result Next Refusal} (Ok End) (Ok One) → ⊥
 one_not_end e = let z : ◌≡◌ {A = ℕ} 0 1 = cc in omega arith
 
 -- the kind that is there: EN, or another
 module _ (due : Due) (count : ℕ) (s : List ℕ) where
-  end_present : next_of due count s ≡ End → Present due s kinds.End
+  end_present : next_of due count s ≡ (Ok End) → Present due s kinds.End
   unfolding next_of
   end_present e = go (head_of due s) refl e
     where
-      go : (h : Head) → head_of due s ≡ h → next_at h count s ≡ End → Present due s kinds.End
-      go (heads.Refused r) f e = absurd (end_not_stop e)
-      go (heads.Record k) f e =
+      go : (h : Result Kind Refusal) → head_of due s ≡ h → next_at h count s ≡ (Ok End) → Present due s kinds.End
+      go (Err r) f e = absurd (end_not_stop e)
+      go (Ok k) f e =
           by_test (is_kind kinds.End k)
           (λ t. subst (Present due s) (kind_is kinds.End k t) (head_present due s k f))
           (λ t. absurd (one_not_end (sym e ∙ cond_false _ _ t)))
 
-  pub one_there : next_of due count s ≡ One → (k : Kind) × (is_kind kinds.End k ≡ false) × (head_of due s ≡ heads.Record k)
+  pub one_there : next_of due count s ≡ (Ok One) → (k : Kind) × (is_kind kinds.End k ≡ false) × (head_of due s ≡ Ok k)
   unfolding next_of
   one_there e = go (head_of due s) refl e
     where
-      no_one : (t : Bool) → cond t End (Stop CountDiffers) ≡ One → ⊥
+      no_one : (t : Bool) → cond t (Ok End) (Err CountDiffers) ≡ (Ok One) → ⊥
       no_one true e = one_not_end e
       no_one false e = one_not_stop e
 
-      go : (h : Head) → head_of due s ≡ h → next_at h count s ≡ One → (k : Kind) × (is_kind kinds.End k ≡ false) × (head_of due s ≡ heads.Record k)
-      go (heads.Refused r) f e = absurd (one_not_stop e)
-      go (heads.Record k) f e =
+      go : (h : Result Kind Refusal) → head_of due s ≡ h → next_at h count s ≡ (Ok One) → (k : Kind) × (is_kind kinds.End k ≡ false) × (head_of due s ≡ Ok k)
+      go (Err r) f e = absurd (one_not_stop e)
+      go (Ok k) f e =
           by_test (is_kind kinds.End k)
           (λ t. absurd (no_one (eqb (field_at 2 1 s) count) (sym (cond_true _ _ t) ∙ e)))
           (λ t. (k, t, f))
 
 -- a record that is no EN where one is due
-pub record_next : (due : Due) (count : ℕ) (s : List ℕ) (k : Kind) → head_of due s ≡ heads.Record k → is_kind kinds.End k ≡ false → next_of due count s ≡ One
+pub record_next : (due : Due) (count : ℕ) (s : List ℕ) (k : Kind) → head_of due s ≡ Ok k → is_kind kinds.End k ≡ false → next_of due count s ≡ (Ok One)
 unfolding next_of
 record_next due count s k e t = rw (e, t)
 
 -- where EN is not due, a record is one more
-pub other_next : (due : Due) (count : ℕ) (s : List ℕ) (k : Kind) → is_due due kinds.End ≡ false → head_of due s ≡ heads.Record k → next_of due count s ≡ One
+pub other_next : (due : Due) (count : ℕ) (s : List ℕ) (k : Kind) → is_due due kinds.End ≡ false → head_of due s ≡ Ok k → next_of due count s ≡ (Ok One)
 other_next due count s k no_end e =
     by_test (is_kind kinds.End k)
     (λ t. absurd (clash (subst (λ (j : Kind). is_due due j ≡ true) (kind_is kinds.End k t) (head_present due s k e).is_due_law) no_end))
     (record_next due count s k e)
 
-cut_next : (due : Due) (count : ℕ) (s : List ℕ) → length s < 2 → next_of due count s ≡ Stop EndsTooSoon
+cut_next : (due : Due) (count : ℕ) (s : List ℕ) → length s < 2 → next_of due count s ≡ Err EndsTooSoon
 unfolding next_of head_of
 cut_next due count s h = rw (lt-ltb (length s) 2 h)
 
@@ -90,7 +88,7 @@ pub other_kind : (j k : Kind) → (is_kind j k || is_kind kinds.End k) ≡ true 
 other_kind j k d t = ⊎_elim (kind_is j k) (λ h. absurd (clash h t)) (or_cases (is_kind j k) (is_kind kinds.End k) d)
 
 -- a record that is taken is there
-pub one_whole : (due : Due) (count : ℕ) (s : List ℕ) → next_of due count s ≡ One → width_at s ≤ length s
+pub one_whole : (due : Due) (count : ℕ) (s : List ℕ) → next_of due count s ≡ (Ok One) → width_at s ≤ length s
 one_whole due count s e =
     let p = one_there due count s e in
     let there = head_present due s p.0 p.2 in
@@ -102,7 +100,7 @@ module _ {S : Type 0} (f : ListFormat S) where
   OwnKind kind = (state : S) (k : Kind) → is_due (f.due state) k ≡ true → is_kind kinds.End k ≡ false → k ≡ kind
 
   -- so each of its records is as wide as that kind
-  pub own_width : (kind : Kind) → OwnKind kind → (state : S) (count : ℕ) (s : List ℕ) → next_of (f.due state) count s ≡ One → width_at s ≡ 2 + body_width kind
+  pub own_width : (kind : Kind) → OwnKind kind → (state : S) (count : ℕ) (s : List ℕ) → next_of (f.due state) count s ≡ (Ok One) → width_at s ≡ 2 + body_width kind
   own_width kind own state count s e =
       let p = one_there (f.due state) count s e in
       let there = head_present (f.due state) s p.0 p.2 in
@@ -114,21 +112,21 @@ module _ {S : Type 0} (f : ListFormat S) where
   unfolding step_of
   step_end state s e = go (next_of (f.due state) (f.count state) s) refl e
     where
-      go : (x : Next) → next_of (f.due state) (f.count state) s ≡ x → step_at x (f.taken state s) ≡ yields none → Present (f.due state) s kinds.End
-      go (Stop r) p e = absurd (refused_no_result e)
-      go End p e = end_present (f.due state) (f.count state) s p
-      go One p e = absurd (none_some refl (sym (same_result (first_result (f.taken state s) (λ t. yields (some t)) e).2)))
+      go : (x : Result Next Refusal) → next_of (f.due state) (f.count state) s ≡ x → step_at x (f.taken state s) ≡ yields none → Present (f.due state) s kinds.End
+      go (Err r) p e = absurd (refused_no_result e)
+      go (Ok End) p e = end_present (f.due state) (f.count state) s p
+      go (Ok One) p e = absurd (none_some refl (sym (same_result (first_result (f.taken state s) (λ t. yields (some t)) e).2)))
 
   pub step_more : (state : S) (s : List ℕ) {t : S} → step_of f state s ≡ yields (some t)
-      → (next_of (f.due state) (f.count state) s ≡ One) × (f.taken state s ≡ yields t)
+      → (next_of (f.due state) (f.count state) s ≡ (Ok One)) × (f.taken state s ≡ yields t)
   unfolding step_of
   step_more state s {t} e = go (next_of (f.due state) (f.count state) s) refl e
     where
-      go : (x : Next) → next_of (f.due state) (f.count state) s ≡ x → step_at x (f.taken state s) ≡ yields (some t)
-          → (next_of (f.due state) (f.count state) s ≡ One) × (f.taken state s ≡ yields t)
-      go (Stop r) p e = absurd (refused_no_result e)
-      go End p e = absurd (none_some refl (same_result e))
-      go One p e =
+      go : (x : Result Next Refusal) → next_of (f.due state) (f.count state) s ≡ x → step_at x (f.taken state s) ≡ yields (some t)
+          → (next_of (f.due state) (f.count state) s ≡ (Ok One)) × (f.taken state s ≡ yields t)
+      go (Err r) p e = absurd (refused_no_result e)
+      go (Ok End) p e = absurd (none_some refl (same_result e))
+      go (Ok One) p e =
           let w = first_result (f.taken state s) (λ x. yields (some x)) e in
           (p, w.1 ∙ ap (λ (x : S). yields x) (same_some refl (same_result w.2)))
 
@@ -147,7 +145,7 @@ module _ {S : Type 0} (f : ListFormat S) where
       → read_from f bytes state s ≡ and_then (step_of f state s) (following f (read_from f (bytes - 1)) state s)
   unfolding read_from step_of
   read_step zero state s h e =
-      cond_false _ _ e ∙ sym (ap (λ (x : Next). and_then (step_at x (f.taken state s)) (following f (read_from f 0) state s)) (cut_next (f.due state) (f.count state) s (omega arith)))
+      cond_false _ _ e ∙ sym (ap (λ (x : Result Next Refusal). and_then (step_at x (f.taken state s)) (following f (read_from f 0) state s)) (cut_next (f.due state) (f.count state) s (omega arith)))
   read_step (suc bytes) state s h e =
       let less : bytes ≡ suc bytes - 1 = omega arith in
       cond_false _ _ e ∙ ap (λ (k : ℕ). and_then (step_of f state s) (following f (read_from f k) state s)) less

@@ -1,21 +1,20 @@
 -- What stands behind a start of so many bytes changes nothing: a record is read from its own bytes, reading goes from
 -- left to right, and a list has room for no more than so many records.
-use Rattle.std.specs.Prelude.{◌≡◌, Bool, true, false, not, List, [], ◌∷◌, ℕ, zero, suc, ◌+◌, ◌*◌, ◌-◌, ◌≤◌, ◌<◌, eqb, ltb, length, take, drop}
+use Rattle.std.specs.Prelude.{◌≡◌, Bool, true, false, not, List, [], ◌∷◌, ℕ, zero, suc, ◌+◌, ◌*◌, ◌-◌, ◌≤◌, ◌<◌, eqb, ltb, length, take, drop, Result, Ok, Err}
 use Rattle.std.proofs.Math.Path.{refl, ap, ap₂}
 use Rattle.std.proofs.Common.{sym, ◌∙◌, subst, arith, length-take, length-drop, take-take, lt-ltb, le-ltb, ltb-true, ltb-false}
 use Rattle.std.proofs.Math.Bool.{cond}
 use Rattle.std.proofs.Math.Option.{Option, none, some}
 use Rattle.std.proofs.Math.Seq.{take-nil}
+use Rattle.drive_sets.specs.declared.Refusal.{Refusal}
 use Rattle.drive_sets.specs.Bools.Laws.{by_test}
 use Rattle.drive_sets.specs.declared.Refusal.TheVariants.{EndsTooSoon, WrongMark, CountDiffers}
 use Rattle.drive_sets.specs.Refusals.{Outcome, refused, yields, and_then}
 use Rattle.records.specs.declared.Kind.{Kind}
 use Rattle.records.specs.declared.Kind.TheVariants as kinds
 use Rattle.records.specs.declared.Due.{Due}
-use Rattle.records.specs.declared.Head.{Head}
-use Rattle.records.specs.declared.Head.TheVariants.{Record, Refused}
 use Rattle.records.specs.declared.Next.{Next}
-use Rattle.records.specs.declared.Next.TheVariants.{One, End, Stop}
+use Rattle.records.specs.declared.Next.TheVariants.{One, End}
 use Rattle.records.specs.Fields.{from_bytes, field_at}
 use Rattle.records.specs.Marks.{body_width, kind_of, is_kind, is_due, kind_at, width_at, head_of}
 use Rattle.records.specs.RecordLists.{at_record, next_at, next_of, ListFormat, ReadList, step_at, step_of, following, read_from, read_list}
@@ -58,8 +57,8 @@ head_prefix due k s h =
     ap (λ (x : ℕ). head x (ltb (length (take k s)) 2) (ltb (length (take k s)) (2 + body_width (kind_of x)))) (ap from_bytes (take-take 2 k s (omega arith)))
     ∙ ap₂ (λ (a : Bool) (b : Bool). head m a b) (short_prefix 2 k s (omega arith)) (short_prefix (2 + body_width (kind_of m)) k s (omega (arith, body_most (kind_of m))))
   where
-    head : ℕ → Bool → Bool → Head
-    head m a b = cond a (Refused EndsTooSoon) (cond (not (is_due due (kind_of m))) (Refused WrongMark) (cond b (Refused EndsTooSoon) (Record (kind_of m))))
+    head : ℕ → Bool → Bool → Result Kind Refusal
+    head m a b = cond a (Err EndsTooSoon) (cond (not (is_due due (kind_of m))) (Err WrongMark) (cond b (Err EndsTooSoon) (Ok (kind_of m))))
 
 -- ---- what is made of a record
 
@@ -71,9 +70,9 @@ module _ {A B : Type 0} {g : A → Outcome B} where
   pub no_other : {o : Outcome A} → Alike g o o
   no_other = record { same = refl }
 
-  pub at_record_law : (h : Head) {f f' : Kind → Outcome A} → ((kind : Kind) → Alike g (f kind) (f' kind)) → Alike g (at_record h f) (at_record h f')
-  at_record_law (Refused r) alike = no_other
-  at_record_law (Record kind) alike = alike kind
+  pub at_record_law : (h : Result Kind Refusal) {f f' : Kind → Outcome A} → ((kind : Kind) → Alike g (f kind) (f' kind)) → Alike g (at_record h f) (at_record h f')
+  at_record_law (Err r) alike = no_other
+  at_record_law (Ok kind) alike = alike kind
 
   pub by_cond : (t : Bool) {a a' b b' : Outcome A} → Alike g a a' → Alike g b b' → Alike g (cond t a b) (cond t a' b')
   by_cond true p q = p
@@ -92,14 +91,14 @@ module _ {S B : Type 0} (f : ListFormat S) (finish : ReadList S → Outcome B) (
   step_prefix : (state : S) (k : ℕ) (s : List ℕ) → widest ≤ k → step_of f state (take k s) ≡ step_of f state s
   unfolding step_of next_of
   step_prefix state k s h =
-      ap₂ (λ (x : Next) (o : Outcome S). step_at x o)
-      (ap (λ (x : Head). next_at x (f.count state) (take k s)) (head_prefix (f.due state) k s h) ∙ counted (head_of (f.due state) s))
+      ap₂ (λ (x : Result Next Refusal) (o : Outcome S). step_at x o)
+      (ap (λ (x : Result Kind Refusal). next_at x (f.count state) (take k s)) (head_prefix (f.due state) k s h) ∙ counted (head_of (f.due state) s))
       (own state k s h)
     where
-      counted : (x : Head) → next_at x (f.count state) (take k s) ≡ next_at x (f.count state) s
-      counted (Refused r) = refl
-      counted (Record kind) =
-          ap (λ (n : ℕ). cond (is_kind kinds.End kind) (cond (eqb n (f.count state)) End (Stop CountDiffers)) One) (field_prefix 2 1 k s (omega arith))
+      counted : (x : Result Kind Refusal) → next_at x (f.count state) (take k s) ≡ next_at x (f.count state) s
+      counted (Err r) = refl
+      counted (Ok kind) =
+          ap (λ (n : ℕ). cond (is_kind kinds.End kind) (cond (eqb n (f.count state)) (Ok End) (Err CountDiffers)) (Ok One)) (field_prefix 2 1 k s (omega arith))
 
   ends_alike : (state : S) (rest : List ℕ) (j : ℕ) → most ≤ j → Alike finish (yields (record { list = state; rest = take j rest })) (yields (record { list = state; rest = rest }))
   ends_alike state rest j h = record { same = blind state rest j h }

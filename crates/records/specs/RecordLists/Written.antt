@@ -1,18 +1,18 @@
 -- Records that were written are read back, one after another.
-use Rattle.std.specs.Prelude.{◌≡◌, refl, Bool, true, false, cond, eqb, length}
+use Rattle.std.specs.Prelude.{◌≡◌, refl, Bool, true, false, cond, eqb, length, Result, Ok, Err}
 use Rattle.std.proofs.Common.{sym, ◌∙◌, arith, drop_at, eq-eqb}
 use Rattle.std.proofs.Math.Path.{ap}
 use mathlib.Core.List.{List, [], ◌∷◌, ◌++◌, append-nil, append_assoc}
 use Prim.Native.Nat.{ℕ, zero, suc, ◌+◌, ◌*◌, ◌<◌}
 use Rattle.std.proofs.Math.ListN.{drop, length-append}
+use Rattle.drive_sets.specs.declared.Refusal.{Refusal}
 use Rattle.drive_sets.specs.Bools.Laws.{cond_false}
 use Rattle.drive_sets.specs.declared.Refusal.TheVariants.{CountDiffers}
 use Rattle.drive_sets.specs.Refusals.{Outcome, refused, yields, and_then}
 use Rattle.records.specs.declared.Kind.{Kind}
 use Rattle.records.specs.declared.Kind.TheVariants as kinds
-use Rattle.records.specs.declared.Head.{Head}
 use Rattle.records.specs.declared.Next.{Next}
-use Rattle.records.specs.declared.Next.TheVariants.{One, End, Stop}
+use Rattle.records.specs.declared.Next.TheVariants.{One, End}
 use Rattle.records.specs.Fields.{to_bytes, field_at}
 use Rattle.records.specs.Fields.Laws.{length_to_bytes}
 use Rattle.records.specs.Marks.{mark, body_width, is_kind, is_due, width_at, record_bytes}
@@ -49,14 +49,14 @@ module _ {S : Type 0} (f : ListFormat S) where
         let there = head_body (f.due state) kind (body ++ rest) due (omega (arith, length-append body rest)) in
         let found = head_present (f.due state) s kind there in
         cond_false _ _ going
-        ∙ (ap (λ (n : Next). and_then (step_at n (f.taken state s)) (following f (read_from f bytes) state s)) (record_next (f.due state) (f.count state) s kind there no_end)
+        ∙ (ap (λ (n : Result Next Refusal). and_then (step_at n (f.taken state s)) (following f (read_from f bytes) state s)) (record_next (f.due state) (f.count state) s kind there no_end)
         ∙ (then_some (f.taken state s)
         ∙ ap (λ (l : List ℕ). and_then (f.taken state s) (λ t. read_from f bytes t l)) (ap (λ (k : Kind). drop (2 + body_width k) s) found.is ∙ behind)))
       where
         s : List ℕ
         s = to_bytes 2 (mark kind) ++ (body ++ rest)
 
-        then_some : (o : Outcome S) → and_then (step_at One o) (following f (read_from f bytes) state s) ≡ and_then o (λ t. read_from f bytes t (drop (width_at s) s))
+        then_some : (o : Outcome S) → and_then (step_at (Ok One) o) (following f (read_from f bytes) state s) ≡ and_then o (λ t. read_from f bytes t (drop (width_at s) s))
         then_some (refused r) = refl
         then_some (yields t) = refl
 
@@ -82,10 +82,10 @@ module _ {S : Type 0} (f : ListFormat S) where
     unfolding read_from step_of next_of is_kind body_width
     read_end bytes going due few =
         cond_false _ _ (going s)
-        ∙ (ap (λ (h : Head). and_then (step_at (next_at h (f.count state) s) (f.taken state s)) (following f (read_from f bytes) state s)) (head_record (f.due state) kinds.End (f.count state) rest due)
-        ∙ (ap (λ (b : Bool). and_then (step_at (cond (eqb (mark kinds.End) (mark kinds.End)) (cond b End (Stop CountDiffers)) One) (f.taken state s)) (following f (read_from f bytes) state s))
+        ∙ (ap (λ (h : Result Kind Refusal). and_then (step_at (next_at h (f.count state) s) (f.taken state s)) (following f (read_from f bytes) state s)) (head_record (f.due state) kinds.End (f.count state) rest due)
+        ∙ (ap (λ (b : Bool). and_then (step_at (cond (eqb (mark kinds.End) (mark kinds.End)) (cond b (Ok End) (Err CountDiffers)) (Ok One)) (f.taken state s)) (following f (read_from f bytes) state s))
         (eq-eqb (field_at 2 1 s) (f.count state) (record_field (mark kinds.End) 1 (f.count state) rest few))
-        ∙ (ap (λ (b : Bool). and_then (step_at (cond b End One) (f.taken state s)) (following f (read_from f bytes) state s)) (eq-eqb (mark kinds.End) (mark kinds.End) refl)
+        ∙ (ap (λ (b : Bool). and_then (step_at (cond b (Ok End) (Ok One)) (f.taken state s)) (following f (read_from f bytes) state s)) (eq-eqb (mark kinds.End) (mark kinds.End) refl)
         ∙ ap (λ (l : List ℕ). yields (record { list = state; rest = l })) (record_rest (mark kinds.End) 1 (f.count state) rest))))
       where
         s : List ℕ

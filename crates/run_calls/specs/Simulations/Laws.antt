@@ -1,11 +1,10 @@
 -- No simulated exchange is refused with the number 0: so a reply has refusal 0 exactly where the call is accepted.
-use Rattle.std.specs.Prelude.{refl, not, ℕ, ltb}
+use Rattle.std.specs.Prelude.{refl, not, ℕ, ltb, is_none}
 use mathlib.Core.List.{List, [], ◌∷◌}
 use Rattle.drive_sets.specs.Counts.{is_round}
 use Rattle.drive_sets.specs.Masks.{lowest}
 use Rattle.drive_sets.specs.Refusals.{Outcome, yields}
 use Rattle.drive_sets.specs.Refusals.Numbered.{Numbered, result_numbered, if_numbered, then_numbered}
-use Rattle.drive_sets.specs.Positions.{is_none}
 use Rattle.survivor_tables.specs.Hitting.{first_missed}
 use Rattle.records.specs.Fields.{field_at}
 use Rattle.records.specs.RecordLists.{read_list}

@@ -1,6 +1,6 @@
 -- What a run file that is not refused says: a pattern number to each drive, crashes that pass 8, 9 and 10, drives
 -- rising, and a survivor set that no crash touches.
-use Rattle.std.specs.Prelude.{◌≡◌, true, false, not, cond, ℕ, ◌-◌, ◌≤◌, ◌<◌, eqb, leb, ltb, length, get_or}
+use Rattle.std.specs.Prelude.{◌≡◌, true, false, not, cond, ℕ, ◌-◌, ◌≤◌, ◌<◌, eqb, leb, ltb, length, get_or, is_none}
 use Rattle.std.proofs.Math.Path.{refl, subst}
 use Rattle.std.proofs.Common.{sym, ap, ◌∙◌, ⊎_elim, arith}
 use mathlib.Core.List.{List, [], ◌∷◌}
@@ -17,7 +17,6 @@ use Rattle.drive_sets.specs.Options.Laws.{none_some, same_some, none_of}
 use Rattle.drive_sets.specs.declared.Refusal.TheVariants.{TrailingBytes, NoneUntouched}
 use Rattle.drive_sets.specs.Refusals.{yields}
 use Rattle.drive_sets.specs.Refusals.Laws.{same_result, passed, first_result}
-use Rattle.drive_sets.specs.Positions.{is_none}
 use Rattle.survivor_tables.specs.Hitting.{first_missed}
 use Rattle.survivor_tables.specs.Hitting.Laws.{some_missed}
 use Rattle.survivor_tables.specs.Order.{normal}

@@ -1,6 +1,6 @@
 -- Where the simulated exchange is not refused, its scenario is valid and some survivor set is untouched: so it reaches
 -- agreement, and every run of the scenario gives what it gives.
-use Rattle.std.specs.Prelude.{◌≡◌, refl, false, not, ℕ, ◌-◌, ◌≤◌, ◌<◌, eqb, leb, ltb, get_or}
+use Rattle.std.specs.Prelude.{◌≡◌, refl, false, not, ℕ, ◌-◌, ◌≤◌, ◌<◌, eqb, leb, ltb, get_or, is_none}
 use Rattle.std.proofs.Math.Path.{sym, ap, subst}
 use Rattle.std.proofs.Common.{◌∙◌, ⊎_elim, arith}
 use Rattle.std.proofs.Math.Bool.{true}
@@ -15,7 +15,6 @@ use Rattle.drive_sets.specs.Masks.Laws.{meets_not}
 use Rattle.drive_sets.specs.Masks.Sizes.{has_of_drives}
 use Rattle.drive_sets.specs.Refusals.{Outcome, yields}
 use Rattle.drive_sets.specs.Refusals.Laws.{passed, first_result, same_result}
-use Rattle.drive_sets.specs.Positions.{is_none}
 use Rattle.survivor_tables.specs.Hitting.{first_missed}
 use Rattle.survivor_tables.specs.Hitting.Laws.{some_missed}
 use Rattle.survivor_tables.specs.Order.{normal}

@@ -1,5 +1,4 @@
 -- Stopped, undecided, or the decision with its round.
-use borrow.Author.Tests.{eq-eqb, ne_eqb}
 use Rattle.simulated_decisions.specs.Endings.{ending_by, ending_for}
 use Rattle.simulation_replies.proofs.ending_of.Goals as goal
 
@@ -7,10 +6,10 @@ pub returns-then-crashes : goal.returns-then-crashes
 unfolding ending_for ending_by
 returns-then-crashes c = rw c.if-crashes.true
 
-pub returns-then-round-eq0 : goal.returns-then-round-eq0
+pub returns-in-None : goal.returns-in-None
 unfolding ending_for ending_by
-returns-then-round-eq0 c = rw (c.if-crashes.false, eq-eqb _ 0 c.if-round-eq0.true) c.no_ending.ensures
+returns-in-None c = rw (c.if-crashes.false, c.in-None.is) c.no_ending.ensures
 
-pub returns : goal.returns
+pub returns-in-Some : goal.returns-in-Some
 unfolding ending_for ending_by
-returns c = rw (c.if-crashes.false, ne_eqb _ 0 c.if-round-eq0.false)
+returns-in-Some c = rw (c.if-crashes.false, c.in-Some.is)

@@ -6,24 +6,21 @@ use Rattle.splits.proofs.move_one.Goals as goal
 
 pub returns-in_default : goal.returns-in_default
 unfolding moved
-returns-in_default c = rw (← c.first_large-large.ensures, c.in_default.is)
+returns-in_default c = rw (← c.first_large.ensures, c.in_default.is-0, ← c.first_empty.ensures, c.in_default.is-1)
 
-pub returns-in_default-empty : goal.returns-in_default-empty
+pub returns-in_default-2 : goal.returns-in_default-2
 unfolding moved
-returns-in_default-empty c = rw (← c.first_large-large.ensures, c.in-At.is, ← c.first_empty-empty.ensures, c.in_default-empty.is)
+returns-in_default-2 c = rw (← c.first_large.ensures, c.in_default.is-0)
 
 pub overflow_sub-from : goal.overflow_sub-from
-unfolding moved
-overflow_sub-from c = (place_within _ _ c.first_large-large.ensures c.in-At.is).0
+overflow_sub-from c = (place_within _ _ c.first_large.ensures c.in-Some-Some.is-0).0
 
 pub overflow_sub-to : goal.overflow_sub-to
-unfolding moved
-overflow_sub-to c = (place_within _ _ c.first_empty-empty.ensures c.in-At-empty.is).0
+overflow_sub-to c = (place_within _ _ c.first_empty.ensures c.in-Some-Some.is-1).0
 
 pub move_lowest-requires : goal.move_lowest-requires
-unfolding moved
-move_lowest-requires c = ((place_within _ _ c.first_large-large.ensures c.in-At.is).1, (place_within _ _ c.first_empty-empty.ensures c.in-At-empty.is).1)
+move_lowest-requires c = ((place_within _ _ c.first_large.ensures c.in-Some-Some.is-0).1, (place_within _ _ c.first_empty.ensures c.in-Some-Some.is-1).1)
 
 pub returns : goal.returns
 unfolding moved
-returns c = c.move_lowest.ensures ∙ rw (← c.first_large-large.ensures, c.in-At.is, ← c.first_empty-empty.ensures, c.in-At-empty.is)
+returns c = c.move_lowest.ensures ∙ rw (← c.first_large.ensures, c.in-Some-Some.is-0, ← c.first_empty.ensures, c.in-Some-Some.is-1)

@@ -1,7 +1,7 @@
 -- The moves that leave no block empty. They keep the blocks parted, and each block afterwards is part of one before.
 -- Where the frame has no fewer drives than there are blocks, one has two or more while one is empty, so each move takes
 -- one from the number of empty blocks, and the moves end with none.
-use Rattle.std.specs.Prelude.{◌≡◌, true, false, List, [], ◌∷◌, length, get_or}
+use Rattle.std.specs.Prelude.{◌≡◌, true, false, List, [], ◌∷◌, length, get_or, None, Some}
 use Rattle.std.proofs.Math.Path.{refl}
 use Rattle.std.proofs.Common.{sym, ap, ◌∙◌, length-set, eqb-true, leb-true, leb-false}
 use Rattle.std.proofs.Math.Bool.{not}
@@ -9,8 +9,7 @@ use Prim.Native.Nat.{ℕ, zero, suc, ◌+◌, ◌-◌, ◌^◌, ◌≤◌, ◌<�
 use native.Mathlib.Omega.{arith}
 use Rattle.std.proofs.Math.Dec.{eqb, leb}
 use Rattle.std.proofs.lemmas.Bool.{not-true, not-false}
-use Rattle.drive_sets.specs.declared.Position.{Position}
-use Rattle.drive_sets.specs.declared.Position.TheVariants.{None, At}
+use Rattle.drive_sets.specs.Positions.{Position}
 use Rattle.drive_sets.specs.Bools.Laws.{by_test, false_of, and_left, and_right, true_one}
 use Rattle.drive_sets.specs.Lists.{filter, all, elem}
 use Rattle.drive_sets.specs.Lists.Counts.{length_filter_true, length_filter_false, length_filter_none, length_filter_elem}
@@ -55,7 +54,7 @@ part_trans n last middle first parted p q b e =
     let d = q c.0 c.1 in
     (d.0, d.1, subset_trans n b c.0 d.0 (parted.within b e) c.2 d.2)
 
-movable : (blocks : List ℕ) {from to : ℕ} → first_large blocks ≡ At from → first_empty blocks ≡ At to → Movable blocks (from - 1) (to - 1)
+movable : (blocks : List ℕ) {from to : ℕ} → first_large blocks ≡ Some from → first_empty blocks ≡ Some to → Movable blocks (from - 1) (to - 1)
 movable blocks {from = from} {to = to} q p =
     let e = failing_at (λ b. not (eqb b 0)) 1 blocks to p in
     let l = failing_at (λ b. leb (size b) 1) 1 blocks from q in
@@ -74,8 +73,8 @@ length_moved blocks = go (first_large blocks) (first_empty blocks)
   where
     go : (from to : Position) → length (move_between blocks from to) ≡ length blocks
     go None to = refl
-    go (At from) None = refl
-    go (At from) (At to) = simp length-set
+    go (Some from) None = refl
+    go (Some from) (Some to) = simp length-set
 
 length_moves : (left : ℕ) (blocks : List ℕ) → length (moves left blocks) ≡ length blocks
 unfolding moves
@@ -93,8 +92,8 @@ module _ (n : ℕ) (frame : n ≤ 64) where
     where
       go : (from to : Position) → first_large blocks ≡ from → first_empty blocks ≡ to → Parted n (move_between blocks from to) × PartOf (move_between blocks from to) blocks
       go None to p q = (before, part_refl blocks)
-      go (At from) None p q = (before, part_refl blocks)
-      go (At from) (At to) p q =
+      go (Some from) None p q = (before, part_refl blocks)
+      go (Some from) (Some to) p q =
           let m = movable blocks p q in
           (move_keeps n frame blocks before (from - 1) (to - 1) m, move_part n frame blocks before (from - 1) (to - 1) m)
 
@@ -106,8 +105,8 @@ module _ (n : ℕ) (frame : n ≤ 64) where
       go : (from to : Position) → first_large blocks ≡ from → first_empty blocks ≡ to → empties (move_between blocks from to) ≡ empties blocks - 1
       go None to p q =
           omega (arith, size_full n frame, crowded blocks (full n) (full_word n) ((failing_none (λ b. leb (size b) 1) 1 blocks).0 p) (λ d h. omega (arith, before.one d, true_one h)))
-      go (At from) None p q = omega (arith, length_filter_none (λ b. eqb b 0) blocks ((failing_none (λ b. not (eqb b 0)) 1 blocks).0 q))
-      go (At from) (At to) p q = omega (arith, move_fills n frame blocks before (from - 1) (to - 1) (movable blocks p q))
+      go (Some from) None p q = omega (arith, length_filter_none (λ b. eqb b 0) blocks ((failing_none (λ b. not (eqb b 0)) 1 blocks).0 q))
+      go (Some from) (Some to) p q = omega (arith, move_fills n frame blocks before (from - 1) (to - 1) (movable blocks p q))
 
   moves_keep : (left : ℕ) (blocks : List ℕ) → Parted n blocks → Parted n (moves left blocks) × PartOf (moves left blocks) blocks
   unfolding moves

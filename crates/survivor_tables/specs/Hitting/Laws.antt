@@ -1,12 +1,10 @@
 -- Hitting sets and minimal ones: of more sets, of the same sets in another list, of sets of the drives 1 to n.
-use Rattle.std.specs.Prelude.{◌≡◌, refl, true, false, ◌&&◌, ◌↔◌, List, [], ◌∷◌, ◌++◌, ℕ, ◌^◌, ◌≤◌, ◌<◌, get_or}
+use Rattle.std.specs.Prelude.{◌≡◌, refl, true, false, ◌&&◌, ◌↔◌, List, [], ◌∷◌, ◌++◌, ℕ, ◌^◌, ◌≤◌, ◌<◌, get_or, None, Some, is_none}
 use Rattle.std.proofs.Common.{sym, ap, ◌∙◌, subst, le_refl}
-use Rattle.drive_sets.specs.declared.Position.TheVariants.{None, At}
 use Rattle.drive_sets.specs.Bools.Laws.{clash, and_intro, and_left, and_right}
 use Rattle.drive_sets.specs.Lists.{all, elem}
 use Rattle.drive_sets.specs.Lists.FirstFailing.{First, failing_none, failing_at}
 use Rattle.drive_sets.specs.Lists.Places.{get_or_elem}
-use Rattle.drive_sets.specs.Positions.{is_none}
 use Rattle.drive_sets.specs.Positions.Laws.{by_position}
 use Rattle.drive_sets.specs.Lists.Laws.{all_elem, all_intro, all_append, all_same_elements}
 use Rattle.drive_sets.specs.Masks.{has, full, common, meets, subset, Below}
@@ -21,7 +19,7 @@ unfolding hits
 none_missed sets m = failing_none (λ s. meets s m) 1 sets
 
 -- and the first that it misses stands at this position: it misses that one, and meets those before it
-pub missed_at : (sets : List ℕ) (m p : ℕ) → first_missed sets m ≡ At p → First (λ s. meets s m) 1 sets p
+pub missed_at : (sets : List ℕ) (m p : ℕ) → first_missed sets m ≡ Some p → First (λ s. meets s m) 1 sets p
 missed_at sets m p h = failing_at (λ s. meets s m) 1 sets p h
 
 pub some_missed : (sets : List ℕ) (m : ℕ) → is_none (first_missed sets m) ≡ false → (s : ℕ) × (elem s sets ≡ true) × (meets s m ≡ false)

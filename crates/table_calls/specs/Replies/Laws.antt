@@ -1,6 +1,6 @@
 -- No call given n and sets is refused with the number 0: so a reply has refusal 0 exactly where the call is accepted.
 use Rattle.std.specs.Prelude.{◌≡◌, refl, not, ◌&&◌, List, ℕ, leb, ltb, length}
-use Rattle.drive_sets.specs.declared.Position.{Position}
+use Rattle.drive_sets.specs.Positions.{Position}
 use Rattle.drive_sets.specs.Lent.{fitting}
 use Rattle.drive_sets.specs.Lent.Laws.{put_numbered}
 use Rattle.drive_sets.specs.Limits.{max_sets}
@@ -12,15 +12,23 @@ use Rattle.table_files.specs.Files.{table_bytes}
 use Rattle.table_writing.specs.Writing.{write_table}
 use Rattle.complete_tables.specs.Complete.{complete_table}
 use Rattle.threshold.specs.Threshold.{threshold_sets, threshold_table, threshold_list}
+use Rattle.verdict_search.specs.Held.{answer_of, with_blocks}
+use Rattle.verdict_search.specs.Verdicts.{Verdict, yes, no}
 use Rattle.verdicts.specs.Calls.{judged, verdict}
 use Rattle.c_replies.specs.Replies.{refusal_of}
-use Rattle.table_calls.specs.Replies.{missed_reply}
+use Rattle.table_calls.specs.Replies.{missed_reply, verdict_reply}
 
 -- ---- a reply's refusal is the outcome's
 
 pub missed_refusal : (o : Outcome Position) → (missed_reply o).refusal ≡ refusal_of o
 missed_refusal (refused r) = refl
 missed_refusal (yields p) = refl
+
+pub verdict_refusal : (o : Outcome Verdict) → (verdict_reply o).refusal ≡ refusal_of o
+unfolding answer_of with_blocks
+verdict_refusal (refused r) = refl
+verdict_refusal (yields yes) = refl
+verdict_refusal (yields (no positions blocks)) = refl
 
 -- ---- the calls given n and sets, or groups
 

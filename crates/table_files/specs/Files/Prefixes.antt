@@ -1,13 +1,14 @@
 -- What stands behind the first 4096 bytes of a list of masks changes nothing: a program may leave it unread. A list has
 -- room for no more than 128 masks.
-use Rattle.std.specs.Prelude.{◌≡◌, refl, not, List, [], ◌∷◌, ◌++◌, leb, length, take, drop}
+use Rattle.records.specs.declared.Kind.{Kind}
+use Rattle.std.specs.Prelude.{◌≡◌, refl, not, List, [], ◌∷◌, ◌++◌, leb, length, take, drop, Result}
 use Rattle.std.proofs.Common.{sym, ap, ◌∙◌, subst, arith, length-append, leb-false}
 use Prim.Native.Nat.{ℕ, zero, suc, ◌+◌, ◌-◌, ◌≤◌, ◌<◌}
+use Rattle.drive_sets.specs.declared.Refusal.{Refusal}
 use Rattle.drive_sets.specs.declared.Refusal.TheVariants.{FrameSize, TooManySets, TrailingBytes}
 use Rattle.drive_sets.specs.Refusals.{Outcome, yields, refuse_if, and_then}
 use Rattle.drive_sets.specs.Refusals.Laws.{passed, first_result, same_result, then_then}
 use Rattle.records.specs.declared.Due.TheVariants.{AtRecord}
-use Rattle.records.specs.declared.Head.{Head}
 use Rattle.records.specs.declared.Kind.TheVariants.{Frame}
 use Rattle.records.specs.Fields.{field_at}
 use Rattle.records.specs.Marks.{head_of}
@@ -56,7 +57,7 @@ module _ {B : Type 0} (kind : MaskKind) (finish : ReadTable → Outcome B) (most
   pub listed_prefix : (s : List ℕ) (k : ℕ) → 1551 + most ≤ k → and_then (read_listed kind (take k s)) finish ≡ and_then (read_listed kind s) finish
   unfolding read_listed
   listed_prefix s k h =
-      (subst (λ (x : Head). Alike finish (at_record x (λ frame. sized (field_at 2 1 (take k s)) (drop 3 (take k s)))) (read_listed kind s))
+      (subst (λ (x : Result Kind Refusal). Alike finish (at_record x (λ frame. sized (field_at 2 1 (take k s)) (drop 3 (take k s)))) (read_listed kind s))
       (sym (head_prefix (AtRecord Frame) k s (omega arith)))
       (at_record_law (head_of (AtRecord Frame) s) (λ frame. all_masks))).same
     where

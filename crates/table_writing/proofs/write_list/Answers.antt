@@ -1,14 +1,9 @@
 -- Too many, no room, or all of it.
+use Rattle.std.proofs.Common.{not, refl, sym, ap, lt-ltb, le-ltb}
 use Rattle.lent_bytes.proofs.Buffers.{written_none, written_all}
 use Rattle.table_files.specs.Files.{file_bytes}
 use Rattle.table_writing.specs.Writing.{write_list}
 use Rattle.table_writing.proofs.Writes.{length_file}
-use Prim.Native.Nat.{◌+◌, ◌*◌}
-use lib.ListN.{length}
-use native.Mathlib.Omega.{arith}
-use borrow.Author.Tests.{lt-ltb, le-ltb, leb-true}
-use mathlib.Core.Path.{refl, sym, ap, ◌∙◌}
-use mathlib.Core.Bool.{not}
 use Rattle.table_writing.proofs.write_list.Goals as goal
 
 pub returns-then-masks-gt-MAX_SETS : goal.returns-then-masks-gt-MAX_SETS
@@ -18,16 +13,6 @@ returns-then-masks-gt-MAX_SETS c = rw (lt-ltb 128 _ c.if-masks-gt-MAX_SETS.true)
 pub returns-then-not-fits : goal.returns-then-not-fits
 unfolding write_list
 returns-then-not-fits c = let a = c.args in rw (le-ltb 128 _ c.if-masks-gt-MAX_SETS.false) (written_none (file_bytes a.kind a.n a.masks.now) a.start a.buf.now _ (sym (length_file a.kind a.n a.masks.now)) _ c.fits.ensures (ap not c.if-not-fits.true))
-
-pub slice_bounds-put_list-count : goal.slice_bounds-put_list-count
-unfolding write_list
-slice_bounds-put_list-count c = let a = c.args in
-    omega (arith, leb-true (a.start + (6 + 10 * length a.masks.now)) (length a.buf.now) (sym c.fits.ensures ∙ c.if-not-fits.false))
-
-pub slice_bounds-put_list-start : goal.slice_bounds-put_list-start
-slice_bounds-put_list-start c =
-    let a = c.args in
-    omega (arith, leb-true (a.start + (6 + 10 * length a.masks.now)) (length a.buf.now) (sym c.fits.ensures ∙ c.if-not-fits.false))
 
 pub returns : goal.returns
 unfolding write_list

@@ -1,41 +1,35 @@
 -- The refusals of the sets; then the groups of t + 1 drives beside them, in order.
-use mathlib.Core.Path.{sym, ◌∙◌}
-use Prim.Native.Nat.{◌≤◌}
-use native.Mathlib.Omega.{arith}
+use Rattle.std.specs.Prelude.{◌≤◌, length}
+use Rattle.std.proofs.Common.{sym, ap, ◌∙◌, arith}
+use Rattle.std.proofs.lemmas.Result.{err_from_is_err_and}
+use Rattle.arrayvec.proofs.ArrayVecLemmas.{items-with_items}
 use Rattle.drive_sets.specs.Limits.{max_cores}
-use Rattle.drive_sets.specs.Refusals.Laws.{accepted_not_refused}
-use Rattle.complete_tables.specs.Complete.{Complete, complete_outcome, sets_of}
-use Rattle.tables.proofs.CallAnswers.{list_said}
+use Rattle.complete_tables.specs.Complete.{Complete}
 use Rattle.complete_tables.proofs.Accepts.{then_refused}
+use Rattle.threshold.specs.Groups.{group_count}
 use Rattle.threshold.specs.Threshold.{threshold_table, threshold_cores, threshold_complete, threshold_list}
 use Rattle.threshold.specs.Threshold.Laws.{list_given}
-use Rattle.threshold.proofs.Fills.{sorted_groups}
+use Rattle.threshold.proofs.Fills.{sorted_whole}
 use Rattle.threshold.proofs.threshold_table.Goals as goal
 
-pub overflow_add-t : goal.overflow_add-t
-overflow_add-t c = let w = (list_given _ _ _ (sym (list_said _ c.threshold_sets-made.result c.threshold_sets-made.ensures.value _ c.in-Accepted.is))).0 in omega (arith, w.below, w.high)
-
-pub fill_groups-found-requires : goal.fill_groups-found-requires
-fill_groups-found-requires c = let w = (list_given _ _ _ (sym (list_said _ c.threshold_sets-made.result c.threshold_sets-made.ensures.value _ c.in-Accepted.is))).0 in (omega (arith, w.below), w.high, w.cores)
-
-pub returns-in-Refused : goal.returns-in-Refused
+pub returns-in_err-sets : goal.returns-in_err-sets
 unfolding threshold_list
-returns-in-Refused c =
-    let m = c.threshold_sets-made in
-    let a = c.args in
-    let said = sym (list_said (threshold_list a.n a.t) m.result m.ensures.value _ c.in-Refused.is) in
-    record { value = c.refused.ensures.value ∙ sym (then_refused (threshold_table a.n a.t) (λ (t : Complete). t.sets) said); within = c.refused.ensures.within }
+returns-in_err-sets c =
+    let p = err_from_is_err_and c.from_residual.result c.from_residual.ensures.1 in
+    rw (p.1, p.2, then_refused (threshold_table c.args.n c.args.t) (λ (t : Complete). t.sets) (sym c.in_err-sets.ensures))
 
-pub returns-in-Accepted : goal.returns-in-Accepted
-unfolding complete_outcome sets_of threshold_complete threshold_cores
-returns-in-Accepted c =
-    let w = list_given _ _ _ (sym (list_said _ c.threshold_sets-made.result c.threshold_sets-made.ensures.value _ c.in-Accepted.is)) in
-    let filled = c.fill_groups-found.ensures in
-    let few : c.fill_groups-found.result ≤ max_cores = omega (arith, filled.0, w.0.cores) in record {
-      value = rw (w.0.table, w.1, sorted_groups _ _ _ _ _ few (omega (arith, few)) filled.1 c.sort.ensures);
-      within = record {
-        sets = c.threshold_sets-made.ensures.within.sets;
-        cores = few;
-        alone = λ r e. absurd (accepted_not_refused e);
-      };
-    }
+pub overflow_add-t : goal.overflow_add-t
+overflow_add-t c = let w = list_given _ _ _ (sym c.in_ok-sets.ensures) in omega (arith, w.0.below, w.0.high)
+
+pub all_groups-cores-requires : goal.all_groups-cores-requires
+all_groups-cores-requires c =
+    let w = list_given _ _ _ (sym c.in_ok-sets.ensures) in (omega (arith, w.0.below), w.0.high, w.0.cores)
+
+pub returns : goal.returns
+unfolding threshold_complete threshold_cores group_count
+returns c =
+    let w = list_given _ _ _ (sym c.in_ok-sets.ensures) in
+    let same = c.as_mut_slice.ensures.value in
+    let few : length c.as_mut_slice.result.now ≤ max_cores = omega (arith, ap length (same ∙ c.all_groups-cores.ensures), w.0.cores) in
+    rw (w.0.table, w.1, items-with_items c.all_groups-cores.result _ (c.sort.auto.a ∙ ap length same), c.sort.ensures)
+    (rw (sorted_whole _ _ (c.len-found.ensures.value ∙ sym (ap length same)) few, same, c.all_groups-cores.ensures))

@@ -5,4 +5,4 @@ use Rattle.verdict_lines.specs.VerdictLines.{verdict_line}
 use Rattle.verdict_lines.proofs.put_verdict_on.Goals as goal
 
 pub returns : goal.returns
-returns c = filled_same (ap (verdict_line c.args.k) (sym c.verdict_on-judged.ensures.says)) c.put_verdict.ensures
+returns c = filled_same (ap (verdict_line c.args.k) (sym c.verdict_on.ensures.says)) c.put_verdict.ensures

@@ -1,8 +1,6 @@
 -- The search for k positions, by recursion on k: nothing where any k share a drive, else what is found from here on is
 -- what the whole gives.
-use lib.ListN.{length}
 use Rattle.verdict_search.proofs.Loops.{Searching}
-use Prim.Native.Nat.{◌-◌}
 use Rattle.verdict_search.proofs.+disjoint.Given as goal
 
 abbrev pub decreases-disjoint : goal.decreases-disjoint
@@ -10,6 +8,3 @@ decreases-disjoint l = l.k
 
 abbrev pub invariant-loop-i : goal.invariant-loop-i
 invariant-loop-i l = Searching l.k l.table l.from l.shared l.i
-
-abbrev pub decreases-loop-i : goal.decreases-loop-i
-decreases-loop-i l = length l.table - l.i

@@ -1,18 +1,15 @@
--- The drives that every set has: the sets seen, then those to come.
-use mathlib.Core.Path.{refl}
+-- The drives that every set has, as a fold.
+use Rattle.std.proofs.Common.{◌≡◌, ℕ, List, [], ◌∷◌, bit_and, fold, refl, ◌∙◌, rules}
 use Rattle.drive_sets.specs.Masks.{common}
-use Rattle.drive_sets.specs.Loops.Scan.{scan_start, scan_turn, scan_end}
 use Rattle.verdict_search.specs.Meaning.{in_every}
 use Rattle.verdict_search.proofs.in_every.Goals as goal
 
-pub loop-i-init : goal.loop-i-init
-unfolding common in_every
-loop-i-init c = scan_start _ _
-
-pub loop-i-preserved : goal.loop-i-preserved
-unfolding common in_every
-loop-i-preserved c = scan_turn c.loop-i.invariant c.loop-i-test.true _ refl
+fold_every : (m : ℕ) (sets : List ℕ) → fold (λ (a s : ℕ). bit_and a s) m sets ≡ in_every m sets
+unfolding in_every common
+fold_every m [] = refl
+fold_every m (s ∷ sets) = fold_every (bit_and m s) sets
 
 pub returns : goal.returns
-unfolding common in_every
-returns c = scan_end c.loop-i.invariant c.loop-i-test.false
+returns c =
+    let folded : c.fold.result ≡ fold (λ (a s : ℕ). bit_and a s) c.args.shared c.args.table.now = search rules in
+    folded ∙ fold_every c.args.shared c.args.table.now

@@ -1,7 +1,6 @@
 -- The two marks, word after word.
 use mathlib.Core.Path.{ap}
 use Prim.Native.Nat.{ℕ}
-use native.Mathlib.Omega.{arith}
 use lib.ListN.{get_or}
 use borrow.Author.Rules.{rules}
 use Rattle.drive_sets.specs.Masks.{union, common}
@@ -14,6 +13,3 @@ loop-i-preserved c =
     let l = c.loop-i.invariant in
     let a = c.args in
     (made_turn _ l.0 (search rules) _ c.minus.ensures, made_turn _ l.1 (search rules) _ (ap (λ (x : ℕ). union x (common (get_or a.missed.now c.loop-i.i 0) (get_or a.column.now c.loop-i.i 0))) c.minus-in-loop-i.ensures))
-
-pub returns : goal.returns
-returns c = (λ j h. c.loop-i.invariant.0.each j (omega (arith, c.loop-i-test.false)), λ j h. c.loop-i.invariant.1.each j (omega (arith, c.loop-i-test.false)))

@@ -10,7 +10,7 @@ use Rattle.hitting_sets.proofs.Trials.{try_start, try_minimal, try_tracked, try_
 use Rattle.hitting_sets.proofs.Tracking.{columns_room}
 use Rattle.hitting_sets.proofs.Places.{missed_next, none_next, passed_minimal}
 use Rattle.hitting_sets.proofs.search.+search_from.Goals as goal
-use Rattle.hitting_sets.proofs.search.+search_from.Goals.{in-None, in-At}
+use Rattle.hitting_sets.proofs.search.+search_from.Goals.{in-None, in-Some}
 
 pub candidates-rest-requires : goal.candidates-rest-requires
 candidates-rest-requires t c =
@@ -50,7 +50,7 @@ pub put-sum-requires : goal.put-sum-requires
 put-sum-requires t c = (try_fuel c.loop-rest.invariant.0 c.goes_on.ensures c.if-goes_on.true).0
 
 pub overflow_sub-i : goal.overflow_sub-i
-overflow_sub-i t c = (missed_next _ _ _ _ (sym c.next_marked-first.ensures ∙ c.in-At.is)).0
+overflow_sub-i t c = (missed_next _ _ _ _ (sym c.next_marked-first.ensures ∙ c.in-Some.is)).0
 
 pub search_from-sum-requires : goal.search_from-sum-requires
 search_from-sum-requires t c =
@@ -59,7 +59,7 @@ search_from-sum-requires t c =
     let y = c.loop-rest.invariant.0 in
     let w = taken y.word c.loop-rest-test.true c.lowest-d.ensures refl in
     let k = start.requires.4 in
-    let f = missed_next a.sets.now _ _ _ (sym c.next_marked-first.ensures ∙ c.in-At.is) in
+    let f = missed_next a.sets.now _ _ _ (sym c.next_marked-first.ensures ∙ c.in-Some.is) in
     let more = try_tracked y w _ c.insert-t.ensures start.ranges.m.fits k _ c.column-held.ensures c.take_drive.new.left c.take_drive.new.alone (omega (arith, k.few, c.take_drive.auto.left, c.loop-rest.invariant.2)) (omega (arith, k.few, c.take_drive.auto.alone, c.loop-rest.invariant.3)) c.take_drive.ensures.0 c.take_drive.ensures.1 in
     (omega (arith, f.1, f.2.from), (f.1, f.3, (try_fuel y c.goes_on.ensures c.if-goes_on.true).0, passed_minimal a.sets.now _ _ _ f.2 (try_minimal y w _ c.insert-t.ensures), more))
 
@@ -82,7 +82,7 @@ loop-rest-preserved t c =
       | in-None w ↦ let f = none_next sets after m' y.inside (sym c.next_marked-first.ensures ∙ w.in-None.is) in
           let p = w.put-sum.ensures in
           (try_next y tk _ q fuel.1 w.put-sum.result (end_one sets m' after f c.loop-rest.out c.loop-rest.sum.found fuel.0 p.0 p.1 p.2) w.put-sum.auto.out w.out-is w.sum-is, c.match-first.auto.ends ∙ l.1, left-same, alone-same)
-      | in-At w ↦ let f = missed_next sets after m' _ (sym c.next_marked-first.ensures ∙ w.in-At.is) in
+      | in-Some w ↦ let f = missed_next sets after m' _ (sym c.next_marked-first.ensures ∙ w.in-Some.is) in
           let r = w.search_from-sum in
           (try_next y tk _ q fuel.1 r.result (searched_passed sets m' after _ f.2 r.ensures) r.auto.out w.out-is w.sum-is, c.match-first.auto.ends ∙ l.1, left-same, alone-same)
     ]

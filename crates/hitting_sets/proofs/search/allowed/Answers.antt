@@ -13,9 +13,6 @@ use Rattle.hitting_sets.proofs.search.allowed.Goals.{then-all-ne0, else-all-ne0}
 pub returns-then-words-sets : goal.returns-then-words-sets
 returns-then-words-sets c = let a = c.args in c.minus.ensures ∙ (ap (minus (get_or a.sets.now a.next 0)) c.forbidden.ensures ∙ seen_from a.sets.now a.next _ _)
 
-pub bounds-once-0 : goal.bounds-once-0
-bounds-once-0 c = let p = c.requires in omega (arith, p.3.room, p.0, c.if-words-sets.false)
-
 pub apart-far-requires : goal.apart-far-requires
 apart-far-requires c = columns_room _ _ c.requires.2
 
@@ -44,9 +41,6 @@ shared_quickly-all-requires c =
     let same = ap length c.column.ensures in
     let cut = length-take (a.next - 0) a.sets.now in
     (omega (arith, room, same), omega (arith, cut, p.0, p.1, c.if-words-sets.false), omega (arith, cut, room, same, p.0, p.1, c.if-words-sets.false), omega (arith, cut, p.3.room, p.0, c.if-words-sets.false), y.1)
-
-pub bounds-once-0-then-all-ne0 : goal.bounds-once-0-then-all-ne0
-bounds-once-0-then-all-ne0 c = let p = c.requires in omega (arith, p.3.room, p.0, c.if-words-sets.false)
 
 pub apart-far-requires-then-all-ne0 : goal.apart-far-requires-then-all-ne0
 apart-far-requires-then-all-ne0 c = columns_room _ _ c.requires.2

@@ -1,13 +1,9 @@
 -- Where m cannot be extended there is none; else those that are not forbidden.
 use mathlib.Core.Path.{sym, ◌∙◌}
-use borrow.Author.Rules.{rules}
 use Rattle.drive_sets.specs.Masks.Laws.{has_none}
 use Rattle.drive_sets.specs.Bools.Laws.{clash}
 use Rattle.hitting_sets.proofs.Branches.{free_candidates, free_new, cannot_extend_candidates}
 use Rattle.hitting_sets.proofs.search.candidates.Goals as goal
-
-pub cannot_extend-requires : goal.cannot_extend-requires
-cannot_extend-requires c = (search rules, c.requires.1.all_met)
 
 pub returns-then-cannot_extend : goal.returns-then-cannot_extend
 returns-then-cannot_extend c =
@@ -15,9 +11,6 @@ returns-then-cannot_extend c =
       cannot_extend_candidates start.args.sets.now start.args.next start.args.m (λ k. (c.type_inv.sets k).fits) start.requires.0 start.requires.1 start.requires.2 (sym c.cannot_extend.ensures ∙ c.if-cannot_extend.true),
       λ d h. absurd (clash h (has_none d)),
     )
-
-pub allowed-requires : goal.allowed-requires
-allowed-requires c = let p = c.requires in (p.0, p.3, p.4, p.5, p.2)
 
 pub returns : goal.returns
 returns c =

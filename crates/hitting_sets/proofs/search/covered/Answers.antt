@@ -1,21 +1,25 @@
--- The first set that covers p decides.
-use mathlib.Core.Path.{sym, ap, ◌∙◌}
+-- Some set covers p.
+use borrow.Author.Rules.{rules}
+use borrow.Author.Tests.{tests}
+use mathlib.Core.Bool.{Bool, ◌||◌}
+use mathlib.Core.List.{List, [], ◌∷◌}
+use mathlib.Core.Path.{◌≡◌, refl, ap, ◌∙◌}
 use Prim.Native.Nat.{ℕ}
+use Rattle.std.specs.List.{list_any}
+use Rattle.std.proofs.lemmas.Iterator.{YieldsList-from_slice}
+use Rattle.std.proofs.lemmas.Iterator.Search.{any_from_yields_List}
 use Rattle.drive_sets.specs.Lists.{any}
-use Rattle.drive_sets.specs.Loops.Scan.{any_turn, any_found, any_end}
 use Rattle.drive_sets.specs.Masks.{union, subset}
 use Rattle.hitting_sets.specs.LookAhead.{covered}
 use Rattle.hitting_sets.proofs.search.covered.Goals as goal
 
-pub loop-i-init : goal.loop-i-init
-unfolding covered union
-loop-i-init c = record { rest = ap (λ (w : ℕ). any (λ s. subset s w) c.args.sets.now) c.minus-within.ensures }
-
-pub returns-then-subset : goal.returns-then-subset
-returns-then-subset c = any_found _ c.loop-i.invariant c.loop-i-test.true (sym c.subset.ensures ∙ c.if-subset.true)
-
-pub loop-i-preserved : goal.loop-i-preserved
-loop-i-preserved c = any_turn _ c.loop-i.invariant c.loop-i-test.true (sym c.subset.ensures ∙ c.if-subset.false)
+list_any_any : (p : ℕ → Bool) (l : List ℕ) → list_any p l ≡ any p l
+unfolding any
+list_any_any p [] = refl
+list_any_any p (x ∷ l) = ap (λ (b : Bool). p x || b) (list_any_any p l)
 
 pub returns : goal.returns
-returns c = any_end _ c.loop-i.invariant c.loop-i-test.false
+unfolding covered union
+returns c =
+    any_from_yields_List (λ s. subset s c.minus-within.result) _ _ _ c.any.ensures.ran (YieldsList-from_slice c.args.sets.now (cc)) (λ x b q k. search (rules, tests))
+    ∙ (list_any_any _ c.args.sets.now ∙ ap (λ (w : ℕ). any (λ s. subset s w) c.args.sets.now) c.minus-within.ensures)

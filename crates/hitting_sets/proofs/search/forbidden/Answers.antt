@@ -17,7 +17,7 @@ pub loop-rest-preserved : goal.loop-rest-preserved
 unfolding union
 loop-rest-preserved c =
     let l = c.loop-rest in
-    forbidding_turn _ _ l.bar _ _ c.in_all_private-all.result.of l.invariant
+    forbidding_turn _ _ l.bar _ _ c.in_all_private-all.result l.invariant
     (taken l.invariant.word c.loop-rest-test.true c.lowest-d.ensures c.without_lowest-rest.ensures) c.place-k.ensures.0 c.minus-bar.ensures c.in_all_private-all.ensures
 
 pub returns : goal.returns

@@ -3,8 +3,5 @@
 use Rattle.hitting_sets.proofs.Shares.{Sharing}
 use Rattle.hitting_sets.proofs.search.in_all_private.Given as goal
 
-abbrev pub invariant-loop-i : goal.invariant-loop-i
-invariant-loop-i l = Sharing l.sets l.m l.i l.of
-
-abbrev pub decreases-loop-i : goal.decreases-loop-i
-decreases-loop-i l = l.i
+abbrev pub invariant-loop-s : goal.invariant-loop-s
+invariant-loop-s l = Sharing l.sets l.m l.yielded l.all

@@ -1,12 +1,8 @@
 -- Put at its place, or not where there is no room.
-use mathlib.Core.Path.{refl, sym, ap, ◌∙◌}
-use lib.ListN.{length, length-set}
+use mathlib.Core.Path.{refl, sym, ◌∙◌}
 use lib.Seq.{set_out}
 use Rattle.hitting_sets.proofs.search.put.Goals as goal
 use Rattle.hitting_sets.proofs.search.put.Goals.{then-at-out, else-at-out}
-
-pub shape_of-out : goal.shape_of-out
-shape_of-out c = elim c.if-at-out.branch [ then-at-out w ↦ ap length w.out-is ∙ simp length-set | else-at-out w ↦ ap length w.out-is ]
 
 pub returns : goal.returns
 returns c =

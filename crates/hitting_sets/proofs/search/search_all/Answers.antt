@@ -19,17 +19,17 @@ returns-in_default c =
     end_one a.sets.now 0 0 f a.out.now 0 (search rules) c.put.ensures.0 c.put.ensures.1 c.put.ensures.2
 
 pub overflow_sub-i : goal.overflow_sub-i
-overflow_sub-i c = (missed_next c.args.sets.now 0 0 _ (sym c.next_marked-first.ensures ∙ c.in-At.is)).0
+overflow_sub-i c = (missed_next c.args.sets.now 0 0 _ (sym c.next_marked-first.ensures ∙ c.in-Some.is)).0
 
 pub search_from-requires : goal.search_from-requires
 search_from-requires c =
     let sets = c.args.sets.now in
-    let f = missed_next sets 0 0 _ (sym c.next_marked-first.ensures ∙ c.in-At.is) in
+    let f = missed_next sets 0 0 _ (sym c.next_marked-first.ensures ∙ c.in-Some.is) in
     (f.1, f.3, search rules, passed_minimal sets 0 0 _ f.2 none_minimal, tracked_start _ _ _ c.words_for-words.ensures c.fill.ensures)
 
 pub returns : goal.returns
 unfolding minimals
 returns c =
     let sets = c.args.sets.now in
-    let f = missed_next sets 0 0 _ (sym c.next_marked-first.ensures ∙ c.in-At.is) in
+    let f = missed_next sets 0 0 _ (sym c.next_marked-first.ensures ∙ c.in-Some.is) in
     searched_passed sets 0 0 _ f.2 c.search_from.ensures

@@ -1,11 +1,6 @@
 -- What the simulated exchange gave.
-use mathlib.Core.Path.{ap, ◌∙◌}
-use Rattle.simulation_replies.specs.Replies.{simulation_reply}
-use Rattle.run_calls.proofs.Simulates.{simulated_frame}
+use Rattle.run_calls.proofs.Simulates.{frame_of, frame_told}
 use Rattle.run_calls.proofs.simulating.regdulyn_simulate.Goals as goal
 
 pub simulation_reply-requires : goal.simulation_reply-requires
-simulation_reply-requires c = let a = c.args in simulated_frame a.n c.simulate-simulated.result a.sets.now _ _ c.simulate-simulated.ensures.value
-
-pub returns : goal.returns
-returns c = c.simulation_reply.ensures ∙ ap simulation_reply c.simulate-simulated.ensures.value
+simulation_reply-requires c = frame_told c.args.n c.args.sets.now _ c.simulate.ensures (λ x e. frame_of c.args.n c.args.sets.now _ _ e)

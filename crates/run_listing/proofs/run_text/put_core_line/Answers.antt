@@ -7,4 +7,4 @@ use Rattle.run_listing.proofs.run_text.put_core_line.Goals as goal
 
 pub returns : goal.returns
 unfolding core_line ascii
-returns c = filled_both (search rules) c.put_named-cored.ensures c.put_line.ensures
+returns c = filled_both (search rules) c.put_named-cored.ensures (rw c.from.ensures at c.put_line.ensures)

@@ -8,16 +8,11 @@ use borrow.Author.Rules.{rules}
 use Rattle.run_listing.proofs.run_text.put_drives.Goals as goal
 
 pub loop-i-init : goal.loop-i-init
-unfolding drive_lines
 loop-i-init c = putting_start _ (omega arith)
 
 pub loop-i-preserved : goal.loop-i-preserved
-unfolding drive_lines
-loop-i-preserved c = putting_turn c.loop-i.invariant (omega (arith, length_range 1 c.args.n)) (drive_at_law 1 c.args.n c.loop-i.i c.loop-i-test.true) (search rules) c.put_drive-at.ensures
-
-pub shape_of-buf : goal.shape_of-buf
-unfolding drive_lines
-shape_of-buf c = c.loop-i.invariant.long
+loop-i-preserved c =
+    putting_turn c.loop-i.invariant (omega (arith, length_range 1 c.args.n)) (drive_at_law 1 c.args.n c.loop-i.i (omega arith)) (search rules) c.put_drive-at.ensures
 
 pub returns : goal.returns
 unfolding drive_lines

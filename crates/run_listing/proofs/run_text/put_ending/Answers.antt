@@ -1,5 +1,4 @@
 -- Stopped, undecided, or the decision with its round.
-use borrow.Author.Tests.{eq-eqb, ne_eqb}
 use Rattle.records.specs.Marks.{ascii}
 use Rattle.simulated_decisions.specs.Endings.{ending_by, ending_for}
 use Rattle.text.proofs.Puts.{filled_both}
@@ -11,10 +10,12 @@ pub returns-then-crashes : goal.returns-then-crashes
 unfolding ending_text ending_for ending_by ascii
 returns-then-crashes c = rw c.if-crashes.true c.put_all.ensures
 
-pub returns-then-round-eq0 : goal.returns-then-round-eq0
+pub returns-in-None : goal.returns-in-None
 unfolding ending_text ending_for ending_by ascii
-returns-then-round-eq0 c = rw (c.if-crashes.false, eq-eqb _ 0 c.if-round-eq0.true) c.put_all-then-round-eq0.ensures
+returns-in-None c = rw (c.if-crashes.false, c.in-None.is) c.put_all-in-None.ensures
 
-pub returns : goal.returns
+pub returns-in-Some : goal.returns-in-Some
 unfolding ending_text ending_for ending_by ascii
-returns c = rw (c.if-crashes.false, ne_eqb _ 0 c.if-round-eq0.false) (filled_both (search rules) c.put_named-decided.ensures c.put_named.ensures)
+returns-in-Some c =
+    rw (c.if-crashes.false, c.in-Some.is)
+    (filled_both (search rules) (rw c.from.ensures at c.put_named-decided.ensures) (rw c.from-in-Some.ensures at c.put_named.ensures))

@@ -1,15 +1,13 @@
--- The drives one after the other.
-use Prim.Native.Nat.{◌-◌}
+-- Each was found to have decided.
+use Rattle.std.proofs.Common.{rules, tests}
+use Rattle.std.proofs.lemmas.Iterator.{cases_from_all, YieldsList-from_slice}
 use native.Mathlib.Omega.{arith}
-use Rattle.std.proofs.Common.{below_more}
-use Rattle.drive_sets.specs.Counts.Laws.{drive_bounds}
+use lib.ListN.{take}
+use Rattle.simulated_decisions.proofs.FirstDecisions.{Decided, all_have_decided}
 use Rattle.simulated_decisions.proofs.noting.all_decided.Goals as goal
 
-pub loop-i-init : goal.loop-i-init
-loop-i-init c j h = absurd (omega (arith, h))
-
-pub loop-i-preserved : goal.loop-i-preserved
-loop-i-preserved c = below_more _ _ c.loop-i.invariant (λ z. omega arith)
-
 pub returns : goal.returns
-returns c h d i z = let b = drive_bounds c.args.n d i in c.loop-i.invariant (d - 1) (omega (arith, b.0, b.1)) z
+returns c = let a = c.args in
+    all_have_decided a.n a.found.now _ c.all.result
+    (cases_from_all _ _ _ Decided (λ first. Unit {0}) c.all.ensures.ran (YieldsList-from_slice (take a.n a.found.now) cc) (λ x q k. search (rules, tests)) (λ x q k. tt))
+    (omega (arith, c.requires, c.told-found))

@@ -1,18 +1,16 @@
--- A decision found before, none, one in this round.
-use native.Mathlib.Omega.{arith}
-use borrow.Author.Tests.{ne_eqb}
+-- A decision found before, one in this round, none.
 use Rattle.agreement.specs.Canonical.{ending_on}
 use Rattle.simulated_decisions.specs.Endings.{ending_by, or_later}
 use Rattle.simulated_decisions.proofs.noting.first_decision.Goals as goal
 
-pub returns-then-was-ne0 : goal.returns-then-was-ne0
+pub returns-in-Some-default : goal.returns-in-Some-default
 unfolding or_later ending_on ending_by
-returns-then-was-ne0 c = rw (ne_eqb _ 0 c.if-was-ne0.true)
+returns-in-Some-default c = rw c.in-Some-default.is-0
 
-pub returns-in-Undecided : goal.returns-in-Undecided
+pub returns-in-None-Decided : goal.returns-in-None-Decided
 unfolding or_later ending_on ending_by
-returns-in-Undecided c = rw (c.if-was-ne0.false, c.in-Undecided.is)
+returns-in-None-Decided c = rw (c.in-None-Decided.is-0, c.in-None-Decided.is-1)
 
-pub returns-in-Decided : goal.returns-in-Decided
+pub returns-in-None-Undecided : goal.returns-in-None-Undecided
 unfolding or_later ending_on ending_by
-returns-in-Decided c = rw (c.if-was-ne0.false, c.in-Decided.is, ne_eqb c.args.round.0 0 (λ z. omega arith))
+returns-in-None-Undecided c = rw (c.in-None-Undecided.is-0, c.in-None-Undecided.is-1)

@@ -1,20 +1,37 @@
--- The table's refusal, or the call with the chosen core.
-use Rattle.simulation.proofs.Results.{with_core, table_refused}
-use Rattle.simulation.proofs.Refusals.{simulated_refused}
-use Rattle.drive_crashes.specs.Crashes.{crashes_in}
-use Rattle.drive_states.specs.State.{values}
-use Rattle.tables.specs.Answers.{chosen_outcome}
-use lib.ListN.{take}
-use Prim.Native.Nat.{◌^◌, ◌<◌}
+-- The refusals in order, or the result.
+use Rattle.std.proofs.lemmas.Result.{err_from_is_err_and}
 use mathlib.Core.Path.{sym, ap, ◌∙◌}
+use Prim.Native.Nat.{◌^◌, ◌<◌}
 use borrow.Author.Rules.{rules}
+use Rattle.drive_sets.specs.Refusals.{yields}
+use Rattle.drive_crashes.specs.Crashes.{crashes_in}
+use Rattle.drive_crashes.specs.Crashes.Laws.{crashed_in}
+use Rattle.survivor_tables.specs.Hitting.{first_missed}
+use Rattle.simulation.specs.Endings.{simulated_outcome}
+use Rattle.simulation.proofs.Results.{told, table_refused, crash_refused, crash_passed, all_touched, some_untouched}
+use Rattle.simulation.proofs.Patterns.{patterns_below}
 use Rattle.simulation.proofs.simulating.simulate.Goals as goal
 
-pub where_checked-requires : goal.where_checked-requires
-where_checked-requires c = sym c.chosen_core-chosen.ensures ∙ ap chosen_outcome c.in-Core.is
+pub returns-in_err-core : goal.returns-in_err-core
+unfolding simulated_outcome
+returns-in_err-core c = let a = c.args in let p = err_from_is_err_and c.from_residual.result c.from_residual.ensures.1 in
+    rw (p.1, p.2) (table_refused a.n a.sets.now _ _ _ (sym c.in_err-core.ensures))
 
-pub returns-in-Refused : goal.returns-in-Refused
-returns-in-Refused c = let a = c.args in let r = simulated_refused c.refused.ensures in record { value = r.0 a.n ∙ table_refused a.n a.sets.now (take a.n (values a.numbers)) (crashes_in a.crashes) _ (sym c.chosen_core-chosen.ensures ∙ ap chosen_outcome c.in-Refused.is); alone = r.1 }
+pub returns-in_err-check_all : goal.returns-in_err-check_all
+unfolding simulated_outcome
+returns-in_err-check_all c = let a = c.args in let word : a.crashes.crashed < 2 ^ 64 = search rules in
+    let p = err_from_is_err_and c.from_residual-in_err-check_all.result c.from_residual-in_err-check_all.ensures.1 in
+    rw (p.1, p.2) (crash_refused a.n a.sets.now a.numbers a.crashes _ word (sym c.in_ok-core.ensures) _ (crashes_in a.crashes) _ (sym c.in_err-check_all.ensures))
 
-pub returns-in-Core : goal.returns-in-Core
-returns-in-Core c = let a = c.args in let word : a.crashes.crashed < 2 ^ 64 = search rules in record { value = c.where_checked.ensures.value ∙ with_core a.n a.sets.now a.numbers a.crashes _ word (sym c.chosen_core-chosen.ensures ∙ ap chosen_outcome c.in-Core.is) (take a.n (values a.numbers)) (crashes_in a.crashes); alone = c.where_checked.ensures.alone }
+pub returns-then-is_none : goal.returns-then-is_none
+unfolding simulated_outcome
+returns-then-is_none c = let a = c.args in let word : a.crashes.crashed < 2 ^ 64 = search rules in
+    all_touched a.n a.sets.now _ (crashes_in a.crashes) (c.first_missed.ensures ∙ sym (ap (first_missed a.sets.now) (crashed_in a.crashes word))) c.is_none.ensures c.if-is_none.true
+    ∙ crash_passed a.n a.sets.now a.numbers a.crashes _ word (sym c.in_ok-core.ensures) _ (crashes_in a.crashes) (sym c.in_ok-check_all.ensures)
+
+pub returns : goal.returns
+unfolding simulated_outcome
+returns c = let a = c.args in let word : a.crashes.crashed < 2 ^ 64 = search rules in
+    ap yields (c.result_on.ensures _ (told a.n a.sets.now a.numbers a.crashes _ word (sym c.in_ok-core.ensures) (λ i. search (rules, patterns_below)) (sym c.in_ok-check_all.ensures)))
+    ∙ (some_untouched a.n a.sets.now _ (crashes_in a.crashes) (c.first_missed.ensures ∙ sym (ap (first_missed a.sets.now) (crashed_in a.crashes word))) c.is_none.ensures c.if-is_none.false
+    ∙ crash_passed a.n a.sets.now a.numbers a.crashes _ word (sym c.in_ok-core.ensures) _ (crashes_in a.crashes) (sym c.in_ok-check_all.ensures))

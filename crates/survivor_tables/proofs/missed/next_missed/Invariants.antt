@@ -1,6 +1,6 @@
 -- Each set tested, one after the other.
-use Prim.Native.Nat.{◌+◌, ◌-◌}
-use lib.ListN.{length, drop}
+use Prim.Native.Nat.{◌+◌}
+use lib.ListN.{drop}
 use Rattle.drive_sets.specs.Masks.{meets}
 use Rattle.drive_sets.specs.Lists.{first_failing}
 use Rattle.drive_sets.specs.Loops.Scan.{Scan}
@@ -9,6 +9,3 @@ use Rattle.survivor_tables.proofs.missed.next_missed.Given as goal
 
 abbrev pub invariant-loop-i : goal.invariant-loop-i
 invariant-loop-i l = Scan (missed_from (l.seen + 1) (drop l.seen l.sets) l.m) (first_failing (l.i + 1) (λ s. meets s l.m)) l.sets l.i
-
-abbrev pub decreases-loop-i : goal.decreases-loop-i
-decreases-loop-i l = length l.sets - l.i

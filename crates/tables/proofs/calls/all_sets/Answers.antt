@@ -1,16 +1,21 @@
--- Each set tested, one after the other.
-use Rattle.drive_sets.specs.Loops.Scan.{scan_start, all_turn, all_found, all_end}
-use mathlib.Core.Path.{sym, ◌∙◌}
+-- Each set tested.
+use Rattle.std.specs.Prelude.{◌≡◌, refl, Bool, ◌&&◌, List, [], ◌∷◌, ℕ}
+use Rattle.std.specs.List.{list_all}
+use Rattle.std.proofs.Common.{ap, ◌∙◌, rules, tests}
+use Rattle.std.proofs.lemmas.Iterator.{YieldsList-from_slice}
+use Rattle.std.proofs.lemmas.Iterator.Search.{all_from_yields_List}
+use Rattle.drive_sets.specs.Lists.{all}
+use Rattle.survivor_tables.specs.Tables.{is_set}
 use Rattle.tables.proofs.calls.all_sets.Goals as goal
 
-pub loop-i-init : goal.loop-i-init
-loop-i-init c = scan_start _ _
-
-pub returns-then-not-is_set : goal.returns-then-not-is_set
-returns-then-not-is_set c = all_found _ c.loop-i.invariant c.loop-i-test.true (sym c.is_set.ensures ∙ c.if-not-is_set.true)
-
-pub loop-i-preserved : goal.loop-i-preserved
-loop-i-preserved c = all_turn _ c.loop-i.invariant c.loop-i-test.true (sym c.is_set.ensures ∙ c.if-not-is_set.false)
+list_all_all : (p : ℕ → Bool) (l : List ℕ) → list_all p l ≡ all p l
+unfolding all
+list_all_all p [] = refl
+list_all_all p (x ∷ l) = ap (λ (b : Bool). p x && b) (list_all_all p l)
 
 pub returns : goal.returns
-returns c = all_end _ c.loop-i.invariant c.loop-i-test.false
+returns c =
+    let a = c.args in
+    let each = YieldsList-from_slice a.sets.now (cc) in
+    all_from_yields_List (is_set a.n) _ _ _ c.all.ensures.ran each (λ x b q k. search (rules, tests))
+    ∙ list_all_all (is_set a.n) a.sets.now

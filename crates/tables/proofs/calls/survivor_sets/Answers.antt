@@ -1,33 +1,51 @@
 -- The refusals in order, then what is found.
-use Rattle.tables.proofs.CallAnswers.{dual_more, dual_found}
-use Rattle.drive_sets.specs.Refusals.Laws.{accepted_not_refused}
-use Rattle.complete_tables.proofs.Completes.{no_elements, some_elements}
+use Rattle.std.specs.Prelude.{◌≡◌, length}
+use Rattle.std.proofs.Common.{ap, ◌∙◌, lt-ltb, le-ltb}
+use Rattle.arrayvec.proofs.ArrayVecLemmas.{items-with_items}
+use Rattle.drive_sets.specs.Limits.{max_sets}
 use Rattle.survivor_tables.specs.Tables.{survivor_sets}
-use Rattle.tables.specs.Answers.{list_outcome}
-use borrow.Author.Tests.{lt-ltb, le-ltb}
-use mathlib.Core.Path.{refl}
+use Rattle.complete_tables.proofs.Completes.{empty_law}
+use Rattle.tables.proofs.CallAnswers.{dual_more, dual_few, dual_found}
 use Rattle.tables.proofs.calls.survivor_sets.Goals as goal
 
 pub returns-then-not-is_frame : goal.returns-then-not-is_frame
-unfolding survivor_sets list_outcome
-returns-then-not-is_frame c = record { value = rw (c.no_list.ensures.value, ← c.is_frame.ensures, c.if-not-is_frame.true); within = c.no_list.ensures.within }
+unfolding survivor_sets
+returns-then-not-is_frame c = rw (← c.is_frame.ensures, c.if-not-is_frame.true)
 
-pub returns-then-groups-eq0 : goal.returns-then-groups-eq0
-unfolding survivor_sets list_outcome
-returns-then-groups-eq0 c = record { value = rw (c.no_list-then-groups-eq0.ensures.value, ← c.is_frame.ensures, c.if-not-is_frame.false, no_elements _ c.if-groups-eq0.true); within = c.no_list-then-groups-eq0.ensures.within }
+pub returns-then-is_empty : goal.returns-then-is_empty
+unfolding survivor_sets
+returns-then-is_empty c =
+    rw (← c.is_frame.ensures, c.if-not-is_frame.false, empty_law, ← c.is_empty.ensures, c.if-is_empty.true)
 
 pub returns-then-groups-gt-MAX_CORES : goal.returns-then-groups-gt-MAX_CORES
-unfolding survivor_sets list_outcome
-returns-then-groups-gt-MAX_CORES c = record { value = rw (c.no_list-then-groups-gt-MAX_CORES.ensures.value, ← c.is_frame.ensures, c.if-not-is_frame.false, some_elements _ c.if-groups-eq0.false, lt-ltb 1024 _ c.if-groups-gt-MAX_CORES.true); within = c.no_list-then-groups-gt-MAX_CORES.ensures.within }
+unfolding survivor_sets
+returns-then-groups-gt-MAX_CORES c =
+    rw (← c.is_frame.ensures, c.if-not-is_frame.false, empty_law, ← c.is_empty.ensures, c.if-is_empty.false)
+    (rw (lt-ltb 1024 _ c.if-groups-gt-MAX_CORES.true))
 
 pub returns-then-not-all_sets : goal.returns-then-not-all_sets
-unfolding survivor_sets list_outcome
-returns-then-not-all_sets c = record { value = rw (c.no_list-then-not-all_sets.ensures.value, ← c.is_frame.ensures, c.if-not-is_frame.false, some_elements _ c.if-groups-eq0.false, le-ltb 1024 _ c.if-groups-gt-MAX_CORES.false, ← c.all_sets.ensures, c.if-not-all_sets.true); within = c.no_list-then-not-all_sets.ensures.within }
+unfolding survivor_sets
+returns-then-not-all_sets c =
+    rw (← c.is_frame.ensures, c.if-not-is_frame.false, empty_law, ← c.is_empty.ensures, c.if-is_empty.false)
+    (rw (le-ltb 1024 _ c.if-groups-gt-MAX_CORES.false, ← c.all_sets.ensures, c.if-not-all_sets.true))
 
 pub returns-then-count-gt-MAX_SETS : goal.returns-then-count-gt-MAX_SETS
-unfolding survivor_sets list_outcome
-returns-then-count-gt-MAX_SETS c = record { value = rw (c.no_list-then-count-gt-MAX_SETS.ensures.value, ← c.is_frame.ensures, c.if-not-is_frame.false, some_elements _ c.if-groups-eq0.false, le-ltb 1024 _ c.if-groups-gt-MAX_CORES.false, ← c.all_sets.ensures, c.if-not-all_sets.false, dual_more refl c.minimal_hitting_sets-count.ensures c.if-count-gt-MAX_SETS.true); within = c.no_list-then-count-gt-MAX_SETS.ensures.within }
+unfolding survivor_sets
+returns-then-count-gt-MAX_SETS c =
+    let size : length c.from-sets.result.items ≡ max_sets = c.from-sets.ensures.1 in
+    let room = ap length c.as_mut_slice.ensures.value ∙ size in
+    rw (← c.is_frame.ensures, c.if-not-is_frame.false, empty_law, ← c.is_empty.ensures, c.if-is_empty.false)
+    (rw (le-ltb 1024 _ c.if-groups-gt-MAX_CORES.false, ← c.all_sets.ensures, c.if-not-all_sets.false)
+    (rw (dual_more room c.minimal_hitting_sets-count.ensures c.if-count-gt-MAX_SETS.true)))
 
 pub returns : goal.returns
-unfolding survivor_sets list_outcome
-returns c = let d = dual_found refl c.minimal_hitting_sets-count.ensures c.if-count-gt-MAX_SETS.false in record { value = rw (← c.is_frame.ensures, c.if-not-is_frame.false, some_elements _ c.if-groups-eq0.false, le-ltb 1024 _ c.if-groups-gt-MAX_CORES.false, ← c.all_sets.ensures, c.if-not-all_sets.false, d.0, d.1); within = record { sets = c.if-count-gt-MAX_SETS.false; alone = λ r e. absurd (accepted_not_refused e) } }
+unfolding survivor_sets
+returns c =
+    let size : length c.from-sets.result.items ≡ max_sets = c.from-sets.ensures.1 in
+    let room = ap length c.as_mut_slice.ensures.value ∙ size in
+    let same = c.minimal_hitting_sets-count.auto.out ∙ ap length c.as_mut_slice.ensures.value in
+    let all = items-with_items c.from-sets.result _ same in
+    rw (← c.is_frame.ensures, c.if-not-is_frame.false, empty_law, ← c.is_empty.ensures, c.if-is_empty.false)
+    (rw (le-ltb 1024 _ c.if-groups-gt-MAX_CORES.false, ← c.all_sets.ensures, c.if-not-all_sets.false)
+    (rw (dual_few room c.minimal_hitting_sets-count.ensures c.if-count-gt-MAX_SETS.false, c.truncate.ensures.items, all)
+    (rw (dual_found room c.minimal_hitting_sets-count.ensures c.if-count-gt-MAX_SETS.false))))

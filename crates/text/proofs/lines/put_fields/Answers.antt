@@ -1,22 +1,8 @@
--- The fields of a list, item by item.
-use mathlib.Core.Path.{refl}
-use Rattle.text.specs.Text.{fields}
-use Rattle.text.proofs.Puts.{putting_start, putting_turn, putting_end}
+-- Each call puts one field.
 use borrow.Author.Rules.{rules}
+use Rattle.text.specs.Text.{field, fields}
 use Rattle.text.proofs.lines.put_fields.Goals as goal
-
-pub loop-i-init : goal.loop-i-init
-unfolding fields
-loop-i-init c = putting_start _ c.place-at.ensures
-
-pub loop-i-preserved : goal.loop-i-preserved
-unfolding fields
-loop-i-preserved c = putting_turn c.loop-i.invariant c.loop-i-test.true refl (search rules) c.put_field-at.ensures
-
-pub shape_of-buf : goal.shape_of-buf
-unfolding fields
-shape_of-buf c = c.loop-i.invariant.long
 
 pub returns : goal.returns
 unfolding fields
-returns c = putting_end c.loop-i.invariant c.loop-i-test.false
+returns c = c.put_each.ensures (field c.args.base) (λ b next at x r p. search rules)

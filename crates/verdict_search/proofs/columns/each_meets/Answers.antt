@@ -1,6 +1,4 @@
 -- A place that is missing from the words is missing from the column of a drive seen.
-use Rattle.drive_sets.specs.Bools.Laws.{clash}
-use mathlib.Core.Path.{refl}
 use Rattle.verdict_search.proofs.Asking.{index_has, meeting_start, meeting_turn, meeting_end}
 use Rattle.drive_sets.specs.Loops.Drives.{taken, taken_has, taken_fewer}
 use Rattle.drive_sets.specs.Masks.{common}
@@ -19,6 +17,3 @@ loop-rest-smaller c = taken_fewer (taken c.loop-rest.invariant.word c.loop-rest-
 pub loop-rest-preserved : goal.loop-rest-preserved
 unfolding common
 loop-rest-preserved c = let t = taken c.loop-rest.invariant.word c.loop-rest-test.true c.lowest_index-at.ensures.0 c.without_lowest-rest.ensures in meeting_turn _ c.loop-rest.invariant (taken_has t) t
-
-pub returns : goal.returns
-returns c = λ e. absurd (clash e refl)

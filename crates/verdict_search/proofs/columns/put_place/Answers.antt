@@ -1,11 +1,8 @@
 -- The columns of the drives from the lowest on.
-use Rattle.verdict_search.proofs.Building.{putting_start, putting_turn, putting_end}
+use Rattle.verdict_search.proofs.Building.{putting_turn, putting_end}
 use Rattle.drive_sets.specs.Loops.Drives.{taken, taken_fewer}
 use Rattle.drive_sets.specs.Masks.{union}
 use Rattle.verdict_search.proofs.columns.put_place.Goals as goal
-
-pub loop-rest-init : goal.loop-rest-init
-loop-rest-init c = putting_start _ _ _ c.ranges.lacking.fits
 
 pub loop-rest-smaller : goal.loop-rest-smaller
 loop-rest-smaller c = taken_fewer (taken c.loop-rest.invariant.word c.loop-rest-test.true c.lowest_index.ensures.0 c.without_lowest-rest.ensures)
