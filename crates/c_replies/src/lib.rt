@@ -3,7 +3,7 @@
 
 ghost use Rattle.std.specs.Prelude.{◌≡◌};
 ghost use Rattle.drive_sets.specs.Refusals.{refused, outcome, number};
-ghost use Rattle.c_replies.specs.Replies.{size_reply, flag_of};
+ghost use Rattle.c_replies.specs.Replies.{refusal_in, size_reply, flag_of};
 
 use drive_sets::Refusal;
 
@@ -13,6 +13,16 @@ use drive_sets::Refusal;
 pub struct SizeReply {
     pub size: usize,
     pub refusal: u32,
+}
+
+// The number of a refusal, and 0 where there is none.
+pub fn refusal_of<T: Copy>(r: Result<T, Refusal>) -> u32
+    ensures { result ≡ refusal_in r }
+{
+    match r {
+        Ok(_) => 0,
+        Err(q) => u32::from(q.number()),
+    }
 }
 
 pub fn refused_size(r: Refusal) -> SizeReply
@@ -28,9 +38,9 @@ pub fn refused_size(r: Refusal) -> SizeReply
 pub fn written_size(w: Result<usize, Refusal>) -> SizeReply
     ensures { result ≡ size_reply (outcome w) }
 {
-    match w {
-        Err(r) => refused_size(r),
-        Ok(size) => SizeReply { size, refusal: 0 },
+    SizeReply {
+        size: w.unwrap_or(0),
+        refusal: refusal_of(w),
     }
 }
 

@@ -14,7 +14,7 @@ use records::{Due, FRAME_WIDTH, Kind};
 use survivor_tables::frames::MaskKind;
 use table_files::files::read_whole;
 use table_writing::write_list;
-use text::printing::print_written;
+use text::printing::{MAX_TEXT, print_written};
 
 // An FL stands behind FR.
 #[tactic(auto, unfolding(crate::specs::ConvertFiles::is_fault_list, records::specs::Marks::is_due))]
@@ -65,5 +65,7 @@ fn write_converted(input: &[u8], buf: &mut [u8]) -> Result<usize, Refusal>
 pub fn convert_file(input: &[u8], out: &mut [u8], start: usize) -> Result<usize, Refusal>
     ensures { Printed (convert_program input.now) start out.old out.new result }
 {
-    print_written(|buf| write_converted(input, buf), out, start)
+    let mut made = [0u8; MAX_TEXT];
+    let w = write_converted(input, &mut made);
+    print_written(&mut made, w, out, start)
 }

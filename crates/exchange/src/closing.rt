@@ -99,23 +99,21 @@ fn next_round(round: Round, ends: bool) -> Round
     if ends { round } else { Round(round.0 + 1) }
 }
 
-// The state after a close.
+// Leaves the state after a close.
 #[tactic(auto, unfolding(agreement::specs::Calls::next))]
-fn next(x: &Exchange) -> Exchange
-    requires { x.now.round.0 ≤ 64 }
-    ensures { result ≡ next x.now }
+fn advance(x: &mut Exchange)
+    requires { x.old.round.0 ≤ 64 }
+    ensures { x.new ≡ next x.old }
 {
     let ends = halts(x);
-    Exchange {
-        round: next_round(x.round, ends),
-        before: heard_at_close(x),
-        heard: 0,
-        start: x.known,
-        announced: Announcement::Absent,
-        decision: decision_after(x),
-        halted: ends,
-        ..*x
-    }
+    let decision = decision_after(x);
+    x.before = heard_at_close(x);
+    x.round = next_round(x.round, ends);
+    x.heard = 0;
+    x.start = x.known;
+    x.announced = Announcement::Absent;
+    x.decision = decision;
+    x.halted = ends;
 }
 
 // The close of a round: 28, 23.
@@ -129,6 +127,6 @@ pub fn close(x: &mut Exchange) -> Result<(), Refusal>
     if x.halted {
         return Err(Refusal::Halted);
     }
-    *x = next(x);
+    advance(x);
     Ok(())
 }

@@ -50,8 +50,8 @@ pub extern "C" fn regdulyn_table_from_faults(n: u8, groups: &[u64], out: &mut [u
     ensures value { result ≡ size_reply (size_written (and_then (table_from_faults n groups.now) (fitting 0 (length out.old)))) }
     ensures out_after { out.new ≡ buffer_after (and_then (table_from_faults n groups.now) (fitting 0 (length out.old))) 0 out.old }
 {
-    match fault_lists::table_from_faults(n, groups) {
-        Err(r) => c_replies::refused_size(r),
+    match &fault_lists::table_from_faults(n, groups) {
+        Err(r) => c_replies::refused_size(*r),
         Ok(t) => lists::put_list(t.table.sets.as_slice(), out),
     }
 }

@@ -8,7 +8,6 @@ ghost use Rattle.complete_tables.specs.Complete.{complete_outcome, sets_of};
 ghost use Rattle.tables.specs.Answers.{list_outcome};
 ghost use Rattle.fault_lists.specs.FaultLists.{rests, complete_from_faults, fault_list, faults_from_table};
 
-use arrayvec::ArrayVec;
 use complete_tables::{TableWithCores, accept, check_masks};
 use drive_sets::Refusal;
 use survivor_tables::frames::{MaskKind, SetList};
@@ -18,7 +17,7 @@ fn rests(n: u8, masks: &[u64]) -> SetList
     requires { length masks.now ≤ max_sets }
     ensures { result.items ≡ rests n masks.now }
 {
-    let mut out = ArrayVec::new();
+    let mut out = SetList::new();
     for &mask in masks.iter().rev() {
         out.push(drive_sets::outside(n, mask));
     }
@@ -37,14 +36,18 @@ pub fn table_from_faults(n: u8, groups: &[u64]) -> Result<TableWithCores, Refusa
 pub fn fault_list(n: u8, groups: &[u64]) -> Result<SetList, Refusal>
     ensures { list_outcome result ≡ fault_list n groups.now }
 {
-    let t = table_from_faults(n, groups)?;
-    Ok(rests(t.table.n, t.table.sets.as_slice()))
+    match &table_from_faults(n, groups) {
+        Err(r) => Err(*r),
+        Ok(t) => Ok(rests(t.table.n, t.table.sets.as_slice())),
+    }
 }
 
 // The fault list of a table, in normal form: 3, 2, 5, 4, 13.
 pub fn faults_from_table(n: u8, sets: &[u64]) -> Result<SetList, Refusal>
     ensures { list_outcome result ≡ faults_from_table n sets.now }
 {
-    let t = accept(n, sets)?;
-    Ok(rests(t.table.n, t.table.sets.as_slice()))
+    match &accept(n, sets) {
+        Err(r) => Err(*r),
+        Ok(t) => Ok(rests(t.table.n, t.table.sets.as_slice())),
+    }
 }

@@ -1,17 +1,17 @@
 // What the programs read and write: the start of an input, and the bytes of a text, over any reader and any writer.
 #![tactic(auto)]
 
-ghost use Rattle.std.specs.Prelude.{◌≡◌, ◌≤◌, ℕ, List, IfOk, IfSome, OnOk, take, length, min};
+ghost use Rattle.std.specs.Prelude.{◌≡◌, ℕ, List, IfOk, IfSome, OnOk, take, length, min};
 ghost use Rattle.std.specs.Io.{ReadsAtMost};
 ghost use Rattle.std.specs.Io.KnownBytes.{Appends, Consumes};
 ghost use Rattle.drive_sets.specs.Limits.{max_input};
-ghost use Rattle.text.specs.Printing.{bytes_in};
-ghost use Rattle.program_io.specs.Programs.{ReadsFirst, Runs};
+ghost use Rattle.text.specs.Printing.{Printed, bytes_in};
+ghost use Rattle.program_io.specs.Programs.{ReadsFirst};
 
 use drive_sets::Refusal;
 use std::io;
 use std::io::{Read, Write};
-use text::printing::MAX_TEXT;
+use text::printing::{MAX_INPUT, MAX_TEXT};
 
 // Reads until the buffer is full or the input ends; how many bytes. They are the first bytes of the input, and what
 // stands behind them is left unread.
@@ -40,20 +40,27 @@ pub fn write_written<W: Write>(to: &mut W, w: Result<usize, Refusal>, text: &[u8
     to.write_all(&text[..size])
 }
 
-// Prints what a program gives for the whole input, of which it reads the first bytes alone.
-pub fn answer<
-    const N: usize,
-    R: Read,
-    W: Write,
-    F: FnOnce(&[u8], &mut [u8]) -> Result<usize, Refusal>,
->(run: F, from: &mut R, to: &mut W) -> io::Result<()>
-    requires callable { F.IsAlwaysCallable run }
-    requires small { N ≤ max_input }
-    ensures { (program : List ℕ → List ℕ) → ReadsFirst N program → Runs (F.post run) program → OnOk result (IfSome (R.remaining from.old) (λ input. Appends (W.contents to.old) (W.contents to.new) (program input))) }
+// A program as a call: it puts the text that it prints for an input into a lent buffer.
+pub trait Program {
+    ghost prints: { List ℕ → List ℕ };
+
+    fn text(input: &[u8], out: &mut [u8]) -> Result<usize, Refusal>
+        ensures { Printed (prints input.now) 0 out.old out.new result };
+}
+
+// Prints what a program gives for the whole input, of which it reads the first bytes alone: so many, and no more than
+// 4096.
+pub fn answer<P: Program, R: Read, W: Write>(
+    most: usize,
+    from: &mut R,
+    to: &mut W,
+) -> io::Result<()>
+    ensures { ReadsFirst (min most max_input) P.prints → OnOk result (IfSome (R.remaining from.old) (λ input. Appends (W.contents to.old) (W.contents to.new) (P.prints input))) }
 {
-    let mut input = [0u8; N];
-    let n = read_start(from, &mut input)?;
+    let mut input = [0u8; MAX_INPUT];
+    let part = &mut input[..most.min(MAX_INPUT)];
+    let n = read_start(from, part)?;
     let mut text = [0u8; MAX_TEXT];
-    let w = run(&input[..n], &mut text);
+    let w = P::text(&part[..n], &mut text);
     write_written(to, w, &text)
 }

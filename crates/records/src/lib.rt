@@ -104,7 +104,12 @@ pub fn rest(s: &[u8], size: usize) -> &[u8]
 pub fn field(s: &[u8], at: usize, width: usize) -> u64
     ensures { result ≡ from_bytes (take (min 8 width) (drop at s.now)) }
 {
-    from_bytes(first(rest(s, at), width))
+    // The whole field first: of a constant width the compiled loop has no test.
+    let part = rest(s, at);
+    if part.len() < width {
+        return from_bytes(part);
+    }
+    from_bytes(first(part, width))
 }
 
 // The kind of record that a mark starts.

@@ -14,7 +14,7 @@ use run_files::reading::read_run_file;
 use simulation::simulating::{Simulated, simulate};
 use table_files::files::read_table;
 use text::lines::put_refused;
-use text::printing::print_made;
+use text::printing::{MAX_TEXT, print_made};
 
 // How the drives of a simulated exchange end.
 fn put_simulated(buf: &mut [u8], n: u8, s: &Simulated) -> usize
@@ -61,5 +61,7 @@ fn put_run(buf: &mut [u8], input: &[u8]) -> usize
 pub fn run_listing(input: &[u8], out: &mut [u8], start: usize) -> Result<usize, Refusal>
     ensures { Printed (run_program input.now) start out.old out.new result }
 {
-    print_made(|buf| put_run(buf, input), out, start)
+    let mut made = [0u8; MAX_TEXT];
+    let size = put_run(&mut made, input);
+    print_made(&made, size, out, start)
 }

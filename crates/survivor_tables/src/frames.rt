@@ -3,8 +3,8 @@ ghost use Rattle.std.specs.Prelude.{◌≡◌};
 ghost use Rattle.drive_sets.specs.Refusals.{outcome_of};
 ghost use Rattle.survivor_tables.specs.Tables.{is_frame, is_set, checked_mask};
 
+use crate::lists::MaskList;
 use crate::{MAX_CORES, MAX_SETS};
-use arrayvec::ArrayVec;
 use drive_sets::Refusal;
 
 // What the masks of a list are: survivor sets, as in a table, or groups of drives that can fail together.
@@ -15,12 +15,12 @@ pub enum MaskKind {
 }
 
 // Lists in fixed memory: the sets of a table or the groups of a fault list, and cores.
-pub type SetList = ArrayVec<u64, MAX_SETS>;
+pub type SetList = MaskList<MAX_SETS>;
 
-pub type CoreList = ArrayVec<u64, MAX_CORES>;
+pub type CoreList = MaskList<MAX_CORES>;
 
 // A table: n drives, and its sets.
-#[derive(Drop)]
+#[derive(Clone, Copy)]
 pub struct Table {
     pub n: u8,
     pub sets: SetList,

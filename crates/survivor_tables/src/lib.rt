@@ -1,8 +1,10 @@
 // Survivor tables: what they, their normal form, their cores and the way back are, with their laws, in specs/. The code
-// is the limits, the tests of n and of one set or fault group, and the first set that some drives miss.
+// is the limits, lists of masks in fixed memory, the tests of n and of one set or fault group, and the first set that
+// some drives miss.
 #![tactic(auto)]
 
 pub mod frames;
+pub mod lists;
 pub mod missed;
 
 // The most sets of a table, and the most cores.

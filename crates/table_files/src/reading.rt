@@ -12,7 +12,7 @@ use survivor_tables::MAX_SETS;
 use survivor_tables::frames::{MaskKind, SetList, Table, check_mask, is_frame};
 
 // What is read: n with the masks, and how many bytes they took.
-#[derive(Drop)]
+#[derive(Clone, Copy)]
 pub struct TableRead {
     pub table: Table,
     pub used: usize,

@@ -10,7 +10,7 @@ use crate::table_text::put_listing;
 use complete_tables::TableWithCores;
 use drive_sets::Refusal;
 use text::lines::put_refused;
-use text::printing::print_made;
+use text::printing::{MAX_TEXT, print_made};
 
 // The listing of a table that was read with its cores.
 fn put_complete(buf: &mut [u8], t: &TableWithCores) -> usize
@@ -25,9 +25,9 @@ fn put_complete(buf: &mut [u8], t: &TableWithCores) -> usize
 fn put_table(buf: &mut [u8], input: &[u8]) -> usize
     ensures { Filled buf.old buf.new 0 result (table_program input.now) }
 {
-    match table_files::files::read_whole(input) {
-        Err(r) => put_refused(buf, 0, r),
-        Ok(t) => put_complete(buf, &t),
+    match &table_files::files::read_whole(input) {
+        Err(r) => put_refused(buf, 0, *r),
+        Ok(t) => put_complete(buf, t),
     }
 }
 
@@ -35,5 +35,7 @@ fn put_table(buf: &mut [u8], input: &[u8]) -> usize
 pub fn table_listing(input: &[u8], out: &mut [u8], start: usize) -> Result<usize, Refusal>
     ensures { Printed (table_program input.now) start out.old out.new result }
 {
-    print_made(|buf| put_table(buf, input), out, start)
+    let mut made = [0u8; MAX_TEXT];
+    let size = put_table(&mut made, input);
+    print_made(&made, size, out, start)
 }

@@ -5,7 +5,6 @@ ghost use Rattle.drive_sets.specs.Refusals.{outcome};
 ghost use Rattle.survivor_tables.specs.Tables.{is_set, chosen_core, missed_set, survivor_sets};
 ghost use Rattle.tables.specs.Answers.{list_outcome};
 
-use arrayvec::ArrayVec;
 use complete_tables::accept;
 use core_search::finding::minimal_hitting_sets;
 use drive_sets::Refusal;
@@ -57,11 +56,10 @@ pub fn survivor_sets(n: u8, groups: &[u64]) -> Result<SetList, Refusal>
     if !all_sets(n, groups) {
         return Err(Refusal::BadSet);
     }
-    let mut sets = ArrayVec::from([0u64; MAX_SETS]);
-    let count = minimal_hitting_sets(Order::ByMask, groups, sets.as_mut_slice());
+    let mut sets = [0u64; MAX_SETS];
+    let count = minimal_hitting_sets(Order::ByMask, groups, &mut sets);
     if MAX_SETS < count {
         return Err(Refusal::TooManySets);
     }
-    sets.truncate(count);
-    Ok(sets)
+    Ok(SetList::first(sets, count))
 }

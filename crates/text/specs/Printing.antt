@@ -1,10 +1,8 @@
 -- A text put into a lent buffer from a starting place on, what an answer says of the bytes there, and what is printed
 -- of a file.
-use Rattle.std.specs.Prelude.{◌≡◌, List, ℕ, length, Result, Ok, Err}
-use denote.MutBor.{MutBor}
+use Rattle.std.specs.Prelude.{◌≡◌, List, ℕ, Result, Ok, Err}
 use Rattle.drive_sets.specs.declared.Refusal.{Refusal}
 use Rattle.drive_sets.specs.Filled.{Filled}
-use Rattle.drive_sets.specs.Limits.{max_text}
 use Rattle.drive_sets.specs.Refusals.{Outcome, refused, yields, number}
 use Rattle.lent_bytes.specs.LentBuffers.{WrittenIfRoom}
 use Rattle.text.specs.Text.{refusal_line}
@@ -12,17 +10,6 @@ use Rattle.text.specs.Text.{refusal_line}
 -- the answer and the lent bytes: only the text's own bytes change, and on a refusal none
 abbrev pub Printed : List ℕ → ℕ → List ℕ → List ℕ → Result ℕ Refusal → Type 0
 Printed text start old new r = WrittenIfRoom (yields text) start old new r
-
--- a call that puts a text into a buffer of a text's length from the first byte on, as `F.post` has it
-abbrev pub Makes : (MutBor (List ℕ) → ℕ → MutBor (List ℕ) → Type 0) → List ℕ → Type 0
-Makes made text =
-    (b next : MutBor (List ℕ)) (size : ℕ) → length b.now ≡ max_text → made b size next → Filled b.now next.now 0 size text
-
--- a call that writes a file, where it is not refused, into such a buffer
-abbrev pub Writes : (MutBor (List ℕ) → Result ℕ Refusal → MutBor (List ℕ) → Type 0) → Outcome (List ℕ) → Type 0
-Writes wrote file =
-    (b next : MutBor (List ℕ)) (r : Result ℕ Refusal) → length b.now ≡ max_text → wrote b r next
-    → (length next.now ≡ length b.now) × WrittenIfRoom file 0 b.now next.now r
 
 -- how many bytes an answer says were written: none on a refusal
 abbrev pub bytes_in : Result ℕ Refusal → ℕ

@@ -1,8 +1,9 @@
 // A text handed over in a lent buffer.
 ghost use Rattle.std.specs.Prelude.{◌≡◌, ℕ, List, ◌≤◌, min, length, take};
-ghost use Rattle.drive_sets.specs.Limits.{max_text};
-ghost use Rattle.text.specs.Printing.{Printed, Makes, Writes, printed, bytes_in, AnswerPut};
+ghost use Rattle.drive_sets.specs.Filled.{Filled};
 ghost use Rattle.drive_sets.specs.Refusals.{Outcome};
+ghost use Rattle.lent_bytes.specs.LentBuffers.{WrittenIfRoom};
+ghost use Rattle.text.specs.Printing.{Printed, printed, bytes_in, AnswerPut};
 
 use crate::lines::put_refused;
 use drive_sets::Refusal;
@@ -26,33 +27,24 @@ pub fn print(text: &[u8], out: &mut [u8], start: usize) -> Result<usize, Refusal
     Ok(text.len())
 }
 
-// The text that a call puts into a buffer of its own from the first byte on, handed over.
-pub fn print_made<F: FnOnce(&mut [u8]) -> usize>(
-    make: F,
-    out: &mut [u8],
-    start: usize,
-) -> Result<usize, Refusal>
-    requires { (b : _) → length b.now ≡ max_text → F.pre make b }
-    ensures { (text : List ℕ) → length text ≤ max_text → Makes (F.post make) text → Printed text start out.old out.new result }
+// A text that a call has put into a buffer from the first byte on, of so many bytes, handed over.
+pub fn print_made(made: &[u8], size: usize, out: &mut [u8], start: usize) -> Result<usize, Refusal>
+    ensures { (before text : List ℕ) → length text ≤ length before → Filled before made.now 0 size text → Printed text start out.old out.new result }
 {
-    let mut made = [0u8; MAX_TEXT];
-    let size = make(&mut made).min(MAX_TEXT);
-    print(&made[..size], out, start)
+    print(&made[..size.min(made.len())], out, start)
 }
 
-// A file that a call writes into a buffer of its own from the first byte on, or the line of its refusal, handed over.
-pub fn print_written<F: FnOnce(&mut [u8]) -> Result<usize, Refusal>>(
-    write: F,
+// A file that a call has written into a buffer from the first byte on, or the line of its refusal, handed over.
+pub fn print_written(
+    made: &mut [u8],
+    w: Result<usize, Refusal>,
     out: &mut [u8],
     start: usize,
 ) -> Result<usize, Refusal>
-    requires { (b : _) → length b.now ≡ max_text → F.pre write b }
-    ensures { (file : Outcome (List ℕ)) → length (printed file) ≤ max_text → Writes (F.post write) file → Printed (printed file) start out.old out.new result }
+    ensures { (before : List ℕ) (file : Outcome (List ℕ)) → length (printed file) ≤ length before → length made.old ≡ length before → WrittenIfRoom file 0 before made.old w → Printed (printed file) start out.old out.new result }
 {
-    let mut made = [0u8; MAX_TEXT];
-    let w = write(&mut made);
-    let size = put_written(&mut made, w).min(MAX_TEXT);
-    print(&made[..size], out, start)
+    let size = put_written(made, w);
+    print_made(made, size, out, start)
 }
 
 // How many bytes of the buffer an answer says were written.

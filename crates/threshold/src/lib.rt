@@ -6,12 +6,11 @@ ghost use Rattle.tables.specs.Answers.{list_outcome};
 ghost use Rattle.complete_tables.specs.Complete.{complete_outcome};
 ghost use Rattle.threshold.specs.Threshold.{threshold_list, threshold_table};
 
-use arrayvec::ArrayVec;
 use complete_tables::TableWithCores;
 use drive_sets::Refusal;
 use set_orders::sorting;
 use set_orders::sorting::Order;
-use survivor_tables::frames::{SetList, Table, is_frame};
+use survivor_tables::frames::{CoreList, SetList, Table, is_frame};
 use survivor_tables::{MAX_CORES, MAX_SETS};
 
 mod counts;
@@ -35,11 +34,9 @@ pub fn threshold_sets(n: u8, t: u8) -> Result<SetList, Refusal>
     if MAX_CORES < counts::group_count(n, t + 1) as usize {
         return Err(Refusal::TooManyCores);
     }
-    let mut sets = ArrayVec::new();
-    for &group in groups::all_groups(n, n - t).as_slice() {
-        sets.push(group);
-    }
-    Ok(sets)
+    let mut sets = [0u64; MAX_SETS];
+    let count = groups::fill_groups(n, n - t, &mut sets);
+    Ok(SetList::first(sets, count))
 }
 
 // The table of these sets with its cores, which are all groups of t + 1 drives, in the cores' order.
@@ -47,11 +44,11 @@ pub fn threshold_table(n: u8, t: u8) -> Result<TableWithCores, Refusal>
     ensures { complete_outcome result ≡ threshold_table n t }
 {
     let sets = threshold_sets(n, t)?;
-    let mut cores = groups::all_groups(n, t + 1);
-    let found = cores.len();
-    sorting::sort(Order::BySize, cores.as_mut_slice(), found);
+    let mut cores = [0u64; MAX_CORES];
+    let found = groups::fill_groups(n, t + 1, &mut cores);
+    sorting::sort(Order::BySize, &mut cores, found);
     Ok(TableWithCores {
         table: Table { n, sets },
-        cores,
+        cores: CoreList::first(cores, found),
     })
 }

@@ -7,7 +7,7 @@ ghost use Rattle.text.specs.Printing.{Printed};
 ghost use Rattle.threshold_files.specs.ThresholdFiles.{threshold_file, asked, threshold_program};
 
 use drive_sets::Refusal;
-use text::printing::print_written;
+use text::printing::{MAX_TEXT, print_written};
 
 // The file of the table from n and t over the first bytes of the buffer. 3, 31, 32, 13, 14.
 #[tactic(auto, using(lent_bytes::proofs::Buffers::written_refused), unfolding(crate::specs::ThresholdFiles::threshold_file))]
@@ -34,5 +34,7 @@ fn write_asked(input: &[u8], buf: &mut [u8]) -> Result<usize, Refusal>
 pub fn threshold_file(input: &[u8], out: &mut [u8], start: usize) -> Result<usize, Refusal>
     ensures { Printed (threshold_program input.now) start out.old out.new result }
 {
-    print_written(|buf| write_asked(input, buf), out, start)
+    let mut made = [0u8; MAX_TEXT];
+    let w = write_asked(input, &mut made);
+    print_written(&mut made, w, out, start)
 }

@@ -9,10 +9,10 @@ pub returns-in-Err : goal.returns-in-Err
 unfolding complete_from_faults
 returns-in-Err c =
     let a = c.args in
-    rw (then_refused (table_from_faults a.n a.groups.now) (with_cores a.n) (sym c.in-Err.ensures)) (record { value = c.refused_size.ensures; out_after = refl })
+    rw (then_refused (table_from_faults a.n a.groups.now) (with_cores a.n) (sym (rw c.in-Err.is at c.table_from_faults.ensures))) (record { value = c.refused_size.ensures; out_after = refl })
 
 pub returns-in-Ok : goal.returns-in-Ok
 unfolding complete_from_faults
 returns-in-Ok c =
     let a = c.args in
-    rw ((due_given a.n (table_from_faults a.n a.groups.now) c.in-Ok.t c.in-Ok.ensures).0, ← c.as_slice.ensures.value) c.put_list.ensures
+    rw ((due_given a.n (table_from_faults a.n a.groups.now) c.in-Ok.t (rw c.in-Ok.is at c.table_from_faults.ensures)).0, ← c.as_slice.ensures.value) c.put_list.ensures

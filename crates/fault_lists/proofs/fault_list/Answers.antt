@@ -1,12 +1,9 @@
 -- The rests of the table of the rests.
-use Rattle.std.proofs.lemmas.Result.{err_from_is_err_and}
 use Rattle.fault_lists.proofs.FaultLists.Laws.{list_rests}
 use Rattle.fault_lists.proofs.fault_list.Goals as goal
 
-pub returns-in_err-t : goal.returns-in_err-t
-returns-in_err-t c =
-    let p = err_from_is_err_and c.from_residual.result c.from_residual.ensures.1 in
-    rw (p.1, p.2, ← list_rests, ← c.in_err-t.ensures)
+pub returns-in-Err : goal.returns-in-Err
+returns-in-Err c = rw (← list_rests, ← (rw c.in-Err.is at c.table_from_faults.ensures))
 
-pub returns : goal.returns
-returns c = rw (c.rests.ensures, c.as_slice.ensures.value, ← list_rests, ← c.in_ok-t.ensures)
+pub returns-in-Ok : goal.returns-in-Ok
+returns-in-Ok c = rw (c.rests.ensures, c.as_slice.ensures.value, ← list_rests, ← (rw c.in-Ok.is at c.table_from_faults.ensures))

@@ -20,19 +20,15 @@ rests_reverse n (m ∷ l) =
 pub loop-mask-init : goal.loop-mask-init
 loop-mask-init c = c.new-out.ensures
 
-pub push-requires : goal.push-requires
-push-requires c =
+pub loop-mask-preserved : goal.loop-mask-preserved
+loop-mask-preserved c =
     let masks = c.args.masks.now in
     let l = c.loop-mask in
     let each = YieldsList-from_rev_slice masks (cc) in
     let t = YieldsList-turn each l.yielded _ l.yielded_by _ _ c.in-Some.field-0 c.in-Some.is c.next.ensures.steps in
     let put = ap length l.invariant ∙ length-map l.yielded (λ m. outside c.args.n m.now) in
-    omega (arith, t.0, length-reverse masks, c.requires, put)
-
-pub loop-mask-preserved : goal.loop-mask-preserved
-loop-mask-preserved c =
-    rw (c.push.ensures.items, c.loop-mask.invariant, c.outside.ensures)
-    (sym (map-append (λ m. outside c.args.n m.now) c.loop-mask.yielded (c.in-Some.field-0 ∷ [])))
+    rw (c.push.ensures.room (omega (arith, t.0, length-reverse masks, c.requires, put)), l.invariant, c.outside.ensures)
+    (sym (map-append (λ m. outside c.args.n m.now) l.yielded (c.in-Some.field-0 ∷ [])))
 
 pub returns : goal.returns
 returns c =

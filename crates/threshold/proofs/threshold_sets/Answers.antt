@@ -1,11 +1,10 @@
 -- The refusals in their order, by the numbers of groups; then the groups of n - t drives.
-use Rattle.std.proofs.Common.{◌+◌, ◌≤◌, sym, ◌∙◌, ap, length, length-take, take_all, arith, le-leb, le-ltb}
+use Rattle.std.proofs.Common.{◌+◌, ◌≤◌, sym, ◌∙◌, ap, arith, le-leb, le-ltb}
 use Rattle.std.proofs.lemmas.Bool.{lt-leb}
 use Rattle.drive_sets.specs.Limits.{max_drives, max_sets, max_cores}
 use Rattle.drive_sets.specs.Refusals.{yields}
 use Rattle.survivor_tables.proofs.Tables.Laws.{frame_high}
 use Rattle.threshold.specs.Counts.Laws.{count_above_limit, count_within}
-use Rattle.threshold.specs.Groups.{group_count}
 use Rattle.threshold.specs.Groups.Laws.{count_others}
 use Rattle.threshold.specs.Threshold.{threshold_sets}
 use Rattle.threshold.specs.Threshold.Laws.{threshold_list_law}
@@ -46,26 +45,14 @@ returns-then-group_count-gt-MAX_CORES c =
     count_above_limit _ _ high next c.group_count-2.ensures max_cores (omega arith) c.if-group_count-gt-MAX_CORES.true in
     rw (threshold_list_law, ← c.is_frame.ensures, c.if-not-is_frame.false, lt-leb _ _ c.if-n-t.false, le-ltb max_sets _ few, many)
 
-pub all_groups-requires : goal.all_groups-requires
-all_groups-requires c =
+pub fill_groups-count-requires : goal.fill_groups-count-requires
+fill_groups-count-requires c =
     let a = c.args in
     let high = frame_high _ (sym c.is_frame.ensures ∙ c.if-not-is_frame.false) in
     let low : a.t ≤ max_drives = omega (arith, high, c.if-n-t.false) in
     let few =
     count_within _ _ high low c.group_count.ensures max_sets (omega arith) c.if-group_count-gt-MAX_SETS.false in
     (omega arith, high, omega (arith, count_others a.t a.n (omega (arith, c.if-n-t.false)), few))
-
-pub push-requires : goal.push-requires
-unfolding group_count
-push-requires c =
-    let a = c.args in
-    let high = frame_high _ (sym c.is_frame.ensures ∙ c.if-not-is_frame.false) in
-    let low : a.t ≤ max_drives = omega (arith, high, c.if-n-t.false) in
-    let few =
-    count_within _ _ high low c.group_count.ensures max_sets (omega arith) c.if-group_count-gt-MAX_SETS.false in
-    let all = ap length (c.as_slice-group-items.ensures.value ∙ c.all_groups.ensures) in
-    let put = ap length c.loop-group.invariant ∙ length-take c.loop-group.group-index c.as_slice-group-items.result.now in
-    omega (arith, put, all, count_others a.t a.n (omega (arith, c.if-n-t.false)), few)
 
 pub returns : goal.returns
 unfolding threshold_sets
@@ -78,5 +65,4 @@ returns c =
     let few_cores =
     count_within _ _ high next c.group_count-2.ensures max_cores (omega arith) c.if-group_count-gt-MAX_CORES.false in
     rw (threshold_list_law, ← c.is_frame.ensures, c.if-not-is_frame.false, lt-leb _ _ c.if-n-t.false)
-    (rw (le-ltb max_sets _ few, le-ltb max_cores _ few_cores)
-    (rw (c.loop-group.invariant, take_all _ _ c.loop-group-test.false, c.as_slice-group-items.ensures.value) (ap yields c.all_groups.ensures)))
+    (rw (le-ltb max_sets _ few, le-ltb max_cores _ few_cores) (ap yields (c.first.ensures ∙ c.fill_groups-count.ensures.1)))

@@ -1,15 +1,13 @@
 -- The refusals of the sets; then the groups of t + 1 drives beside them, in order.
-use Rattle.std.specs.Prelude.{◌≤◌, length}
-use Rattle.std.proofs.Common.{sym, ap, ◌∙◌, arith}
+use Rattle.std.specs.Prelude.{◌≤◌}
+use Rattle.std.proofs.Common.{sym, arith}
 use Rattle.std.proofs.lemmas.Result.{err_from_is_err_and}
-use Rattle.arrayvec.proofs.ArrayVecLemmas.{items-with_items}
 use Rattle.drive_sets.specs.Limits.{max_cores}
 use Rattle.complete_tables.specs.Complete.{Complete}
 use Rattle.complete_tables.proofs.Accepts.{then_refused}
-use Rattle.threshold.specs.Groups.{group_count}
 use Rattle.threshold.specs.Threshold.{threshold_table, threshold_cores, threshold_complete, threshold_list}
 use Rattle.threshold.specs.Threshold.Laws.{list_given}
-use Rattle.threshold.proofs.Fills.{sorted_whole}
+use Rattle.threshold.proofs.Fills.{sorted_groups}
 use Rattle.threshold.proofs.threshold_table.Goals as goal
 
 pub returns-in_err-sets : goal.returns-in_err-sets
@@ -21,15 +19,14 @@ returns-in_err-sets c =
 pub overflow_add-t : goal.overflow_add-t
 overflow_add-t c = let w = list_given _ _ _ (sym c.in_ok-sets.ensures) in omega (arith, w.0.below, w.0.high)
 
-pub all_groups-cores-requires : goal.all_groups-cores-requires
-all_groups-cores-requires c =
+pub fill_groups-found-requires : goal.fill_groups-found-requires
+fill_groups-found-requires c =
     let w = list_given _ _ _ (sym c.in_ok-sets.ensures) in (omega (arith, w.0.below), w.0.high, w.0.cores)
 
 pub returns : goal.returns
-unfolding threshold_complete threshold_cores group_count
+unfolding threshold_complete threshold_cores
 returns c =
     let w = list_given _ _ _ (sym c.in_ok-sets.ensures) in
-    let same = c.as_mut_slice.ensures.value in
-    let few : length c.as_mut_slice.result.now ≤ max_cores = omega (arith, ap length (same ∙ c.all_groups-cores.ensures), w.0.cores) in
-    rw (w.0.table, w.1, items-with_items c.all_groups-cores.result _ (c.sort.auto.a ∙ ap length same), c.sort.ensures)
-    (rw (sorted_whole _ _ (c.len-found.ensures.value ∙ sym (ap length same)) few, same, c.all_groups-cores.ensures))
+    let filled = c.fill_groups-found.ensures in
+    let few : c.fill_groups-found.result ≤ max_cores = omega (arith, filled.0, w.0.cores) in
+    rw (w.0.table, w.1, c.first.ensures) (rw (sorted_groups _ _ _ _ _ few (omega (arith, few)) filled.1 c.sort.ensures))

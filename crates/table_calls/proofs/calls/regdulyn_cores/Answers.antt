@@ -11,4 +11,4 @@ returns-in-Err c = rw (accept_refused _ _ c.in-Err.ensures) (record { value = c.
 pub returns-in-Ok : goal.returns-in-Ok
 unfolding core_list
 returns-in-Ok c =
-    let u = accept_taken _ _ _ c.in-Ok.ensures in rw (u.table, ← u.list, ← c.as_slice.ensures.value) c.put_list.ensures
+    let u = accept_taken _ _ c.in-Ok.t c.in-Ok.ensures in rw (u.table, ← u.list, ← c.as_slice.ensures.value) c.put_list.ensures

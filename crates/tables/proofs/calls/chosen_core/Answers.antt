@@ -12,7 +12,7 @@ returns-in_err-t c =
     rw (p.1, p.2, accept_refused _ _ c.in_err-t.ensures)
 
 pub bounds-as_slice-0 : goal.bounds-as_slice-0
-bounds-as_slice-0 c = rw c.as_slice.ensures.value (a_core _ _ _ (accept_taken _ _ _ c.in_ok-t.ensures))
+bounds-as_slice-0 c = rw c.as_slice.ensures.value (a_core _ _ c.in_ok-t.t (accept_taken _ _ c.in_ok-t.t c.in_ok-t.ensures))
 
 pub returns : goal.returns
-returns c = rw c.as_slice.ensures.value (first_core _ _ _ (accept_taken _ _ _ c.in_ok-t.ensures))
+returns c = rw c.as_slice.ensures.value (first_core _ _ c.in_ok-t.t (accept_taken _ _ c.in_ok-t.t c.in_ok-t.ensures))

@@ -12,10 +12,10 @@ returns-in_err-t c =
 
 pub returns-then-not-is_set : goal.returns-then-not-is_set
 unfolding missed_set
-returns-then-not-is_set c = rw ((accept_taken _ _ _ c.in_ok-t.ensures).table, ← c.is_set.ensures, c.if-not-is_set.true)
+returns-then-not-is_set c = rw ((accept_taken _ _ c.in_ok-t.t c.in_ok-t.ensures).table, ← c.is_set.ensures, c.if-not-is_set.true)
 
 pub returns : goal.returns
 unfolding missed_set
 returns c =
-    let u = accept_taken _ _ _ c.in_ok-t.ensures in
+    let u = accept_taken _ _ c.in_ok-t.t c.in_ok-t.ensures in
     rw (u.table, ← c.is_set.ensures, c.if-not-is_set.false, c.first_missed.ensures, c.as_slice.ensures.value)

@@ -1,8 +1,6 @@
 -- The refusals in order, then what is found.
-use Rattle.std.specs.Prelude.{◌≡◌, length}
-use Rattle.std.proofs.Common.{ap, ◌∙◌, lt-ltb, le-ltb}
-use Rattle.arrayvec.proofs.ArrayVecLemmas.{items-with_items}
-use Rattle.drive_sets.specs.Limits.{max_sets}
+use Rattle.std.specs.Prelude.{refl}
+use Rattle.std.proofs.Common.{lt-ltb, le-ltb}
 use Rattle.survivor_tables.specs.Tables.{survivor_sets}
 use Rattle.complete_tables.proofs.Completes.{empty_law}
 use Rattle.tables.proofs.CallAnswers.{dual_more, dual_few, dual_found}
@@ -32,20 +30,14 @@ returns-then-not-all_sets c =
 pub returns-then-count-gt-MAX_SETS : goal.returns-then-count-gt-MAX_SETS
 unfolding survivor_sets
 returns-then-count-gt-MAX_SETS c =
-    let size : length c.from-sets.result.items ≡ max_sets = c.from-sets.ensures.1 in
-    let room = ap length c.as_mut_slice.ensures.value ∙ size in
     rw (← c.is_frame.ensures, c.if-not-is_frame.false, empty_law, ← c.is_empty.ensures, c.if-is_empty.false)
     (rw (le-ltb 1024 _ c.if-groups-gt-MAX_CORES.false, ← c.all_sets.ensures, c.if-not-all_sets.false)
-    (rw (dual_more room c.minimal_hitting_sets-count.ensures c.if-count-gt-MAX_SETS.true)))
+    (rw (dual_more refl c.minimal_hitting_sets-count.ensures c.if-count-gt-MAX_SETS.true)))
 
 pub returns : goal.returns
 unfolding survivor_sets
 returns c =
-    let size : length c.from-sets.result.items ≡ max_sets = c.from-sets.ensures.1 in
-    let room = ap length c.as_mut_slice.ensures.value ∙ size in
-    let same = c.minimal_hitting_sets-count.auto.out ∙ ap length c.as_mut_slice.ensures.value in
-    let all = items-with_items c.from-sets.result _ same in
     rw (← c.is_frame.ensures, c.if-not-is_frame.false, empty_law, ← c.is_empty.ensures, c.if-is_empty.false)
     (rw (le-ltb 1024 _ c.if-groups-gt-MAX_CORES.false, ← c.all_sets.ensures, c.if-not-all_sets.false)
-    (rw (dual_few room c.minimal_hitting_sets-count.ensures c.if-count-gt-MAX_SETS.false, c.truncate.ensures.items, all)
-    (rw (dual_found room c.minimal_hitting_sets-count.ensures c.if-count-gt-MAX_SETS.false))))
+    (rw (dual_few refl c.minimal_hitting_sets-count.ensures c.if-count-gt-MAX_SETS.false, c.first.ensures)
+    (rw (dual_found refl c.minimal_hitting_sets-count.ensures c.if-count-gt-MAX_SETS.false))))

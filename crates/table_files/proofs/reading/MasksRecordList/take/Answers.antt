@@ -1,5 +1,5 @@
 -- One record: refused, the end, no room, a mask that meets something, or one that is listed.
-use Rattle.std.proofs.Common.{refl, sym}
+use Rattle.std.proofs.Common.{refl, sym, arith}
 use Rattle.std.proofs.lemmas.Result.{err_from_is_err_and}
 use Rattle.std.proofs.lemmas.Bool.{le-leb, lt-leb}
 use Rattle.records.specs.RecordLists.{step_of}
@@ -31,6 +31,6 @@ returns-in-End-clause-taken c = (rw (← c.len-count.ensures.value, ← c.due_af
 pub returns-in_ok-check_mask-in-One-clause-taken : goal.returns-in_ok-check_mask-in-One-clause-taken
 unfolding step_of taken_mask
 returns-in_ok-check_mask-in-One-clause-taken c = (
-  rw (c.push.ensures.items, ← c.len-count.ensures.value, ← c.due_after.ensures, ← c.in_ok-next_record.ensures, c.in-One.is, lt-leb 128 _ c.if-count-ge-MAX_SETS.false, ← c.field-mask.ensures, ← c.in_ok-check_mask-in-One.ensures),
+  rw (c.push.ensures.room (omega (arith, c.len-count.ensures.value, c.if-count-ge-MAX_SETS.false)), ← c.len-count.ensures.value, ← c.due_after.ensures, ← c.in_ok-next_record.ensures, c.in-One.is, lt-leb 128 _ c.if-count-ge-MAX_SETS.false, ← c.field-mask.ensures, ← c.in_ok-check_mask-in-One.ensures),
   mask_whole c.args.self.now.kind c.args.self.now.n c.args.self.now.sets.items c.args.s.now (sym (rw (c.in-One.is, c.due_after.ensures, c.len-count.ensures.value) at c.in_ok-next_record.ensures)),
 )
