@@ -68,7 +68,7 @@
  * the proof is of these.
  *
  * Stack: an opening, and each of the calls about tables and runs, takes up to 276 thousand bytes of stack; a message, a
- * close and a send take less than 1500 (docs/CONTROLLER.md).
+ * close and a send take less than 1800 (docs/CONTROLLER.md).
  *
  * Pointers: `sets`, `groups`, `bytes` and `buffer` must be valid for as many elements as the length beside them says;
  * with length 0 they may be NULL. Memory that a call reads and memory that it writes must not overlap; pointers are
