@@ -24,7 +24,7 @@ both_added a b l = map-map (union a) (union b) l ∙ map_same (λ g. union a (un
 
 -- the groups of k out of n drives, each with the drives of a set, and their number: those without drive n, then the
 -- others
-groups_with : (with n k : ℕ) → (k ≡ 0 → ⊥) → k ≤ n
+pub groups_with : (with n k : ℕ) → (k ≡ 0 → ⊥) → k ≤ n
     → map (union with) (groups k n) ≡ map (union with) (groups k (n - 1)) ++ map (union (union with (single n))) (groups (k - 1) (n - 1))
 unfolding groups
 groups_with with n zero some most = absurd (some refl)
@@ -36,7 +36,7 @@ groups_with with (suc n) (suc k) some most =
     (map-append (union with) (groups (suc k) n) (map (union (single (suc n))) (groups k n))
     ∙ ap (λ (l : List ℕ). map (union with) (groups (suc k) n) ++ l) (both_added with (single (suc n)) (groups k n)))
 
-parts : (n k : ℕ) → (k ≡ 0 → ⊥) → k ≤ n → group_count k n ≡ group_count k (n - 1) + group_count (k - 1) (n - 1)
+pub parts : (n k : ℕ) → (k ≡ 0 → ⊥) → k ≤ n → group_count k n ≡ group_count k (n - 1) + group_count (k - 1) (n - 1)
 parts n zero some most = absurd (some refl)
 parts zero (suc k) some most = absurd (omega arith)
 parts (suc n) (suc k) some most =
@@ -44,18 +44,29 @@ parts (suc n) (suc k) some most =
     let fewer : suc k - 1 ≡ k = omega arith in
     rw (last, fewer) (count_sum k n)
 
+-- no drive to choose: one group
+pub with_none : (with n k : ℕ) → k ≡ 0 → map (union with) (groups k n) ≡ with ∷ []
+unfolding groups
+with_none with n k e = ap (λ (j : ℕ). map (union with) (groups j n)) e ∙ ap (λ (g : ℕ). g ∷ []) (union_none with)
+
+-- none to leave out: one group too
+pub with_all : (with n k : ℕ) → n ≤ 64 → k ≡ n → map (union with) (groups k n) ≡ union with (full n) ∷ []
+with_all with n k frame e = ap (λ (j : ℕ). map (union with) (groups j n)) e ∙ ap (map (union with)) (all_group n frame)
+
+-- no drives beside those of a group
+pub with_no_drives : (l : List ℕ) → map (union 0) l ≡ l
+unfolding union
+with_no_drives l = map_same (union 0) (λ g. g) l (λ g h. or_zero_l g) ∙ map-id l
+
 -- ---- room
 
 module _ (n k at places : ℕ) (room : at + group_count k n ≤ places) where
-  -- no drive to choose: one group
   pub none_room : k ≡ 0 → at < places
   none_room e = omega (arith, room, ap (λ (j : ℕ). group_count j n) e, count_zero n)
 
-  -- none to leave out: one group too
   pub all_room : k ≡ n → at < places
   all_room e = omega (arith, room, ap (λ (j : ℕ). group_count j n) e, count_all n)
 
-  -- else those of the other drives, then those with drive n
   pub first_room : (k ≡ 0 → ⊥) → k ≤ n → at + group_count k (n - 1) ≤ places
   first_room some most = omega (arith, room, parts n k some most)
 
@@ -63,15 +74,11 @@ module _ (n k at places : ℕ) (room : at + group_count k n ≤ places) where
 
 module _ (n k with at : ℕ) (out : List ℕ) (room : at + group_count k n ≤ length out) where
   pub fill_none : k ≡ 0 → Filled out (set out at with) at (at + 1) (map (union with) (groups k n))
-  unfolding groups
-  fill_none e =
-      filled_same (ap (λ (j : ℕ). map (union with) (groups j n)) e ∙ ap (λ (g : ℕ). g ∷ []) (union_none with))
-      (filled_one out at with (none_room n k at (length out) room e))
+  fill_none e = filled_same (with_none with n k e) (filled_one out at with (none_room n k at (length out) room e))
 
   pub fill_all : n ≤ 64 → k ≡ n → Filled out (set out at (union with (full n))) at (at + 1) (map (union with) (groups k n))
   fill_all frame e =
-      filled_same (ap (λ (j : ℕ). map (union with) (groups j n)) e ∙ ap (map (union with)) (all_group n frame))
-      (filled_one out at (union with (full n)) (all_room n k at (length out) room e))
+      filled_same (with_all with n k frame e) (filled_one out at (union with (full n)) (all_room n k at (length out) room e))
 
   module _ (some : k ≡ 0 → ⊥) (most : k ≤ n) (next : ℕ) (out' : List ℕ) (same : length out' ≡ length out)
       (first : Filled out out' at next (map (union with) (groups k (n - 1)))) where
@@ -90,16 +97,12 @@ module _ (n k with at : ℕ) (out : List ℕ) (room : at + group_count k n ≤ l
         (subst (λ (w : ℕ). Filled out' out'' next r (map (union w) (groups (k - 1) (n - 1)))) e second))
 
 -- all of them, from the first place on
-none_added : (l : List ℕ) → map (union 0) l ≡ l
-unfolding union
-none_added l = map_same (union 0) (λ g. g) l (λ g h. or_zero_l g) ∙ map-id l
-
 pub filled_groups : (n k : ℕ) (out out' : List ℕ) (r : ℕ) → group_count k n ≤ length out → Filled out out' 0 r (map (union 0) (groups k n))
     → (r ≡ group_count k n) × (take r out' ≡ groups k n)
 unfolding group_count
 filled_groups n k out out' r room filled =
     let count : r ≡ length (groups k n) = omega (arith, filled.total, room, length-map (groups k n) (union 0)) in
-    (count, filled.kept (omega (arith, count, room)) ∙ none_added (groups k n))
+    (count, filled.kept (omega (arith, count, room)) ∙ with_no_drives (groups k n))
 
 -- and put in the order of cores
 pub sorted_groups : (n k r : ℕ) (out sorted : List ℕ) → r ≤ max_cores → r ≤ length out → take r out ≡ groups k n → sorted ≡ sort_first (precedes BySize) r out
