@@ -58,7 +58,7 @@ pub with_no_drives : (l : List ℕ) → map (union 0) l ≡ l
 unfolding union
 with_no_drives l = map_same (union 0) (λ g. g) l (λ g h. or_zero_l g) ∙ map-id l
 
--- ---- room
+-- ---- room: for the one group, or for those without drive n, which come first
 
 module _ (n k at places : ℕ) (room : at + group_count k n ≤ places) where
   pub none_room : k ≡ 0 → at < places
